@@ -13,8 +13,9 @@ use Rattle.smith_tree.specs.Tree.{add, parts_of}
 use Rattle.smith_tree.specs.WellFormed.{Formed, FormedCanons, FormedPart, scope_of}
 use Rattle.smith_validity.specs.Bodies.{Body, empty_body}
 use Rattle.smith_validity.specs.Counts.{Counts, with_component, with_module}
+use Rattle.smith_validity.specs.Demands.{everything}
 use Rattle.smith_validity.specs.Facts.{FactScope}
-use Rattle.smith_validity.specs.Validates.{RefersTo, ValidPart, ValidParts, Validates, after_part, names_of}
+use Rattle.smith_validity.specs.Validates.{ValidPart, ValidParts, Validates, after_part, names_of}
 use Rattle.smith_marks.proofs.KeptLimits.{limits_fit, limits_kept}
 use Rattle.smith_marks.proofs.FewMemories.{module_has_few}
 use Rattle.smith_marks.proofs.Left.{KeptPart, KeptParts, left, part_left}
@@ -33,7 +34,7 @@ module _ (config : Config) (valid : config.must_validate ≡ true) (few : config
   mutual
     valid_parts : (t before : Tree) (around : List Scope) (s : Spaces) (marked : List Marked) (outer : List FactScope) (m : Marked) (b : Body)
         → spaces_of before ≡ s → Stands config s.types s.functions m b (left t) → TiedScopes config marked outer → Formed t around before
-        → KeptParts config t → IsReadableRest config t before → OfferedParts t config s marked m → ValidParts RefersTo t s outer b
+        → KeptParts config t → IsReadableRest config t before → OfferedParts t config s marked m → ValidParts everything t s outer b
     valid_parts ends before around s marked outer m b same h k w l r o = tt
     valid_parts (first p t) before around s marked outer m b same h k w l r o =
         let here = valid_part p (left t) before around s marked outer m b same h k w.0 l.0 r.0 o.0 in (
@@ -45,7 +46,7 @@ module _ (config : Config) (valid : config.must_validate ≡ true) (few : config
     valid_part : (p : Part) (l : Counts) (before : Tree) (around : List Scope) (s : Spaces) (marked : List Marked) (outer : List FactScope)
         (m : Marked) (b : Body) → spaces_of before ≡ s → Stands config s.types s.functions m b (part_left p l) → TiedScopes config marked outer
         → FormedPart p around before → KeptPart config p → IsReadablePart config p before → OfferedPart p config s marked m
-        → ValidPart RefersTo p s outer b
+        → ValidPart everything p s outer b
         × Stands config (spaces_after s p).types (spaces_after s p).functions (marked_after_part p s marked m) (after_part p s outer b) l
     valid_part (custom name contents) l before around s marked outer m b same h k w limits r o = (tt, h)
     valid_part (core_module text) l before around s marked outer m b same h k w limits r o =

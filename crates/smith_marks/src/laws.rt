@@ -21,6 +21,7 @@ ghost use Rattle.smith_tree.specs.TypeOffers.{has_room, ref_places};
 ghost use Rattle.smith_tree.specs.WellFormed.{scope_of};
 ghost use Rattle.smith_tree.specs.declared.choices.RefKind.TheVariants.{Component as RefComponent, Func as RefFunc};
 ghost use Rattle.smith_tree.specs.declared.choices.RefKind.TheVariants.{Instance as RefInstance, TypeEq as RefTypeEq};
+ghost use Rattle.smith_validity.specs.Demands.{everything};
 ghost use Rattle.smith_validity.specs.Examples.{imports_function_of_enum, has_function_of_enum};
 ghost use Rattle.smith_validity.specs.Examples.{exports_function_of_named_enum, imports_function_of_named_enum};
 ghost use Rattle.smith_validity.specs.Examples.{exports_function_of_aliased_enum, names_record_of_enum, names_enum};
@@ -41,7 +42,7 @@ pub fn offered_components_validate()
 pub fn core_types_are_offered()
     ensures valid { (config : Config) (around : List CoreEntry) (e : CoreEntry)
         → AllByRecursion (CoreLimits config) around
-        → CoreLimits config e → ValidCore around e }
+        → CoreLimits config e → ValidCore everything around e }
     ensures small { (config : Config) (around : List CoreEntry) (e : CoreEntry)
         → AllByRecursion (CoreLimits config) around
         → CoreLimits config e → module_type_size around e ≤ small_size }
