@@ -1,8 +1,8 @@
 -- The first section of a core module, and how many entries it counts.
-use Rattle.std.proofs.Common.{◌≡◌, ℕ, ◌+◌, ◌≤◌, ◌<◌, ◌↔◌, true, nat_le, List, [], ◌∷◌, ◌++◌, length, Option, None, Some, refl, ap, sym, ◌∙◌, subst, arith, length-append}
+use Rattle.std.proofs.Common.{◌≡◌, ℕ, ◌≤◌, ◌<◌, ◌↔◌, true, nat_le, List, [], ◌∷◌, length, Option, None, Some, ap, sym, ◌∙◌, subst, arith, length-append}
 use Rattle.std.proofs.lemmas.Bool.Decides.{nat_tests}
 use Rattle.std.proofs.lemmas.Option.{none-some, same_Some}
-use Rattle.smith_format.specs.Piece.{Piece, ◌⊕◌, byte, bytes, framed, u}
+use Rattle.smith_format.specs.Piece.{◌⊕◌, byte, bytes, framed}
 use Rattle.smith_format.proofs.Clear.{section_head}
 use Rattle.smith_format.proofs.Piece.{joined, parts_are, right_nil}
 use Rattle.smith_read_types.specs.declared.error.Reason.{Reason}

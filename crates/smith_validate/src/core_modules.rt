@@ -1,11 +1,17 @@
 //! Core modules, section by section.
 
-ghost use Rattle.std.specs.Prelude.{◌≡◌, ◌↔◌, ◌≤◌, ◌<◌, ◌++◌, List, length, true, IfOk, MatchOption};
+ghost use Rattle.std.specs.Prelude.{◌≡◌, ◌↔◌, ◌≤◌, ◌<◌, ◌++◌, List, length, true, IfErr, IfOk, MatchOption, OnOk};
 ghost use Rattle.smith_core.specs.Preamble.{core_preamble};
 ghost use Rattle.smith_format.specs.Piece.{◌⊕◌, bytes};
 ghost use Rattle.smith_validity.specs.CoreModules.{CountsFew, HasFewMemories, section};
+ghost use Rattle.smith_validity.specs.Counts.{ValidCounts, with_module};
+ghost use Rattle.smith_validity.specs.Demands.{Keeps};
 ghost use Rattle.smith_validate.specs.CoreModules.{HasNoSection, HasPreamble};
+ghost use Rattle.smith_validate.specs.Counted.{counted};
+ghost use Rattle.smith_validate.specs.Judges.{IsUnnamed, Judges};
 
+use crate::counts::Counts;
+use crate::error::{Demand, Stop};
 use smith_core::CORE_PREAMBLE;
 use smith_read_types::{Unread, count_of, frame_of};
 use std::alloc::AllocError;
@@ -72,4 +78,19 @@ pub(crate) fn has_few_memories(text: &[u8]) -> Result<bool, AllocError>
         rest = after;
     }
     Ok(true)
+}
+
+/// Adds the core module of these bytes to how many entries there are.
+pub(crate) fn add_module(counts: &mut Counts, text: &[u8]) -> Result<(), Stop>
+    ensures bound { IfErr result IsUnnamed }
+    ensures judged { ValidCounts (counted counts.old) → Judges result (λ d.
+        Keeps d.counts (ValidCounts (with_module (counted counts.old))) × Keeps d.memories (HasFewMemories text.now)) }
+    ensures added { OnOk result (counted counts.new ≡ with_module (counted counts.old)) }
+{
+    counts.add_module()?;
+    if has_few_memories(text)? {
+        Ok(())
+    } else {
+        Err(Stop::Invalid(Demand::Memories))
+    }
 }

@@ -36,6 +36,7 @@ ghost use Rattle.smith_validate.specs.declared.error.Demand.TheVariants.{Named};
 ghost use Rattle.smith_validate.specs.declared.known.Known.{Known as KnownValue};
 
 use crate::body::{Body, Role, Sets};
+use crate::core_modules::add_module;
 use crate::core_types::core_facts;
 use crate::error::{Shortfall, Stop, Validity};
 use crate::known::Known;
@@ -387,7 +388,7 @@ fn add_part(
 {
     match part {
         PartNode::Custom { .. } => Ok(()),
-        PartNode::CoreModule(_) => here.body.counts.add_module(),
+        PartNode::CoreModule(text) => add_module(&mut here.body.counts, text),
         PartNode::CoreTypes(types) => add_core_types(alloc, track, known, &mut here.body, types),
         PartNode::Component(parts) => {
             here.body.counts.add_component()?;

@@ -2,6 +2,7 @@ use Rattle.std.proofs.Common.{◌+◌, ◌∷◌, ◌++◌, fold, length, map, �
 use Rattle.std.proofs.Math.ListN.{drop}
 use Rattle.smith_tree.specs.Spaces.{no_spaces}
 use Rattle.smith_validity.specs.Bodies.{after_export, after_import, empty_body}
+use Rattle.smith_validity.specs.CoreModules.{HasFewMemories}
 use Rattle.smith_validity.specs.Counts.{ValidCounts, with_component, with_module}
 use Rattle.smith_validity.specs.Demands.{Keeps}
 use Rattle.smith_validity.specs.Validates.{names_of}
@@ -43,27 +44,27 @@ add_part-returns-in-Custom-clause-added t c = λ s b outer names table h.
 pub add_part-returns-in-CoreModule-clause-added : goal.add_part-returns-in-CoreModule-clause-added
 add_part-returns-in-CoreModule-clause-added t c = λ s b outer names table h.
     let counts = ap with_module h.body.counts_are in
-    rw (c.in-CoreModule.is, shown_module c.in-CoreModule.field-0)
-    (on_judged c.add_module.result (λ d. Keeps d.counts (ValidCounts (with_module (counted c.args.here.now.body.counts))))
+    rw (c.in-CoreModule.is, shown_module c.in-CoreModule.text)
+    (on_judged c.add_module.result (λ d. Keeps d.counts (ValidCounts (with_module (counted c.args.here.now.body.counts))) × Keeps d.memories (HasFewMemories c.in-CoreModule.text.items))
     (λ n m j. open_now _ _ _ _ outer names table
     (record {
       body = record {
         scopes = h.body.scopes;
         size_is = h.body.size_is;
         counts_are = n ∙ counts;
-        small = (h.body.small.0, subst ValidCounts counts j);
+        small = (h.body.small.0, subst ValidCounts counts j.0);
         role_is = role_of table names true c.args.here.now.body.role b _ refl refl h.body.role_is;
       };
       functions_are = h.functions_are;
     }))
     c.add_module.ensures.added c.add_module.ensures.added
-    (c.add_module.ensures.judged (subst ValidCounts (sym h.body.counts_are) h.body.small.1)))
+    (rw c.deref.ensures.value at (c.add_module.ensures.judged (subst ValidCounts (sym h.body.counts_are) h.body.small.1))))
 
 pub add_part-returns-in-CoreTypes-clause-added : goal.add_part-returns-in-CoreTypes-clause-added
 add_part-returns-in-CoreTypes-clause-added t c = λ s b outer names table h.
     rw (c.in-CoreTypes.is, shown_core_types c.in-CoreTypes.types)
     (on_by c.add_core_types.result (λ k. open_now _ _ _ _ outer names table (record { body = k; functions_are = h.functions_are }))
-    (rw c.deref.ensures.value at (c.add_core_types.ensures.added b outer names table h.body)))
+    (rw c.deref-in-CoreTypes.ensures.value at (c.add_core_types.ensures.added b outer names table h.body)))
 
 pub add_part-returns-in_ok-add_parts-in-Component-clause-judged : goal.add_part-returns-in_ok-add_parts-in-Component-clause-judged
 add_part-returns-in_ok-add_parts-in-Component-clause-judged t c = λ s b outer names table h.
@@ -265,7 +266,7 @@ add_part-returns-in_ok-add_parts-in-Component-clause-exact t c = λ s b outer na
 pub add_part-returns-in-CoreModule-clause-exact : goal.add_part-returns-in-CoreModule-clause-exact
 add_part-returns-in-CoreModule-clause-exact t c = λ s b outer names named covered table o h usual.
     let k = c.args.known.now in
-    rw (c.in-CoreModule.is, shown_module c.in-CoreModule.field-0)
+    rw (c.in-CoreModule.is, shown_module c.in-CoreModule.text)
     (on_any c.add_module.result
     (now_after true k c.args.here.now.body (record b { counts = with_module b.counts }) outer named (id_at (b.own ∷ outer)) table
     (body_as true k c.args.here.now.body b outer named table h k c.args.here.now.body refl refl (record b { counts = with_module b.counts }) refl refl refl
@@ -319,7 +320,7 @@ add_part-returns-in-Exports-clause-refused t c = λ s b outer names named covere
 pub add_part-returns-in-CoreTypes-clause-judged : goal.add_part-returns-in-CoreTypes-clause-judged
 add_part-returns-in-CoreTypes-clause-judged t c = λ s b outer names table h.
     rw (c.in-CoreTypes.is, shown_core_types c.in-CoreTypes.types)
-    (rw c.deref.ensures.value at (c.add_core_types.ensures.judged b outer names table h.body))
+    (rw c.deref-in-CoreTypes.ensures.value at (c.add_core_types.ensures.judged b outer names table h.body))
 
 pub add_part-returns-in-Types-clause-judged : goal.add_part-returns-in-Types-clause-judged
 add_part-returns-in-Types-clause-judged t c = λ s b outer names table h.
