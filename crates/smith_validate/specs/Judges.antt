@@ -1,7 +1,7 @@
 -- What the result of a judgement says of demands.
 use Rattle.std.specs.Prelude.{Result, Ok, Err}
-use Rattle.smith_validity.specs.Demands.{Demands, everything, nothing}
-use Rattle.smith_validate.specs.Outcome.{asking}
+use Rattle.smith_validity.specs.Demands.{Demands, everything}
+use Rattle.smith_validate.specs.Outcome.{asking, nothing}
 use Rattle.smith_validate.specs.declared.error.Demand.TheVariants.{Named, Size, Count, Memories, Tables}
 use Rattle.smith_validate.specs.declared.error.Stop.{Stop}
 use Rattle.smith_validate.specs.declared.error.Stop.TheVariants.{OutOfMemory, Invalid}

@@ -1,13 +1,16 @@
 -- What a judgement says.
-use Rattle.std.specs.Prelude.{true}
+use Rattle.std.specs.Prelude.{true, false}
 use Rattle.smith_tree.specs.Tree.{Tree}
 use Rattle.smith_tree.specs.WellFormed.{WellFormed}
-use Rattle.smith_validity.specs.Demands.{Demands, nothing}
+use Rattle.smith_validity.specs.Demands.{Demands}
 use Rattle.smith_validity.specs.Validates.{ValidTree, Validates}
 use Rattle.smith_validate.specs.declared.error.Demand.TheVariants.{Named, Size, Count, Memories, Tables}
 use Rattle.smith_validate.specs.declared.error.Demand.{Demand}
 use Rattle.smith_validate.specs.declared.error.Validity.{Validity}
 use Rattle.smith_validate.specs.declared.error.Validity.TheVariants as validity
+
+abbrev pub nothing : Demands
+nothing = record { names = false; sizes = false; counts = false; memories = false; tables = false }
 
 -- that demand alone
 abbrev pub asking : Demand → Demands

@@ -447,8 +447,9 @@ fn add_parts(
 /// with the first demand that it does not meet and the place. An error is returned only where an allocation failed, and
 /// says nothing about the component.
 ///
-/// It is proved that what is `Valid` meets all demands, that what is `Invalid` for a bound does not keep all bounds,
-/// and that a well formed component that is `Invalid` for a name does not meet all demands.
+/// It is proved that what is `Valid` meets all demands, that what is `Invalid` for a bound does not keep that bound,
+/// whatever else is asked, and that a well formed component that is `Invalid` for a name does not name all that it has
+/// to.
 ///
 /// The stack is bounded by how deep components and types nest.
 pub fn validated(alloc: Global, component: &ComponentTree) -> Result<Validity, AllocError>

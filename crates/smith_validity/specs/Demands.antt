@@ -13,9 +13,6 @@ pub record Demands : Type 0 where
 abbrev pub everything : Demands
 everything = record { names = true; sizes = true; counts = true; memories = true; tables = true }
 
-abbrev pub nothing : Demands
-nothing = record { names = false; sizes = false; counts = false; memories = false; tables = false }
-
 -- It holds, if it is asked.
 abbrev pub Keeps : Bool → Type 0 → Type 0
 Keeps true P = P
