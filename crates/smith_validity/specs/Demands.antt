@@ -1,8 +1,8 @@
 -- Which of a validator's demands are asked.
 use Rattle.std.specs.Prelude.{Bool, true, false}
 
--- that what is imported and exported is named; effective sizes; how many entries there are; and of module types, how many memories and tables
--- they import
+-- that what is imported and exported is named; effective sizes; how many entries there are; how many memories a core module has or a module type
+-- imports; and how many tables a module type imports
 pub record Demands : Type 0 where
   pub names : Bool
   pub sizes : Bool

@@ -10,6 +10,6 @@ use Rattle.std.proofs.Common.{refl, subst}
 pub returns : goal.returns
 returns c config t b validity.Valid must fits can spelled found = refl
 returns c config t b (validity.Invalid demand offset) must fits can spelled found =
-    let valid = valid_tree config must t fits can.formed can.limits can.offered in
+    let valid = valid_tree config t must fits can in
     absurd ((subst (IsUnmet demand) (spells_law found.0 t b found.1 spelled) found.3) (weaker_tree (asking demand) t valid))
 returns c config t b (validity.Other verdict) must fits can spelled found = absurd (found.1 (found_formed config t b verdict fits can spelled found.0))
