@@ -1,9 +1,9 @@
 -- Whether a core module has few memories, section by section.
-use Rattle.std.proofs.Common.{◌≡◌, ℕ, ◌≤◌, List, [], ◌∷◌, ◌++◌, Some, ap, sym, ◌∙◌, subst, drop}
+use Rattle.std.proofs.Common.{◌≡◌, ◌↔◌, ℕ, ◌≤◌, List, [], ◌∷◌, ◌++◌, Some, refl, ap, sym, ◌∙◌, subst, drop}
 use Rattle.smith_core.specs.Preamble.{core_preamble}
 use Rattle.smith_format.specs.Piece.{Piece, ◌⊕◌, bytes, each, sized, u}
 use Rattle.smith_format.proofs.Clear.{clear_u, same_section, section_head}
-use Rattle.smith_format.proofs.Piece.{assoc, joined, left_nil, parts_are}
+use Rattle.smith_format.proofs.Piece.{assoc, joined, left_nil, parts_are, right_nil}
 use Rattle.smith_validity.specs.CoreModules.{CountsFew, HasFewMemories, section}
 
 -- the same after the preamble
@@ -91,3 +91,18 @@ module _ (id : ℕ) (contents next b : List ℕ) (is : section (id, contents) �
 pub few_counted : (contents : List ℕ) (n : ℕ) (items : List ℕ) → u n ⊕ bytes items ≡ Some contents → n ≤ 100 → CountsFew contents
 few_counted contents n items is few count entries e =
     subst (λ m. m ≤ 100) (clear_u.law n count (bytes items) (bytes entries) contents is e).same few
+
+-- a memory section alone
+pub memories_counted : (count : ℕ) (memories text : List ℕ) → bytes core_preamble ⊕ sized 5 (u count ⊕ bytes memories) ≡ Some text
+    → HasFewMemories text ↔ (count ≤ 100)
+memories_counted count memories text e =
+    let c : Piece = u count ⊕ bytes memories in
+    let a = behind (sized 5 c) text e in
+    let f : sized 5 c ⊕ bytes [] ≡ Some a.0 = right_nil (sized 5 c) ∙ a.1 in
+    let s = same_section 5 c c (bytes []) (bytes []) a.0 f f in
+    let is : section (5, s.contents) ⊕ bytes [] ≡ Some a.0 = ap (λ p. sized 5 p ⊕ bytes []) (sym s.first) ∙ f in (
+      λ few. few_first 5 s.contents [] a.0 is refl (few_sections a.0 (subst HasFewMemories a.2 few)) count memories s.first,
+      λ most.
+          let counted = few_counted s.contents count memories s.first most in
+          subst HasFewMemories (sym a.2) (few_module a.0 (few_next 5 s.contents [] a.0 is (λ same. counted) few_end)),
+    )
