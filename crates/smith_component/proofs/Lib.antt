@@ -56,3 +56,4 @@ pub mod Planned
 pub mod RunsOffered
 pub mod RunsReadable
 pub mod RunsFinishable
+pub mod RunsButLast

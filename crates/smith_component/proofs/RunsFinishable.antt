@@ -26,7 +26,7 @@ use Rattle.smith_component.proofs.Turn.{does_tail, finish_offered, tail_length}
 use Rattle.smith_scopes.proofs.Plain.{all_back, all_both, all_front}
 
 -- What a component keeps that has one more part, other than a component.
-abbrev Grows : (Tree → Type 0) → Type 0
+abbrev pub Grows : (Tree → Type 0) → Type 0
 Grows P = (t : Tree) (p : Part) → anywhere_in components_in p ≡ [] → P t → P (add t p)
 
 module _ (config : Config) (P : Tree → Type 0) (grows : Grows P) where
@@ -51,7 +51,7 @@ module _ (config : Config) (P : Tree → Type 0) (grows : Grows P) where
   fills_keep what stack b t rest (inl (enough, same, left)) holds = subst P (sym same) holds
   fills_keep what stack b t rest (inr (lacks, a)) holds = adds_keep what _ stack b t rest a holds
 
-  all_filled_keep : (stack : Open) (b : List ℕ) (full : Tree) (rest : List ℕ) → FillsAll config stack b full rest → P stack.inner → P full
+  pub all_filled_keep : (stack : Open) (b : List ℕ) (full : Tree) (rest : List ℕ) → FillsAll config stack b full rest → P stack.inner → P full
   all_filled_keep stack b full rest f holds =
       let typed = fills_keep counted.Types stack b f.typed f.mid f.types holds in
       let imported = fills_keep counted.Imports (with_inner stack f.typed) f.mid f.imported f.low f.imports typed in
@@ -63,7 +63,7 @@ length-parts-add (first q t) p = omega (arith, length-parts-add t p)
 
 module _ (config : Config) where
   -- The components in it are finished so.
-  abbrev IsDone : Tree → Type 0
+  abbrev pub IsDone : Tree → Type 0
   IsDone t = AllByRecursion (IsFinishable config) (inside t)
 
   done_with : (t : Tree) (p : Part) → IsDone t → AllByRecursion (IsFinishable config) (anywhere_in components_in p) → IsDone (add t p)
@@ -77,10 +77,10 @@ module _ (config : Config) where
   finishable_grows : Grows (IsFinishable config)
   finishable_grows t p flat enough = omega (arith, enough, length-parts-add t p)
 
-  abbrev AreDone : Open → Type 0
+  abbrev pub AreDone : Open → Type 0
   AreDone stack = IsDone stack.inner × AllByRecursion IsDone stack.outer
 
-  abbrev DoneNext : Next → Type 0
+  abbrev pub DoneNext : Next → Type 0
   DoneNext (building stack) = AreDone stack
   DoneNext (answered t) = AreFinishable config t
 
@@ -99,7 +99,7 @@ module _ (config : Config) where
       → next ≡ building (with_inner stack t) → AreDone stack → DoneNext next
   adds_done what stack b next t rest a e done = subst DoneNext (sym e) (adds_keep config IsDone done_grows what 0 stack b t rest a done.0, done.1)
 
-  does_done : (item : Item) (stack : Open) (b : List ℕ) (next : Next) (rest : List ℕ) → (item ≡ Finish → IsFinishable config stack.inner)
+  pub does_done : (item : Item) (stack : Open) (b : List ℕ) (next : Next) (rest : List ℕ) → (item ≡ Finish → IsFinishable config stack.inner)
       → Does config item stack b next rest → AreDone stack → DoneNext next
   does_done Finish stack b next rest enough (full, f, c) done =
       closes_done (with_inner stack full) next (all_filled_keep config (IsFinishable config) finishable_grows stack b full rest f (enough refl)) c
@@ -115,7 +115,7 @@ module _ (config : Config) where
   does_done Exports stack b next rest enough (es, r, e) done = part_done stack (exports es) next e refl done
 
   -- No turn leaves more than there was.
-  turn_shortens : (stack : Open) (left : List ℕ) (next : Next) (left2 : List ℕ) → Turn config stack left next left2 → length left2 ≤ length left
+  pub turn_shortens : (stack : Open) (left : List ℕ) (next : Next) (left2 : List ℕ) → Turn config stack left next left2 → length left2 ≤ length left
   turn_shortens stack left next left2 t =
       omega (
         arith,
@@ -131,7 +131,7 @@ module _ (config : Config) where
       omega (arith, turn_shortens stack left mid left1 t, turns_shorten k mid left1 next left2 later)
 
   -- where input is left, what is finished was offered to be
-  finishes : (stack : Open) (left after : List ℕ) (item : Item) → 0 < length left → ReadsAmong (items config stack left) left item after → item ≡ Finish
+  pub finishes : (stack : Open) (left after : List ℕ) (item : Item) → 0 < length left → ReadsAmong (items config stack left) left item after → item ≡ Finish
       → IsFinishable config stack.inner
   finishes stack [] after item some r e = absurd (omega (arith, some))
   finishes stack (x ∷ xs) after item some r e =

@@ -1,16 +1,16 @@
 -- A builder between turns was made from an input, and what a turn finishes can be generated.
-use Rattle.std.proofs.Common.{◌≡◌, ℕ, List, ◌∷◌, true, sym, subst}
+use Rattle.std.proofs.Common.{◌≡◌, ℕ, List, true, sym, subst}
 use Rattle.smith_format.specs.Consistency.{IsConsistent}
 use Rattle.smith_format.specs.declared.config.Config.{Config}
 use Rattle.smith_marks.proofs.Components.{valid_tree}
-use Rattle.smith_tree.specs.Open.{Open, root}
+use Rattle.smith_tree.specs.Open.{root}
 use Rattle.smith_tree.specs.Readable.{CanBeGenerated}
 use Rattle.smith_tree.specs.Tree.{Tree}
 use Rattle.smith_validity.specs.Validates.{Validates}
 use Rattle.smith_component.specs.Building.{Building, open_of}
 use Rattle.smith_component.specs.Sound.{IsReadSoFar}
-use Rattle.smith_component.specs.Steps.{IsStep, IsTurn, StaysSound, ValidatesIfDone, next_of}
-use Rattle.smith_component.specs.Turn.{Turn, answered, building}
+use Rattle.smith_component.specs.Steps.{IsStep, IsTurn, StaysSound, ValidatesIfDone}
+use Rattle.smith_component.specs.Turn.{answered, building}
 use Rattle.smith_component.specs.declared.builder.Step.{Step}
 use Rattle.smith_component.specs.declared.builder.Step.TheVariants.{StillBuilding, Finished}
 use Rattle.smith_component.proofs.RunsOffered.{turn_offered}
@@ -18,7 +18,7 @@ use Rattle.smith_component.proofs.RunsReadable.{turn_readable}
 
 -- Where components must validate, one that can be generated does.
 pub valid_generated : (config : Config) (tree : Tree) → config.must_validate ≡ true → IsConsistent config → CanBeGenerated config tree → Validates tree
-valid_generated config tree valid consistent image = valid_tree config valid tree consistent image.formed image.limits image.offered
+valid_generated = valid_tree
 
 pub read_root : (config : Config) → IsReadSoFar config root
 read_root config = record { readable = (tt, tt); offered = tt }

@@ -201,7 +201,7 @@ finish_offered config stack x xs after r =
     ) in
     offer_holds P (item_offers config stack) all r.place Finish r.named refl
 
-does_finish : (config : Config) (stack : Open) (item : Item) (b r : List ℕ) (next : Next) → item ≡ Finish → Does config item stack b next r
+pub does_finish : (config : Config) (stack : Open) (item : Item) (b r : List ℕ) (next : Next) → item ≡ Finish → Does config item stack b next r
     → (full : Tree) × FillsAll config stack b full r × Closes (with_inner stack full) next
 does_finish config stack item b r next e d = let P : Item → Type 0 = λ i. Does config i stack b next r in subst P e d
 

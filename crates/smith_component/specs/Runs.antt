@@ -4,6 +4,7 @@ use Rattle.smith_format.specs.declared.config.Config.{Config}
 use Rattle.smith_tree.specs.Tree.{Tree}
 use Rattle.smith_tree.specs.Limits.{max_depth}
 use Rattle.smith_tree.specs.Open.{Open, root}
+use Rattle.smith_component.specs.ButLast.{AreFinishableButLast}
 use Rattle.smith_component.specs.Turn.{Next, Turn, building, answered}
 use Rattle.smith_tree.specs.Readable.{AreFinishable, CanBeGenerated}
 
@@ -28,12 +29,13 @@ pub record RunsTo (config : Config) (input : List ℕ) (tree : Tree) (left : Lis
 abbrev pub IsFollowed : Config → List ℕ → Type 0
 IsFollowed config left = (config.finish_after ≡ 0) ⊎ (0 < length left)
 
--- A component that is made of the input: it is that of a run, and one of those that can be generated. Where the input did not end in it, each
--- component of it has as many sections as that takes.
+-- A component that is made of the input: it is that of a run, and one of those that can be generated. If the input did not end in it, each
+-- component of it has as many sections as that takes; if it did, each but those that may have been open then.
 pub record IsMade (config : Config) (input : List ℕ) (tree : Tree) (left : List ℕ) : Type 0 where
   pub run : RunsTo config input tree left
   pub image : CanBeGenerated config tree
   pub finishable : IsFollowed config left → AreFinishable config tree
+  pub but_last : AreFinishableButLast config tree
 
 -- what is left to do
 abbrev pub todo : Config → List ℕ → Open → ℕ

@@ -23,6 +23,7 @@ ghost use Rattle.smith_tree.specs.Tree.{Part, Tree, core_module};
 ghost use Rattle.smith_component.specs.Turn.{Closes, Next, Turn, with_open, with_part};
 ghost use Rattle.smith_component.specs.Wider.{AreWider};
 ghost use Rattle.smith_tree.specs.Readable.{AreFinishable, CanBeGenerated, IsFinishable};
+ghost use Rattle.smith_component.specs.ButLast.{AreFinishableButLast};
 ghost use Rattle.smith_component.specs.Runs.{IsFollowed, RunsTo};
 ghost use Rattle.smith_tree.specs.declared.choices.Item.TheVariants.{Component as ItemComponent, Finish};
 
@@ -50,6 +51,13 @@ pub fn runs_are_sound()
 pub fn followed_runs_finish_components()
     ensures { (config : Config) (input : List ℕ) (tree : Tree) (left : List ℕ) → IsFollowed config left
         → RunsTo config input tree left → AreFinishable config tree }
+{}
+
+/// Whatever a run leaves, each component of what it leads to has that number but for those that may be open when the
+/// input ends: the root, the last component in it, the last component in that, and so on.
+pub fn runs_finish_all_but_the_last_components()
+    ensures { (config : Config) (input : List ℕ) (tree : Tree) (left : List ℕ) → RunsTo config input tree left
+        → AreFinishableButLast config tree }
 {}
 
 /// The script of a plan, followed by any bytes, leads to that plan, and leaves those bytes.

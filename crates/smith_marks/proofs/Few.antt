@@ -13,6 +13,7 @@ use Rattle.smith_syntax.specs.declared.deftype.ComponentTypeRef.TheVariants as t
 use Rattle.smith_validity.specs.Bodies.{Body, IsSmall, after_decl, after_export, after_import, core_facts, empty_body, equal_facts, exported_facts, facts}
 use Rattle.smith_validity.specs.Bodies.{named_in, reference_size, with_core_facts, with_facts}
 use Rattle.smith_validity.specs.Counts.{Counts, ValidCounts, with_export, with_import, with_type_count}
+use Rattle.smith_validity.specs.Demands.{everything}
 use Rattle.smith_validity.specs.Facts.{CoreFacts, FactScope, Facts, Id, id_at, sizes as fact_sizes}
 use Rattle.smith_validity.specs.Validates.{names_of}
 use Rattle.smith_marks.proofs.SmallSizes.{small_reference}
@@ -30,7 +31,7 @@ pub record Few (n : ℕ) (b : Body) : Type 0 where
 pub few_none : Few 0 empty_body
 few_none = record { size = omega arith; counts = omega arith }
 
-pub few_small : (n : ℕ) (b : Body) → Few n b → n ≤ 100 → IsSmall b
+pub few_small : (n : ℕ) (b : Body) → Few n b → n ≤ 100 → IsSmall everything b
 few_small n b f few = (omega (arith, f.size), few_counts b.counts (omega (arith, f.counts)))
   where
     few_counts : (c : Counts) → counted c ≤ 200 → ValidCounts c

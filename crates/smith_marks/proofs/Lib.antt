@@ -4,6 +4,7 @@ pub mod CoreSizes
 pub mod Everything
 pub mod Externs
 pub mod Few
+pub mod FewMemories
 pub mod Fronts
 pub mod Functions
 pub mod Kept

@@ -9,6 +9,7 @@ use Rattle.smith_syntax.specs.Marks.{small_size}
 use Rattle.smith_syntax.specs.ModuleTypes.{after_front, declared_in}
 use Rattle.smith_syntax.specs.Sizes.{core_size, module_type_size}
 use Rattle.smith_validity.specs.Bodies.{core_facts, module_size_of}
+use Rattle.smith_validity.specs.Demands.{everything}
 use Rattle.smith_validity.specs.Facts.{CoreFacts, FactScope}
 use Rattle.smith_validity.specs.Sizes.{ValidCore}
 use Rattle.smith_marks.proofs.CoreSizes.{small_functions, small_module}
@@ -23,7 +24,7 @@ small_core config around (core_module ds) k h =
     omega (arith, small_module config around [] ds k tt (small_functions config (declared_in ds) h.functions), few, front_length ds)
 
 pub valid_core : (config : Config) (around : List CoreEntry) (e : CoreEntry) → AllByRecursion (CoreLimits config) around → CoreLimits config e
-    → ValidCore around e
+    → ValidCore everything around e
 valid_core config around (core_func f) k h = tt
 valid_core config around (core_module ds) k h =
     let small : core_size around (core_module ds) ≤ 9999 = small_core config around (core_module ds) k h in

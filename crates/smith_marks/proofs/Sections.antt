@@ -21,8 +21,9 @@ use Rattle.smith_tree.specs.TypeOffers.{has_room}
 use Rattle.smith_tree.specs.WellFormed.{FormedCanons, FormedImport}
 use Rattle.smith_validity.specs.Bodies.{Body, after_export, after_import, core_facts, facts, with_core_facts, with_facts}
 use Rattle.smith_validity.specs.Counts.{Counts, with_type_count}
+use Rattle.smith_validity.specs.Demands.{everything}
 use Rattle.smith_validity.specs.Facts.{FactScope, Facts}
-use Rattle.smith_validity.specs.Validates.{RefersTo, ValidCanons, ValidCores, ValidEntries, ValidExports, ValidImports}
+use Rattle.smith_validity.specs.Validates.{ValidCanons, ValidCores, ValidEntries, ValidExports, ValidImports}
 use Rattle.smith_validity.specs.Validates.{after_canon as body_after_canon, after_cores, after_entries, exported, exported_references}
 use Rattle.smith_validity.specs.Validates.{imported_references, names_of}
 use Rattle.smith_marks.proofs.Functions.{IsFreeAt, free_refers}
@@ -76,15 +77,15 @@ no_exports c l f = record {
 }
 
 -- exports in a row
-valid_both : (rs qs : List ComponentTypeRef) (outer : List FactScope) (b : Body) → ValidExports RefersTo rs outer b
-    → ValidExports RefersTo qs outer (fold (after_export outer) b rs) → ValidExports RefersTo (rs ++ qs) outer b
+valid_both : (rs qs : List ComponentTypeRef) (outer : List FactScope) (b : Body) → ValidExports everything rs outer b
+    → ValidExports everything qs outer (fold (after_export outer) b rs) → ValidExports everything (rs ++ qs) outer b
 valid_both [] qs outer b h k = k
 valid_both (r ∷ rs) qs outer b h k = (h.0, h.1, valid_both rs qs outer (after_export outer b r) h.2 k)
 
 module _ (config : Config) where
   pub cores : (ts : List CoreEntry) (es : List Entry) (fs : List ℕ) (m : Marked) (b : Body) (l : Counts)
       → Stands config es fs m b (with_type_count l (length ts)) → AllByRecursion (CoreLimits config) ts
-      → ValidCores ts b × Stands config es fs (fold with_core_entry m ts) (after_cores ts b) l
+      → ValidCores everything ts b × Stands config es fs (fold with_core_entry m ts) (after_cores ts b) l
   cores [] es fs m b l s h = (tt, stands_left config m b (with_type_count l 0) s l (none_left b.counts l s.counts))
   cores (e ∷ ts) es fs m b l s h =
       let more = with_core_entry m e in
@@ -102,7 +103,7 @@ module _ (config : Config) where
   pub entries : (ts : List Entry) (es : List Entry) (fs : List ℕ) (marked : List Marked) (outer : List FactScope) (plain : Scope) (around : List Scope)
       (m : Marked) (b : Body) (l : Counts) → Stands config es fs m b (with_type_count l (length ts)) → TiedScopes config marked outer
       → FormedTypes ts plain around → AllByRecursion (EntryLimits config) ts → OfferedTypes ts marked m
-      → ValidEntries RefersTo ts outer b
+      → ValidEntries everything ts outer b
       × Stands config (es ++ ts) fs (fold (with_type_entry marked) m ts) (after_entries ts outer b) l
   entries [] es fs marked outer plain around m b l s k w h o =
       let here = stands_left config m b (with_type_count l 0) s l (none_left b.counts l s.counts) in
@@ -123,7 +124,7 @@ module _ (config : Config) where
 
   pub lifts : (cs : List Canon) (s : Spaces) (m : Marked) (b : Body) (l : Counts) → Stands config s.types s.functions m b (canons_left cs l)
       → FormedCanons cs s
-      → ValidCanons cs b
+      → ValidCanons everything cs b
       × Stands config (fold after_canon s cs).types (fold after_canon s cs).functions m (fold body_after_canon b cs) l
   lifts [] s m b l h w = (tt, stands_left config m b (canons_left [] l) h l (no_canons b.counts l h.counts))
   lifts (c ∷ cs) s m b l h w =
@@ -134,7 +135,7 @@ module _ (config : Config) where
   pub brought : (is : List ImportEntry) (s : Spaces) (m : Marked) (b : Body) (l : Counts) (outer : List FactScope) (plain : Scope)
       → Stands config s.types s.functions m b (imports_left is l) → plain.types ≡ s.types → AllByRecursion (FormedImport plain) is
       → OfferedImports is m
-      → ValidImports RefersTo (imported_references is) outer b
+      → ValidImports everything (imported_references is) outer b
       × Stands config (fold spaces_after_import s is).types (fold spaces_after_import s is).functions (fold with_import_entry m is)
       (fold (after_import outer) b (imported_references is)) l
   brought [] s m b l outer plain h same w o = (tt, stands_left config m b (imports_left [] l) h l (no_imports b.counts l h.counts))
@@ -154,7 +155,7 @@ module _ (config : Config) where
   -- an export, which is of one function or of none
   export_one : (f : Option ℕ) (n : ℕ) (es : List Entry) (fs : List ℕ) (m : Marked) (b : Body) (l : Counts) (outer : List FactScope)
       → Stands config es fs m b (more_exports l (suc n)) → AllByRecursion (IsFreeAt b.own.types) (option_to_list f) → has_room m false ≡ true
-      → ValidExports RefersTo (map (λ t. to.Func t) (option_to_list f)) outer b
+      → ValidExports everything (map (λ t. to.Func t) (option_to_list f)) outer b
       × Stands config es (fs ++ option_to_list f) (with_exports_entry m (map (λ t. to.Func t) (option_to_list f)))
       (fold (after_export outer) b (map (λ t. to.Func t) (option_to_list f))) (more_exports l n)
   export_one None n es fs m b l outer h free roomy = (
@@ -176,7 +177,7 @@ module _ (config : Config) where
 
   pub given : (xs : List ExportEntry) (s : Spaces) (m : Marked) (b : Body) (l : Counts) (outer : List FactScope)
       → Stands config s.types s.functions m b (exports_left xs l) → OfferedExports xs s m
-      → ValidExports RefersTo (exported_references s xs) outer b
+      → ValidExports everything (exported_references s xs) outer b
       × Stands config (fold spaces_after_export s xs).types (fold spaces_after_export s xs).functions (with_export_entries xs s m)
       (fold (after_export outer) b (exported_references s xs)) l
   given [] s m b l outer h o = (tt, stands_left config m b (exports_left [] l) h l (no_exports b.counts l h.counts))

@@ -18,6 +18,7 @@ use Rattle.smith_tree.specs.WellFormed.{FormedCanon}
 use Rattle.smith_validity.specs.Bodies.{Body, IsSmall, core_facts, empty_body, facts, with_core_facts, with_facts}
 use Rattle.smith_validity.specs.Counts.{Counts, no_counts, with_component}
 use Rattle.smith_validity.specs.Counts.{with_module, with_type_count}
+use Rattle.smith_validity.specs.Demands.{everything}
 use Rattle.smith_validity.specs.Facts.{FactScope}
 use Rattle.smith_validity.specs.Validates.{after_canon as body_after_canon, names_of}
 use Rattle.smith_marks.proofs.Functions.{FitFunctions, IsFreeAt, fits_function, free_lifted, free_more, functions_more}
@@ -50,7 +51,7 @@ module _ (config : Config) where
   }
 
   module _ {es : List Entry} {fs : List ℕ} (m : Marked) (b : Body) (l : Counts) (s : Stands config es fs m b l) where
-    pub stands_small : IsSmall b
+    pub stands_small : IsSmall everything b
     stands_small = (
       s.small,
       record {

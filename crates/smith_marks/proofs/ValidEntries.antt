@@ -11,6 +11,7 @@ use Rattle.smith_syntax.specs.Usable.{OfferedDecl, OfferedDecls, OfferedEntry, O
 use Rattle.smith_syntax.specs.WellFormed.{FormedDeclaration, FormedDeclarations, FormedEntry, is_type_eq}
 use Rattle.smith_syntax.specs.declared.deftype.ComponentTypeRef.{ComponentTypeRef}
 use Rattle.smith_validity.specs.Bodies.{Body, after_decl, empty_body, externs_at}
+use Rattle.smith_validity.specs.Demands.{everything}
 use Rattle.smith_validity.specs.Facts.{FactScope, Id, sizes as fact_sizes}
 use Rattle.smith_validity.specs.Validates.{RefersTo, ValidDecl, ValidDecls, ValidEntry, exported, imported, names_of}
 use Rattle.smith_marks.proofs.Externs.{export_refers, import_refers}
@@ -40,7 +41,7 @@ module _ (config : Config) where
   mutual
     pub valid_entry : (e : Entry) (named : List Id) (m : Marked) (own : FactScope) (marked : List Marked) (outer : List FactScope) (plain : Scope)
         (around : List Scope) → m.keeps ≡ true → TiedScope config named m own → TiedScopes config marked outer → FormedEntry e plain around
-        → EntryLimits config e → OfferedEntry e m marked → ValidEntry RefersTo e own outer
+        → EntryLimits config e → OfferedEntry e m marked → ValidEntry everything e own outer
     valid_entry (defined d) named m own marked outer plain around keeps t k w l h =
         small_defined (fact_sizes own.types) d plain w (small_values named m own.types (members d) t.types h)
     valid_entry (function s) named m own marked outer plain around keeps t k w l h =
@@ -54,7 +55,7 @@ module _ (config : Config) where
 
     valid_decl : (d : Decl) (asks : Bool) (marked : List Marked) (outer : List FactScope) (m : Marked) (b : Body) (plain : Scope) (around : List Scope)
         → TiedBody config m b → TiedScopes config marked outer → FormedDeclaration d plain around → DeclLimits config d → OfferedDecl d marked m
-        → ValidDecl RefersTo asks d outer b
+        → ValidDecl everything asks d outer b
     valid_decl (core_type_decl e kept) asks marked outer m b plain around t k w l h =
         valid_core config (entries_of b.own.core_types) e (limits_of config b.own.core_types t.own.cores) l
     valid_decl (type_decl e) asks marked outer m b plain around t k w l h =
@@ -67,7 +68,7 @@ module _ (config : Config) where
 
     valid_decls : (ds : Decls) (asks : Bool) (marked : List Marked) (outer : List FactScope) (m : Marked) (b : Body) (plain : Scope)
         (around : List Scope) (n : ℕ) → TiedBody config m b → TiedScopes config marked outer → Few n b → n + decl_count ds ≤ 100
-        → FormedDeclarations ds plain around → DeclsLimits config ds → OfferedDecls ds marked m → ValidDecls RefersTo asks ds outer b
+        → FormedDeclarations ds plain around → DeclsLimits config ds → OfferedDecls ds marked m → ValidDecls everything asks ds outer b
     valid_decls no_decls asks marked outer m b plain around n t k f few w l h = tt
     valid_decls (then_decls d ds) asks marked outer m b plain around n t k f few w l h =
         let next = few_decl config d marked outer m b n t h.0 f in (

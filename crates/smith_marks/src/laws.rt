@@ -6,7 +6,6 @@ ghost use Rattle.smith_syntax.specs.CoreLimits.{CoreLimits};
 ghost use Rattle.smith_syntax.specs.Entries.{CoreEntry};
 ghost use Rattle.smith_syntax.specs.Marks.{small_size};
 ghost use Rattle.smith_syntax.specs.Sizes.{module_type_size};
-ghost use Rattle.smith_tree.specs.Limits.{Limits};
 ghost use Rattle.smith_tree.specs.Offered.{IsOffered};
 ghost use Rattle.smith_tree.specs.Tree.{Tree};
 ghost use Rattle.smith_marks.specs.Unmarked.{KeepsNothing};
@@ -17,11 +16,12 @@ ghost use Rattle.smith_syntax.specs.Scope.{after_decl, is_component, is_defined,
 ghost use Rattle.smith_syntax.specs.Usable.{value_places};
 ghost use Rattle.smith_tree.specs.Marking.{marked_inner};
 ghost use Rattle.smith_tree.specs.Open.{is_finish_offered};
-ghost use Rattle.smith_tree.specs.Readable.{AreFinishable};
+ghost use Rattle.smith_tree.specs.Readable.{AreFinishable, CanBeGenerated};
 ghost use Rattle.smith_tree.specs.TypeOffers.{has_room, ref_places};
-ghost use Rattle.smith_tree.specs.WellFormed.{WellFormed, scope_of};
+ghost use Rattle.smith_tree.specs.WellFormed.{scope_of};
 ghost use Rattle.smith_tree.specs.declared.choices.RefKind.TheVariants.{Component as RefComponent, Func as RefFunc};
 ghost use Rattle.smith_tree.specs.declared.choices.RefKind.TheVariants.{Instance as RefInstance, TypeEq as RefTypeEq};
+ghost use Rattle.smith_validity.specs.Demands.{everything};
 ghost use Rattle.smith_validity.specs.Examples.{imports_function_of_enum, has_function_of_enum};
 ghost use Rattle.smith_validity.specs.Examples.{exports_function_of_named_enum, imports_function_of_named_enum};
 ghost use Rattle.smith_validity.specs.Examples.{exports_function_of_aliased_enum, names_record_of_enum, names_enum};
@@ -32,18 +32,17 @@ ghost use Rattle.smith_validity.specs.Validates.{Validates};
 ghost use Rattle.std.specs.List.{AllByRecursion};
 ghost use Rattle.std.specs.Prelude.{◌≡◌, ◌≤◌, Bool, List, false, true};
 
-/// Where components must validate, a component within the limits does if each type, import and export was offered.
+/// Where components must validate, each that can be generated does: each type, import and export of it was offered.
 pub fn offered_components_validate()
     ensures { (config : Config) (tree : Tree) → config.must_validate ≡ true
-        → IsConsistent config → WellFormed tree → Limits config tree
-        → IsOffered config tree → Validates tree }
+        → IsConsistent config → CanBeGenerated config tree → Validates tree }
 {}
 
 /// A core type within the limits is valid where those before it are within them, and every module type is small.
 pub fn core_types_are_offered()
     ensures valid { (config : Config) (around : List CoreEntry) (e : CoreEntry)
         → AllByRecursion (CoreLimits config) around
-        → CoreLimits config e → ValidCore around e }
+        → CoreLimits config e → ValidCore everything around e }
     ensures small { (config : Config) (around : List CoreEntry) (e : CoreEntry)
         → AllByRecursion (CoreLimits config) around
         → CoreLimits config e → module_type_size around e ≤ small_size }

@@ -11,11 +11,12 @@ use Rattle.smith_input.proofs.Rests.{drop_past, rest_at}
 use Rattle.smith_syntax.specs.Entries.{Decl, Decls, in_order, no_decls, then_decls}
 use Rattle.smith_syntax.specs.Scope.{empty_scope}
 use Rattle.smith_validity.specs.Bodies.{Body, IsSmall, after_decl, after_decls, empty_body, named_in}
+use Rattle.smith_validity.specs.Demands.{Demands, everything}
 use Rattle.smith_validity.specs.Facts.{FactScope, Id}
 use Rattle.smith_validity.specs.Validates.{ValidDecl, ValidDecls}
 use Rattle.smith_read_types.specs.TypeNodes.{shown_decl_node}
 use Rattle.smith_read_types.specs.declared.nodes.DeclNode.{DeclNode}
-use Rattle.smith_validate.specs.Bodies.{IsBody, IsBodyNow, IsEmpty, IsFresh, IsIn, IsRole, demanded}
+use Rattle.smith_validate.specs.Bodies.{IsBody, IsBodyNow, IsEmpty, IsFresh, IsIn, IsRole}
 use Rattle.smith_validate.specs.Instances.{AreKept, Exports, IsTable, ScopesKept}
 use Rattle.smith_validate.specs.Judges.{Refutes}
 use Rattle.smith_validate.specs.Kept.{Kept, capped, kept_core, kept_in, kept_of, named_at, outer_in, outer_types, own_in, types_in}
@@ -25,11 +26,11 @@ use Rattle.smith_validate.specs.declared.error.Stop.{Stop}
 use Rattle.smith_validate.specs.declared.facts.CoreFacts.{CoreFacts as KeptCore}
 use Rattle.smith_validate.specs.declared.known.Known.{Known}
 use Rattle.smith_validate.specs.declared.known.Scope.{Scope}
-use Rattle.smith_validate.proofs.Judging.{Same, refute_by}
+use Rattle.smith_validate.proofs.Judging.{refute_by}
 use Rattle.smith_validate.proofs.Roles.{role_fresh}
 use Rattle.smith_validate.proofs.Tables.{are_kept_more, scopes_more}
 
-pub empty_small : IsSmall empty_body
+pub empty_small : IsSmall everything empty_body
 empty_small = (
   omega arith,
   record {
@@ -149,7 +150,8 @@ pub record DeclsLeft (asks : Bool) (own : FactScope) (outer : List FactScope) (n
   pub b : Body
   pub more : List Exports
   pub is : IsBody asks k o b (own ∷ outer) names (table ++ more)
-  pub left : (d : Bool) → Same (ValidDecls (demanded d) asks all (own ∷ outer) empty_body) (ValidDecls (demanded d) asks rest (own ∷ outer) b)
+  pub left : (d : Demands) → ValidDecls d asks all (own ∷ outer) empty_body → ValidDecls d asks rest (own ∷ outer) b
+  pub back : ValidDecls everything asks rest (own ∷ outer) b → ValidDecls everything asks all (own ∷ outer) empty_body
   pub after : after_decls all (own ∷ outer) empty_body ≡ after_decls rest (own ∷ outer) b
 
 module _ (asks : Bool) (own : FactScope) (outer : List FactScope) (all : Decls) where
@@ -169,14 +171,15 @@ module _ (asks : Bool) (own : FactScope) (outer : List FactScope) (all : Decls) 
         b = empty_body;
         more = begin.0;
         is = begin.1;
-        left = λ d. record { to = λ p. p; from = λ p. p };
+        left = λ d p. p;
+        back = λ p. p;
         after = refl;
       }
 
   module _ (names : List (List Id)) (table : List Exports) (k : Known) (o : KeptBody) (d : Decl) (rest : Decls)
       (l : DeclsLeft asks own outer names table all k o (then_decls d rest)) where
     pub decls_more : (new : Known) (p : KeptBody)
-        → ((demand : Bool) → ValidDecl (demanded demand) asks d (own ∷ outer) l.b × IsSmall (after_decl d (own ∷ outer) l.b))
+        → ValidDecl everything asks d (own ∷ outer) l.b × IsSmall everything (after_decl d (own ∷ outer) l.b)
         → IsBodyNow asks new p (after_decl d (own ∷ outer) l.b) (own ∷ outer) names (table ++ l.more) → DeclsLeft asks own outer names table all new p rest
     decls_more new p j n =
         let now = body_more asks new p (after_decl d (own ∷ outer) l.b) (own ∷ outer) names table l.more n in
@@ -184,21 +187,19 @@ module _ (asks : Bool) (own : FactScope) (outer : List FactScope) (all : Decls) 
           b = after_decl d (own ∷ outer) l.b;
           more = now.0;
           is = now.1;
-          left = λ demand. record {
-            to = λ q. ((l.left demand).to q).2;
-            from = λ q. (l.left demand).from ((j demand).0, (j demand).1, q);
-          };
+          left = λ demands q. (l.left demands q).2;
+          back = λ q. l.back (j.0, j.1, q);
           after = l.after;
         }
 
-    pub decls_exit : {e : Stop} (demand : Bool)
-        → Refutes e (ValidDecl (demanded demand) asks d (own ∷ outer) l.b × IsSmall (after_decl d (own ∷ outer) l.b))
-        → Refutes e (ValidDecls (demanded demand) asks all (own ∷ outer) empty_body)
-    decls_exit demand r = refute_by (λ q. let h = (l.left demand).to q in (h.0, h.1)) r
+    pub decls_exit : {e : Stop}
+        → Refutes e (λ demands. ValidDecl demands asks d (own ∷ outer) l.b × IsSmall demands (after_decl d (own ∷ outer) l.b))
+        → Refutes e (λ demands. ValidDecls demands asks all (own ∷ outer) empty_body)
+    decls_exit r = refute_by (λ demands q. let h = l.left demands q in (h.0, h.1)) r
 
   module _ (names : List (List Id)) (table : List Exports) (k : Known) (o : KeptBody) (l : DeclsLeft asks own outer names table all k o no_decls) where
-    pub decls_end : (demand : Bool) → ValidDecls (demanded demand) asks all (own ∷ outer) empty_body
-    decls_end demand = (l.left demand).from tt
+    pub decls_end : ValidDecls everything asks all (own ∷ outer) empty_body
+    decls_end = l.back tt
 
     pub decls_judged : (new : Known) → new.instances.items ≡ k.instances.items
         → IsJudged asks new o (after_decls all (own ∷ outer) empty_body) names table

@@ -11,7 +11,7 @@ use Rattle.smith_syntax.specs.Scope.{empty_scope}
 use Rattle.smith_syntax.specs.declared.types.ComponentValType.{ComponentValType}
 use Rattle.smith_validity.specs.Bodies.{Body, after_decl, after_decls, empty_body, with_facts}
 use Rattle.smith_validity.specs.Facts.{FactScope, Facts, Id, id_at, value_needs}
-use Rattle.smith_validity.specs.Validates.{RefersTo, ValidDecl, ValidDecls, names_of}
+use Rattle.smith_validity.specs.Validates.{ValidDecl, ValidDecls, names_of}
 use Rattle.smith_read_types.specs.TypeNodes.{shown_decl_node}
 use Rattle.smith_read_types.specs.declared.nodes.DeclNode.{DeclNode}
 use Rattle.smith_validate.specs.Attained.{Attains}
@@ -23,6 +23,8 @@ use Rattle.smith_validate.specs.Marks.{no_needs, plain_facts}
 use Rattle.smith_validate.specs.Tables.{AreExact, IsGrown, names_in}
 use Rattle.smith_validate.specs.Usual.{AreUsualDecls, IsOfValues}
 use Rattle.smith_validate.specs.Values.{HasMarks, marks_from}
+use Rattle.smith_validate.specs.Outcome.{asking}
+use Rattle.smith_validate.specs.declared.error.Demand.TheVariants.{Named}
 use Rattle.smith_validate.specs.declared.body.Body.{Body as KeptBody}
 use Rattle.smith_validate.specs.declared.body.Role.{Role}
 use Rattle.smith_validate.specs.declared.body.Role.TheVariants.{Names as Naming, Exports as Exporting}
@@ -138,7 +140,7 @@ pub record DeclsExactly (asks : Bool) (own : FactScope) (outer : List FactScope)
   pub new : List Exports
   pub grown : IsGrown (id_at (own ∷ outer)) table new
   pub is : IsBodyExactly asks k o b (own ∷ outer) named new
-  pub left : ValidDecls RefersTo asks all (own ∷ outer) empty_body → ValidDecls RefersTo asks rest (own ∷ outer) b
+  pub left : ValidDecls (asking Named) asks all (own ∷ outer) empty_body → ValidDecls (asking Named) asks rest (own ∷ outer) b
   pub usual : AreUsualDecls asks rest (own ∷ outer) b
   pub after : after_decls all (own ∷ outer) empty_body ≡ after_decls rest (own ∷ outer) b
 
@@ -212,7 +214,7 @@ module _ (asks : Bool) (own : FactScope) (outer : List FactScope) (named : List 
   }
 
   pub exactly_refused : (k : Known) (o : KeptBody) (d : Decl) (rest : Decls) (l : DeclsExactly asks own outer named table all k o (then_decls d rest))
-      → ¬ (ValidDecl RefersTo asks d (own ∷ outer) l.b) → ¬ (ValidDecls RefersTo asks all (own ∷ outer) empty_body)
+      → ¬ (ValidDecl (asking Named) asks d (own ∷ outer) l.b) → ¬ (ValidDecls (asking Named) asks all (own ∷ outer) empty_body)
   exactly_refused k o d rest l n = λ v. n (l.left v).0
 
   pub exactly_judged : (k : Known) (o : KeptBody) (l : DeclsExactly asks own outer named table all k o no_decls) (new : Known)

@@ -6,25 +6,25 @@ use Rattle.std.specs.Prelude.{IfErr, IfOk, OnOk, ◌∷◌}
 use Rattle.smith_syntax.specs.Entries.{export_decl}
 use Rattle.smith_syntax.specs.declared.deftype.ComponentTypeRef.{ComponentTypeRef}
 use Rattle.smith_validity.specs.Bodies.{Body, IsSmall, after_export, externs_at}
-use Rattle.smith_validity.specs.Facts.{Extern, FactScope, Id}
-use Rattle.smith_validity.specs.Validates.{RefersTo, ValidDecl, exported}
-use Rattle.smith_validate.specs.Bodies.{demanded}
-use Rattle.smith_validate.specs.Externs.{IsAsked, IsAskedFor}
-use Rattle.smith_validate.specs.Judges.{IsNamed, Judges, Refutes}
+use Rattle.smith_validity.specs.Demands.{Demands, Keeps, everything}
+use Rattle.smith_validity.specs.Facts.{FactScope}
+use Rattle.smith_validity.specs.Validates.{ValidDecl, exported}
+use Rattle.smith_validate.specs.Externs.{IsAskedFor}
+use Rattle.smith_validate.specs.Judges.{IsNamed, Judges, Refutes, asked}
 use Rattle.smith_validate.specs.declared.error.Stop.{Stop}
 use Rattle.smith_validate.specs.declared.error.Stop.TheVariants.{OutOfMemory}
 
 -- a fact that another rests on
-pub refute_by : {e : Stop} {P Q : Type 0} → (Q → P) → Refutes e P → Refutes e Q
-refute_by f r = record { is = λ n q. r.is n (f q) }
+pub refute_by : {e : Stop} {P Q : Demands → Type 0} → ((d : Demands) → Q d → P d) → Refutes e P → Refutes e Q
+refute_by {e} f r = record { is = λ n q. r.is n (f (asked e) q) }
 
 -- an error that is passed on
-pub passed_on : {A : Type 0} (r : Result A Stop) (e : Stop) {P : Type 0} → IsErrAnd r (λ y. y ≡ e) → Refutes e P → Judges r P
+pub passed_on : {A : Type 0} (r : Result A Stop) (e : Stop) {P : Demands → Type 0} → IsErrAnd r (λ y. y ≡ e) → Refutes e P → Judges r P
 passed_on (Ok x) e {P} is d = absurd is
 passed_on (Err y) e {P} is d = subst (λ (z : Stop). Refutes z P) (sym is) d
 
 -- that memory ran out refutes nothing
-pub spent : (e : Stop) {P : Type 0} → e ≡ OutOfMemory → Refutes e P
+pub spent : (e : Stop) {P : Demands → Type 0} → e ≡ OutOfMemory → Refutes e P
 spent e {P} is = let F : Stop → Type 0 = λ z. Refutes z P in subst F (sym is) (record { is = λ n q. n })
 
 -- Two facts that hold together: all, and what is left of it.
@@ -42,16 +42,14 @@ same_trans s t = record { to = λ p. t.to (s.to p); from = λ r. s.from (t.from 
 pub same_by : {A : Type 0} (F : A → Type 0) (x y : A) → x ≡ y → Same (F x) (F y)
 same_by F x y e = record { to = λ p. subst F e p; from = λ p. subst F (sym e) p }
 
-pub judged_by : {A : Type 0} (r : Result A Stop) {P Q : Type 0} → (P → Q) → (Q → P) → Judges r P → Judges r Q
+pub judged_by : {A : Type 0} (r : Result A Stop) {P Q : Demands → Type 0} → (P everything → Q everything) → ((d : Demands) → Q d → P d)
+    → Judges r P → Judges r Q
 judged_by (Ok x) {P} {Q} f g j = f j
 judged_by (Err e) {P} {Q} f g j = refute_by g j
 
 -- a property of something else that is the same
-pub judged_at : {A B : Type 0} (r : Result A Stop) (F : B → Type 0) (x y : B) → x ≡ y → Judges r (F x) → Judges r (F y)
-judged_at r F x y e j = let s = same_by F x y e in judged_by r (λ p. s.to p) (λ q. s.from q) j
-
-pub refuted_at : {B : Type 0} {e : Stop} (F : B → Type 0) (x y : B) → x ≡ y → Refutes e (F x) → Refutes e (F y)
-refuted_at F x y e r = refute_by (λ q. subst F (sym e) q) r
+pub refuted_at : {B : Type 0} {e : Stop} (F : B → Demands → Type 0) (x y : B) → x ≡ y → Refutes e (F x) → Refutes e (F y)
+refuted_at F x y e r = refute_by (λ d q. subst (λ z. F z d) (sym e) q) r
 
 pub on_by : {A : Type 0} (r : Result A Stop) {P Q : Type 0} → (P → Q) → OnOk r P → OnOk r Q
 on_by (Ok x) {P} {Q} f p = f p
@@ -71,25 +69,17 @@ module _ {A B : Type 0} (shown : A → B) (xs : List A) (i : ℕ) where
       → Same (F (map shown (drop i xs))) (F (shown x ∷ map shown (drop (i + 1) xs)))
   left_from F x h e = same_by (λ ys. F (map shown ys)) (drop i xs) (x ∷ drop (i + 1) xs) (rest_at xs i x h e)
 
-pub on_judged : {A : Type 0} (r : Result A Stop) {P Q R S : Type 0} → (P → Q → R → S) → OnOk r P → OnOk r Q → Judges r R → OnOk r S
-on_judged (Ok x) {P} {Q} {R} {S} f p q j = f p q j
-on_judged (Err e) {P} {Q} {R} {S} f p q j = tt
+pub on_judged : {A : Type 0} (r : Result A Stop) (R : Demands → Type 0) {P Q S : Type 0} → (P → Q → R everything → S)
+    → OnOk r P → OnOk r Q → Judges r R → OnOk r S
+on_judged (Ok x) R {P} {Q} {S} f p q j = f p q j
+on_judged (Err e) R {P} {Q} {S} f p q j = tt
 
--- what is demanded of names
-
-pub demand_met : (d : Bool) (named : List Id) (xs : List Extern) → RefersTo named xs → demanded d named xs
-demand_met true named xs r = r
-demand_met false named xs r = tt
-
-pub asked_met : (d asks : Bool) (named : List Id) (xs : List Extern) → IsAsked asks named xs → IsAskedFor d asks named xs
-asked_met d true named xs r = demand_met d named xs r
-asked_met d false named xs r = tt
-
-pub export_judged : {A : Type 0} (r : Result A Stop) (d asks : Bool) (name : List ℕ) (to : ComponentTypeRef) (outer : List FactScope) (b : Body)
-    → Judges r (IsAskedFor d asks (exported b) (externs_at b.own outer to) × IsSmall (after_export outer b to))
-    → Judges r (ValidDecl (demanded d) asks (export_decl name tt to) outer b × IsSmall (after_export outer b to))
-export_judged r d true name to outer b j = j
-export_judged r d false name to outer b j = j
+-- an export, where names are asked or not
+pub export_judged : {A : Type 0} (r : Result A Stop) (asks : Bool) (name : List ℕ) (to : ComponentTypeRef) (outer : List FactScope) (b : Body)
+    → Judges r (λ d. IsAskedFor d asks (exported b) (externs_at b.own outer to) × IsSmall d (after_export outer b to))
+    → Judges r (λ d. ValidDecl d asks (export_decl name tt to) outer b × IsSmall d (after_export outer b to))
+export_judged r true name to outer b j = j
+export_judged r false name to outer b j = j
 
 pub ok_by : {A : Type 0} (r : Result A Stop) {P Q : A → Type 0} → ((x : A) → P x → Q x) → IfOk r P → IfOk r Q
 ok_by (Ok x) {P} {Q} f p = f x p
@@ -111,3 +101,8 @@ on_any (Err e) {P} p = tt
 pub refused_on : {A : Type 0} (r : Result A Stop) (e : Stop) {P : Type 0} → IsErrAnd r (λ y. y ≡ e) → (IsNamed e → ¬ P) → IfErr r (λ y. IsNamed y → ¬ P)
 refused_on (Ok x) e {P} is d = tt
 refused_on (Err y) e {P} is d = subst (λ (z : Stop). IsNamed z → ¬ P) (sym is) d
+
+-- a fact that another rests on, if it is asked
+pub keeps_by : (asked : Bool) {P Q : Type 0} → (P → Q) → Keeps asked P → Keeps asked Q
+keeps_by true f p = f p
+keeps_by false f p = tt

@@ -1,3 +1,4 @@
+pub mod CoreModules
 pub mod Covering
 pub mod DeclSteps
 pub mod Judging

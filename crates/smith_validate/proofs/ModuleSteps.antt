@@ -37,6 +37,7 @@ use Rattle.smith_format.specs.declared.types.ExportKind.TheVariants as kind
 use Rattle.smith_input.proofs.Rests.{drop_past, rest_at}
 use Rattle.smith_syntax.specs.Entries.{CoreEntry, ModuleDecl, core_func, core_module}
 use Rattle.smith_syntax.specs.ModuleTypes.{adds, func_in, is_of_kind, module_import_of}
+use Rattle.smith_validity.specs.Demands.{everything}
 use Rattle.smith_validity.specs.Facts.{CoreFacts}
 use Rattle.smith_validity.specs.Sizes.{ValidCore, core_size, function_size, imported_of_kind, module_size}
 use Rattle.smith_read_types.specs.Nodes.{shown_module_node}
@@ -48,7 +49,7 @@ use Rattle.smith_validate.specs.declared.error.Stop.{Stop}
 use Rattle.smith_validate.specs.declared.facts.CoreFacts.{CoreFacts as KeptCore}
 use Rattle.smith_validate.specs.declared.facts.CoreFacts.TheVariants as core
 use Rattle.smith_validate.specs.Judges.{Refutes}
-use Rattle.smith_validate.proofs.Judging.{refute_by}
+use Rattle.smith_validate.proofs.Judging.{keeps_by, refute_by}
 
 -- the size of a core function type
 func_size : Option KeptCore → Option ℕ
@@ -112,7 +113,7 @@ left_all around all m o s n t = record {
 }
 
 module _ (around : List CoreEntry) (all : List ModuleDecl) (m : Module) (d : ModuleDecl) (rest : List ModuleDecl) where
-  pub left_more : (l : Left around all m (d ∷ rest)) (new : Module) → Fits m (added_size l.fs d) (memories_in d) (tables_in d)
+  pub left_more : (l : Left around all m (d ∷ rest)) (new : Module) → Fits everything m (added_size l.fs d) (memories_in d) (tables_in d)
       → Grows m new (added_size l.fs d) (memories_in d) (tables_in d) → new.own.items ≡ sizes_in (l.fs ++ adds around l.fs d) → Left around all new rest
   left_more l new f g o = record {
     fs = l.fs ++ adds around l.fs d;
@@ -127,18 +128,18 @@ module _ (around : List CoreEntry) (all : List ModuleDecl) (m : Module) (d : Mod
     };
   }
 
-  pub left_exit : {e : Stop} (l : Left around all m (d ∷ rest)) → Refutes e (Fits m (added_size l.fs d) (memories_in d) (tables_in d))
-      → Refutes e (ValidCore around (core_module all))
+  pub left_exit : {e : Stop} (l : Left around all m (d ∷ rest)) → Refutes e (λ a. Fits a m (added_size l.fs d) (memories_in d) (tables_in d))
+      → Refutes e (λ a. ValidCore a around (core_module all))
   left_exit l r = refute_by
-      (λ v. record {
-        size_fits = omega (arith, l.size_is, v.0);
-        memories_fit = omega (arith, l.memories_are, v.1, kinds_more kind.Memory d rest);
-        tables_fit = omega (arith, l.tables_are, v.2, kinds_more kind.Table d rest);
+      (λ a v. record {
+        size_fits = keeps_by a.sizes (λ q. omega (arith, l.size_is, q)) v.0;
+        memories_fit = keeps_by a.memories (λ q. omega (arith, l.memories_are, q, kinds_more kind.Memory d rest)) v.1;
+        tables_fit = keeps_by a.tables (λ q. omega (arith, l.tables_are, q, kinds_more kind.Table d rest)) v.2;
       })
       r
 
 module _ (around : List CoreEntry) (all : List ModuleDecl) (m : Module) (l : Left around all m []) where
-  pub left_none : ValidCore around (core_module all)
+  pub left_none : ValidCore everything around (core_module all)
   left_none = (omega (arith, l.size_is, l.small.size), omega (arith, l.memories_are, l.small.memories), omega (arith, l.tables_are, l.small.tables))
 
   pub size_none : m.size ≡ capped (core_size around (core_module all))

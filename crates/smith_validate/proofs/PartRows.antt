@@ -1,5 +1,5 @@
 -- The entries of each section, one by one.
-use Rattle.std.proofs.Common.{◌≡◌, ℕ, Bool, true, List, [], ◌∷◌, ◌++◌, map, fold, refl, ap, sym, subst, append-nil, append_assoc, Some}
+use Rattle.std.proofs.Common.{◌≡◌, ℕ, true, List, [], ◌∷◌, ◌++◌, map, fold, refl, ap, sym, subst, append-nil, append_assoc, Some}
 use Rattle.std.specs.Option.{option_to_list}
 use Rattle.std.specs.Prelude.{slice_get}
 use Rattle.std.proofs.lemmas.List.Sums.{fold-append}
@@ -11,19 +11,19 @@ use Rattle.smith_tree.specs.Spaces.{Spaces, after_canon as spaces_after_canon, a
 use Rattle.smith_tree.specs.Spaces.{after_part as spaces_after, no_spaces}
 use Rattle.smith_tree.specs.Tree.{Canon, ExportEntry, Part, Tree, tree_of}
 use Rattle.smith_tree.specs.WellFormed.{WellFormed}
-use Rattle.smith_validity.specs.Validates.{IsBounded, Validates}
 use Rattle.smith_validity.specs.Bodies.{Body, IsSmall, after_export, after_import, core_facts, empty_body, externs_at, facts, with_core_facts}
 use Rattle.smith_validity.specs.Bodies.{with_facts}
+use Rattle.smith_validity.specs.Demands.{Demands, Keeps}
 use Rattle.smith_validity.specs.Facts.{FactScope, Id}
 use Rattle.smith_validity.specs.Sizes.{ValidCore}
 use Rattle.smith_validity.specs.Validates.{ValidCanons, ValidCores, ValidEntries, ValidEntry, ValidExports, ValidImports, after_canon, after_cores}
-use Rattle.smith_validity.specs.Validates.{ValidPart, ValidParts, after_entries, after_part, exported_reference}
+use Rattle.smith_validity.specs.Validates.{RefersTo, ValidPart, ValidParts, ValidTree, after_entries, after_part, exported_reference}
 use Rattle.smith_validity.specs.Validates.{exported_references, imported, imported_references}
-use Rattle.smith_validate.specs.Bodies.{IsBody, IsBodyNow, IsEmpty, IsFresh, IsIn, demanded}
+use Rattle.smith_validate.specs.Bodies.{IsBody, IsBodyNow, IsEmpty, IsFresh, IsIn}
 use Rattle.smith_validate.specs.Instances.{Exports}
 use Rattle.smith_validate.specs.Judges.{IsNamed, Refutes}
 use Rattle.smith_validate.specs.Modules.{entries_in}
-use Rattle.smith_validate.specs.Outcome.{Lacks}
+use Rattle.smith_validate.specs.Outcome.{IsUnmet, Lacks}
 use Rattle.smith_validate.specs.Parts.{IsOpen, IsOpenNow}
 use Rattle.smith_validate.specs.declared.body.Body.{Body as KeptBody}
 use Rattle.smith_validate.specs.declared.error.Demand.{Demand}
@@ -56,9 +56,9 @@ module _ (outer : List FactScope) (names : List (List Id)) (table : List Exports
 -- types
 abbrev pub types_row : List FactScope → Row Entry Body
 types_row outer = record {
-  valid = λ d es b. ValidEntries (demanded d) es outer b;
+  valid = λ d es b. ValidEntries d es outer b;
   after = λ es b. after_entries es outer b;
-  one = λ d e b. ValidEntry (demanded d) e b.own outer × IsSmall (with_facts b (facts e b.own outer ∷ []));
+  one = λ d e b. ValidEntry d e b.own outer × IsSmall d (with_facts b (facts e b.own outer ∷ []));
   next = λ e b. with_facts b (facts e b.own outer ∷ []);
   same = λ d e rest b. record { to = λ q. ((q.0, q.1), q.2); from = λ q. (q.0.0, q.0.1, q.1) };
   step = λ e rest b. refl;
@@ -68,9 +68,9 @@ types_row outer = record {
 -- core types
 abbrev pub cores_row : Row CoreEntry Body
 cores_row = record {
-  valid = λ d es b. ValidCores es b;
+  valid = λ d es b. ValidCores d es b;
   after = after_cores;
-  one = λ d e b. ValidCore (entries_in b.own) e × IsSmall (with_core_facts b (core_facts e b.own ∷ []));
+  one = λ d e b. ValidCore d (entries_in b.own) e × IsSmall d (with_core_facts b (core_facts e b.own ∷ []));
   next = λ e b. with_core_facts b (core_facts e b.own ∷ []);
   same = λ d e rest b. record { to = λ q. ((q.0, q.1), q.2); from = λ q. (q.0.0, q.0.1, q.1) };
   step = λ e rest b. refl;
@@ -80,9 +80,9 @@ cores_row = record {
 -- canonical functions
 abbrev pub canons_row : Row Canon At
 canons_row = record {
-  valid = λ d fs at. ValidCanons fs at.1;
+  valid = λ d fs at. ValidCanons d fs at.1;
   after = λ fs at. (fold spaces_after_canon at.0 fs, fold after_canon at.1 fs);
-  one = λ d f at. IsSmall (after_canon at.1 f);
+  one = λ d f at. IsSmall d (after_canon at.1 f);
   next = λ f at. (spaces_after_canon at.0 f, after_canon at.1 f);
   same = λ d f rest at. record { to = λ q. q; from = λ q. q };
   step = λ f rest at. refl;
@@ -92,9 +92,9 @@ canons_row = record {
 -- imports
 abbrev pub imports_row : List FactScope → Row ImportEntry At
 imports_row outer = record {
-  valid = λ d is at. ValidImports (demanded d) (imported_references is) outer at.1;
+  valid = λ d is at. ValidImports d (imported_references is) outer at.1;
   after = λ is at. (fold spaces_after_import at.0 is, fold (after_import outer) at.1 (imported_references is));
-  one = λ d i at. demanded d (imported at.1) (externs_at at.1.own outer i.to) × IsSmall (after_import outer at.1 i.to);
+  one = λ d i at. Keeps d.names (RefersTo (imported at.1) (externs_at at.1.own outer i.to)) × IsSmall d (after_import outer at.1 i.to);
   next = λ i at. (spaces_after_import at.0 i, after_import outer at.1 i.to);
   same = λ d i rest at. record { to = λ q. ((q.0, q.1), q.2); from = λ q. (q.0.0, q.0.1, q.1) };
   step = λ i rest at. refl;
@@ -103,8 +103,8 @@ imports_row outer = record {
 
 -- exports
 
-pub exports_split : (d : Bool) (outer : List FactScope) (xs ys : List ComponentTypeRef) (b : Body)
-    → Same (ValidExports (demanded d) (xs ++ ys) outer b) (ValidExports (demanded d) xs outer b × ValidExports (demanded d) ys outer
+pub exports_split : (d : Demands) (outer : List FactScope) (xs ys : List ComponentTypeRef) (b : Body)
+    → Same (ValidExports d (xs ++ ys) outer b) (ValidExports d xs outer b × ValidExports d ys outer
     (fold (after_export outer) b xs))
 exports_split d outer [] ys b = record { to = λ q. (tt, q); from = λ q. q.1 }
 exports_split d outer (x ∷ xs) ys b =
@@ -118,9 +118,9 @@ exports_step outer e rest s b = fold-append (after_export outer) b (exported_ref
 
 abbrev pub exports_row : List FactScope → Row ExportEntry At
 exports_row outer = record {
-  valid = λ d es at. ValidExports (demanded d) (exported_references at.0 es) outer at.1;
+  valid = λ d es at. ValidExports d (exported_references at.0 es) outer at.1;
   after = λ es at. (fold spaces_after_export at.0 es, fold (after_export outer) at.1 (exported_references at.0 es));
-  one = λ d e at. ValidExports (demanded d) (exported_reference at.0 e) outer at.1;
+  one = λ d e at. ValidExports d (exported_reference at.0 e) outer at.1;
   next = λ e at. (spaces_after_export at.0 e, fold (after_export outer) at.1 (exported_reference at.0 e));
   same = λ d e rest at. exports_split d outer (exported_reference at.0 e) (exported_references (spaces_after_export at.0 e) rest) at.1;
   step = λ e rest at. ap (λ (y : Body). (fold spaces_after_export (spaces_after_export at.0 e) rest, y)) (exports_step outer e rest at.0 at.1);
@@ -130,9 +130,9 @@ exports_row outer = record {
 -- Parts. What follows all of them is not asked.
 abbrev pub parts_row : List FactScope → Row Part At
 parts_row outer = record {
-  valid = λ d ps at. ValidParts (demanded d) (tree_of ps) at.0 outer at.1;
+  valid = λ d ps at. ValidParts d (tree_of ps) at.0 outer at.1;
   after = λ ps at. (no_spaces, empty_body);
-  one = λ d p at. ValidPart (demanded d) p at.0 outer at.1;
+  one = λ d p at. ValidPart d p at.0 outer at.1;
   next = λ p at. (spaces_after at.0 p, after_part p at.0 outer at.1);
   same = λ d p rest at. record { to = λ q. q; from = λ q. q };
   step = λ p rest at. refl;
@@ -170,7 +170,7 @@ pub one_function : (s : Spaces) (e : ExportEntry) (t : ℕ) → slice_get s.func
 one_function s e t h = ap (λ o. s.functions ++ option_to_list o) h
 
 -- what a demand that is not met says
-pub unmet : (d : Demand) (t : Tree) → Refutes (Invalid d) (IsBounded t) → (IsNamed (Invalid d) → WellFormed t → ¬ (Validates t)) → Lacks d t
+pub unmet : (d : Demand) (t : Tree) → Refutes (Invalid d) (λ a. ValidTree a t) → (IsNamed (Invalid d) → WellFormed t → IsUnmet demand.Named t) → Lacks d t
 unmet demand.Named t r n = n tt
 unmet demand.Size t r n = r.is tt
 unmet demand.Count t r n = r.is tt

@@ -1,14 +1,16 @@
 -- Entries of a section one by one, where what is kept is exact.
-use Rattle.std.proofs.Common.{◌≡◌, ℕ, ◌+◌, ◌<◌, ◌≤◌, true, List, [], ◌∷◌, map, length, get_or, sym, ◌∙◌, subst, refl}
+use Rattle.std.proofs.Common.{◌≡◌, ℕ, ◌+◌, ◌<◌, ◌≤◌, List, [], ◌∷◌, map, length, get_or, sym, ◌∙◌, subst, refl}
 use Rattle.std.proofs.Math.ListN.{drop}
 use Rattle.smith_input.proofs.Rests.{drop_past, rest_at}
+use Rattle.smith_validate.specs.Outcome.{asking}
+use Rattle.smith_validate.specs.declared.error.Demand.TheVariants.{Named}
 use Rattle.smith_validate.proofs.Rows.{Row}
 
 -- What was judged, and what is left, with `at` before what is left.
 pub record RowExactly {B St : Type 0} (r : Row B St) (usual : List B → St → Type 0) (start : St) (all : List B) (T : St → Type 0) (rest : List B) : Type 0 where
   pub at : St
   pub is : T at
-  pub left : r.valid true all start → r.valid true rest at
+  pub left : r.valid (asking Named) all start → r.valid (asking Named) rest at
   pub usual_is : usual rest at
   pub after_is : r.after all start ≡ r.after rest at
 
@@ -21,13 +23,13 @@ module _ {B St : Type 0} (r : Row B St) (usual : List B → St → Type 0) (star
     exact_next U u v = record {
       at = r.next x l.at;
       is = u;
-      left = λ q. ((r.same true x rest l.at).to (l.left q)).1;
+      left = λ q. ((r.same (asking Named) x rest l.at).to (l.left q)).1;
       usual_is = v;
       after_is = l.after_is ∙ r.step x rest l.at;
     }
 
-    pub exact_exit : ¬ (r.one true x l.at) → ¬ (r.valid true all start)
-    exact_exit n = λ q. n ((r.same true x rest l.at).to (l.left q)).0
+    pub exact_exit : ¬ (r.one (asking Named) x l.at) → ¬ (r.valid (asking Named) all start)
+    exact_exit n = λ q. n ((r.same (asking Named) x rest l.at).to (l.left q)).0
 
   pub exact_after : (T : St → Type 0) (l : RowExactly r usual start all T []) → r.after [] l.at ≡ l.at → T (r.after all start)
   exact_after T l e = subst T (sym (l.after_is ∙ e)) l.is

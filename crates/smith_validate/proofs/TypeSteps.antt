@@ -1,15 +1,18 @@
 -- Types that are declared, and aliases of types.
-use Rattle.std.proofs.Common.{◌≡◌, ℕ, zero, suc, Bool, List, [], ◌∷◌, ◌++◌, sym, subst, append-nil, append_assoc}
-use Rattle.std.specs.Option.{option_to_list}
+use Rattle.std.proofs.Common.{◌≡◌, ℕ, zero, suc, Bool, List, [], ◌∷◌, ◌++◌, sym, subst, append-nil, append_assoc, Option, Some, None, Result}
+use Rattle.std.specs.Option.{option_map, option_to_list}
 use Rattle.std.specs.Prelude.{slice_get}
-use Rattle.smith_validity.specs.Bodies.{Body, named_in}
-use Rattle.smith_validity.specs.Facts.{FactScope, Facts, Id, needs}
+use Rattle.smith_validity.specs.Bodies.{Body, IsSmall, named_in, with_core_facts, with_facts}
+use Rattle.smith_validity.specs.Facts.{CoreFacts, FactScope, Facts, Id, needs}
 use Rattle.smith_validity.specs.Validates.{names_of}
 use Rattle.smith_validate.specs.Bodies.{IsBody}
 use Rattle.smith_validate.specs.Instances.{AreKept, Exports, IsKept, IsTable, ScopesKept, reach_of}
-use Rattle.smith_validate.specs.Kept.{type_in}
+use Rattle.smith_validate.specs.Judges.{Judges}
+use Rattle.smith_validate.specs.Kept.{capped, kept_core, type_in}
 use Rattle.smith_validate.specs.Nested.{IsDeclared}
 use Rattle.smith_validate.specs.declared.body.Body.{Body as KeptBody}
+use Rattle.smith_validate.specs.declared.error.Stop.{Stop}
+use Rattle.smith_validate.specs.declared.facts.CoreFacts.{CoreFacts as KeptCore}
 use Rattle.smith_validate.specs.declared.facts.Facts.{Facts as KeptFacts}
 use Rattle.smith_validate.specs.declared.known.Known.{Known}
 use Rattle.smith_validate.proofs.Covering.{covers_outer}
@@ -78,3 +81,15 @@ body_declared asks k new o b outer names table more s own outers instances = rec
   small = s.small;
   role_is = role_more table more names asks o.role b s.role_is;
 }
+
+-- An alias is counted as the type that it is of.
+
+pub alias_judged : {A : Type 0} (r : Result A Stop) (b : Body) (size : ℕ) (f : Option Facts) → Some size ≡ option_map (λ g. capped g.size) f
+    → ((g : Facts) → Judges r (λ d. IsSmall d (with_facts b (g ∷ [])))) → Judges r (λ d. IsSmall d (with_facts b (option_to_list f)))
+alias_judged r b size None e j = absurd (let z : Some size ≡ None = e in cc)
+alias_judged r b size (Some g) e j = j g
+
+pub core_alias_judged : {A : Type 0} (r : Result A Stop) (b : Body) (k : KeptCore) (f : Option CoreFacts) → Some k ≡ option_map kept_core f
+    → ((g : CoreFacts) → Judges r (λ d. IsSmall d (with_core_facts b (g ∷ [])))) → Judges r (λ d. IsSmall d (with_core_facts b (option_to_list f)))
+core_alias_judged r b k None e j = absurd (let z : Some k ≡ None = e in cc)
+core_alias_judged r b k (Some g) e j = j g

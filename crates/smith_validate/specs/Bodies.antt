@@ -2,8 +2,9 @@
 use Rattle.std.specs.Prelude.{◌≡◌, Bool, true, false, List, [], ◌∷◌, ◌++◌, length, map}
 use Rattle.smith_validity.specs.Bodies.{Body, IsSmall}
 use Rattle.smith_validity.specs.Counts.{no_counts}
+use Rattle.smith_validity.specs.Demands.{everything}
 use Rattle.smith_validity.specs.Facts.{Extern, FactScope, Id}
-use Rattle.smith_validity.specs.Validates.{NoDemand, RefersTo, exported, imported, names_of}
+use Rattle.smith_validity.specs.Validates.{exported, imported, names_of}
 use Rattle.smith_validate.specs.Counted.{counted}
 use Rattle.smith_validate.specs.Exposure.{IsExposed}
 use Rattle.smith_validate.specs.Exposing.{IsSettled}
@@ -22,11 +23,6 @@ use Rattle.smith_validate.specs.declared.known.Known.{Known}
 -- It is another reason to stop than a bound.
 abbrev pub IsOther : Stop → Type 0
 IsOther e = ¬ (IsPassed e)
-
--- what is demanded of names: that what is referred to is named, or nothing
-abbrev pub demanded : Bool → List Id → List Extern → Type 0
-demanded true = RefersTo
-demanded false = NoDemand
 
 -- The scopes are these. The innermost and those around it name these, and types of instances export that.
 pub record IsIn (k : Known) (own : FactScope) (outer : List FactScope) (here : List Id) (names : List (List Id)) (table : List Exports) : Type 0 where
@@ -68,7 +64,7 @@ pub record IsBody (asks : Bool) (k : Known) (o : Kept) (b : Body) (outer : List 
   pub scopes : IsIn k b.own outer (names_of b.exports) names table
   pub size_is : o.size ≡ b.size
   pub counts_are : counted o.counts ≡ b.counts
-  pub small : IsSmall b
+  pub small : IsSmall everything b
   pub role_is : IsRole table names asks o.role b
 
 -- The same, with more types of instances.

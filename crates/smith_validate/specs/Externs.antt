@@ -1,11 +1,12 @@
 -- What is imported or exported, and what is kept of it.
-use Rattle.std.specs.Prelude.{◌≡◌, ℕ, Bool, true, false, List, [], ◌∷◌, ◌++◌, Option, None, Some, map, slice_get}
+use Rattle.std.specs.Prelude.{◌≡◌, ℕ, Bool, List, [], ◌∷◌, ◌++◌, Option, None, Some, map, slice_get}
 use Rattle.std.specs.Option.{option_map, option_to_list}
 use Rattle.smith_syntax.specs.declared.deftype.ComponentTypeRef.{ComponentTypeRef}
 use Rattle.smith_syntax.specs.declared.deftype.ComponentTypeRef.TheVariants as to
 use Rattle.smith_validity.specs.Bodies.{Body}
+use Rattle.smith_validity.specs.Demands.{Demands, Keeps, everything}
 use Rattle.smith_validity.specs.Facts.{Extern, Id}
-use Rattle.smith_validate.specs.Bodies.{demanded}
+use Rattle.smith_validity.specs.Validates.{RefersTo}
 use Rattle.smith_validate.specs.Instances.{Exports, IsKnown, Piece, externs_in, reach, uses_in}
 use Rattle.smith_validate.specs.Marks.{Covers, named_facts}
 use Rattle.smith_validate.specs.declared.body.Extern.{Extern as KeptExtern}
@@ -61,11 +62,9 @@ with_imports b xs = record b { imports = b.imports ++ xs }
 abbrev pub with_exports : Body → List Extern → Body
 with_exports b xs = record b { exports = b.exports ++ xs }
 
--- Where names are asked, what is referred to is named; or the demand is met.
-
-abbrev pub IsAskedFor : Bool → Bool → List Id → List Extern → Type 0
-IsAskedFor d true named xs = demanded d named xs
-IsAskedFor d false named xs = Unit {0}
+-- Where names are asked, what is referred to is named, if that is demanded.
+abbrev pub IsAskedFor : Demands → Bool → List Id → List Extern → Type 0
+IsAskedFor d asks named xs = Keeps asks (Keeps d.names (RefersTo named xs))
 
 abbrev pub IsAsked : Bool → List Id → List Extern → Type 0
-IsAsked asks named xs = IsAskedFor true asks named xs
+IsAsked = IsAskedFor everything

@@ -1,5 +1,7 @@
--- What the result of a judgement says of a fact about bounds.
+-- What the result of a judgement says of demands.
 use Rattle.std.specs.Prelude.{Result, Ok, Err}
+use Rattle.smith_validity.specs.Demands.{Demands, everything}
+use Rattle.smith_validate.specs.Outcome.{asking, nothing}
 use Rattle.smith_validate.specs.declared.error.Demand.TheVariants.{Named, Size, Count, Memories, Tables}
 use Rattle.smith_validate.specs.declared.error.Stop.{Stop}
 use Rattle.smith_validate.specs.declared.error.Stop.TheVariants.{OutOfMemory, Invalid}
@@ -13,13 +15,18 @@ IsPassed (Invalid Count) = Unit {0}
 IsPassed (Invalid Memories) = Unit {0}
 IsPassed (Invalid Tables) = Unit {0}
 
--- The fact does not hold, if a bound is exceeded.
-pub record Refutes (e : Stop) (P : Type 0) : Type 0 where
-  pub is : IsPassed e → ¬ P
+-- what is asked where it stops: that demand alone
+abbrev pub asked : Stop → Demands
+asked OutOfMemory = nothing
+asked (Invalid demand) = asking demand
 
--- A judgement succeeds only where the fact holds. It stops at a bound only where the fact does not hold.
-abbrev pub Judges : {A : Type 0} → Result A Stop → Type 0 → Type 0
-Judges (Ok x) P = P
+-- The demand does not hold, if a bound is exceeded.
+pub record Refutes (e : Stop) (P : Demands → Type 0) : Type 0 where
+  pub is : IsPassed e → ¬ (P (asked e))
+
+-- A judgement succeeds only where every demand holds. It stops at a bound only where that demand alone does not hold.
+abbrev pub Judges : {A : Type 0} → Result A Stop → (Demands → Type 0) → Type 0
+Judges (Ok x) P = P everything
 Judges (Err e) P = Refutes e P
 
 -- It is that something has to be named.

@@ -1,3 +1,4 @@
+pub mod CoreModules
 pub mod Bodies
 pub mod Counted
 pub mod Nested

@@ -7,6 +7,7 @@ use Rattle.smith_format.specs.declared.types.ExportKind.{ExportKind}
 use Rattle.smith_format.specs.declared.types.ExportKind.TheVariants as kind
 use Rattle.smith_syntax.specs.Entries.{CoreEntry, ModuleDecl}
 use Rattle.smith_syntax.specs.ModuleTypes.{entities_in, is_of_kind}
+use Rattle.smith_validity.specs.Demands.{Demands, Keeps}
 use Rattle.smith_validity.specs.Facts.{FactScope}
 use Rattle.smith_validity.specs.Sizes.{entity_size, function_size, imported_of_kind, size_bound}
 use Rattle.smith_validate.specs.Kept.{capped}
@@ -33,11 +34,11 @@ pub record IsSmallModule (m : Module) : Type 0 where
   pub memories : m.memories ≤ 100
   pub tables : m.tables ≤ 100
 
--- It is with that much more.
-pub record Fits (m : Module) (size memories tables : ℕ) : Type 0 where
-  pub size_fits : m.size + size < size_bound
-  pub memories_fit : m.memories + memories ≤ 100
-  pub tables_fit : m.tables + tables ≤ 100
+-- It is below those that are asked, with that much more.
+pub record Fits (d : Demands) (m : Module) (size memories tables : ℕ) : Type 0 where
+  pub size_fits : Keeps d.sizes (m.size + size < size_bound)
+  pub memories_fit : Keeps d.memories (m.memories + memories ≤ 100)
+  pub tables_fit : Keeps d.tables (m.tables + tables ≤ 100)
 
 -- So much was added.
 pub record Grows (old new : Module) (size memories tables : ℕ) : Type 0 where

@@ -2,6 +2,7 @@
 
 ghost use Rattle.std.specs.Prelude.{◌≡◌, ◌+◌, ◌++◌, ◌<◌, ℕ, [], List, false, true, IfErr, OnOk};
 ghost use Rattle.std.specs.Option.{option_to_list};
+ghost use Rattle.smith_validity.specs.Demands.{Keeps};
 ghost use Rattle.smith_validity.specs.Facts.{Id};
 ghost use Rattle.smith_validity.specs.Sizes.{size_bound};
 ghost use Rattle.smith_validate.specs.Bodies.{IsEmpty, IsOther};
@@ -161,7 +162,8 @@ impl Body {
     /// Adds the size of an import or an export.
     pub(crate) fn add_size(&mut self, size: u32) -> Result<(), Stop>
         ensures bound { IfErr result IsUnnamed }
-        ensures judged { (n : ℕ) → size ≡ capped n → Judges result (self.old.size + n < size_bound) }
+        ensures judged { (n : ℕ) → size ≡ capped n → Judges result
+            (λ d. Keeps d.sizes (self.old.size + n < size_bound)) }
         ensures size { (n : ℕ) → size ≡ capped n → OnOk result (self.new.size ≡ self.old.size + n) }
         ensures counts { self.new.counts ≡ self.old.counts }
         ensures role { self.new.role ≡ self.old.role }

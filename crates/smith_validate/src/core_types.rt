@@ -47,7 +47,8 @@ fn function_size(ty: &FuncType) -> u32
 fn one_imported(count: usize, demand: Demand) -> Result<usize, Stop>
     requires { IsUnnamed (Invalid demand) }
     ensures bound { IfErr result IsUnnamed }
-    ensures judged { Judges result (count + 1 ≤ 100) }
+    ensures judged { OnOk result (count + 1 ≤ 100) }
+    ensures passed { IfErr result (λ e. (e ≡ Invalid demand) × (¬ (count + 1 ≤ 100))) }
     ensures value { IfOk result (λ n. n ≡ count + 1) }
 {
     if count < MOST_IMPORTED {
@@ -108,7 +109,7 @@ impl Module {
     fn add_entity(&mut self, entity: EntityType) -> Result<(), Stop>
         ensures bound { IfErr result IsUnnamed }
         ensures judged { (fs : List Function) → self.old.own.items ≡ sizes_in fs → IsSmallModule self.old
-            → Judges result (Fits self.old (entity_size fs entity) 0 0) }
+            → Judges result (λ d. Fits d self.old (entity_size fs entity) 0 0) }
         ensures grown { (fs : List Function) → self.old.own.items ≡ sizes_in fs
             → OnOk result (Grows self.old self.new (entity_size fs entity) 0 0) }
         ensures own { self.new.own.items ≡ self.old.own.items }
@@ -125,7 +126,7 @@ impl Module {
     fn count_import(&mut self, entity: EntityType) -> Result<(), Stop>
         ensures bound { IfErr result IsUnnamed }
         ensures judged { IsSmallModule self.old → Judges result
-            (Fits self.old 0 (one_of_kind kind.Memory entity) (one_of_kind kind.Table entity)) }
+            (λ d. Fits d self.old 0 (one_of_kind kind.Memory entity) (one_of_kind kind.Table entity)) }
         ensures grown { OnOk result
             (Grows self.old self.new 0 (one_of_kind kind.Memory entity) (one_of_kind kind.Table entity)) }
         ensures own { self.new.own.items ≡ self.old.own.items }
@@ -147,8 +148,8 @@ impl Module {
     fn add_import(&mut self, entity: EntityType) -> Result<(), Stop>
         ensures bound { IfErr result IsUnnamed }
         ensures judged { (fs : List Function) → self.old.own.items ≡ sizes_in fs → IsSmallModule self.old
-            → Judges result
-            (Fits self.old (entity_size fs entity) (one_of_kind kind.Memory entity) (one_of_kind kind.Table entity)) }
+            → Judges result (λ d.
+            Fits d self.old (entity_size fs entity) (one_of_kind kind.Memory entity) (one_of_kind kind.Table entity)) }
         ensures grown { (fs : List Function) → self.old.own.items ≡ sizes_in fs → OnOk result
             (Grows self.old self.new (entity_size fs entity) (one_of_kind kind.Memory entity)
             (one_of_kind kind.Table entity)) }
@@ -177,7 +178,7 @@ impl Module {
     // Adds a function type of that size, if there is one.
     fn push(&mut self, size: Option<u32>) -> Result<(), Stop>
         ensures bound { IfErr result IsUnnamed }
-        ensures judged { IsSmallModule self.old → Judges result (Fits self.old 0 0 0) }
+        ensures judged { IsSmallModule self.old → Judges result (λ d. Fits d self.old 0 0 0) }
         ensures grown { OnOk result (Grows self.old self.new 0 0 0) }
         ensures own { OnOk result (self.new.own.items ≡ self.old.own.items ++ option_to_list size) }
     {
@@ -191,8 +192,8 @@ impl Module {
     fn add(&mut self, around: &Scope, decl: &ModuleNode) -> Result<(), Stop>
         ensures bound { IfErr result IsUnnamed }
         ensures judged { (fs : List Function) → self.old.own.items ≡ sizes_in fs → IsSmallModule self.old
-            → Judges result
-            (Fits self.old (added_size fs (shown_module_node decl.now)) (memories_in (shown_module_node decl.now))
+            → Judges result (λ d.
+            Fits d self.old (added_size fs (shown_module_node decl.now)) (memories_in (shown_module_node decl.now))
             (tables_in (shown_module_node decl.now))) }
         ensures grown { (fs : List Function) → self.old.own.items ≡ sizes_in fs → OnOk result
             (Grows self.old self.new (added_size fs (shown_module_node decl.now))
@@ -217,7 +218,7 @@ impl Module {
 fn module_of(alloc: Global, around: &Scope, decls: &[ModuleNode]) -> Result<Module, Stop>
     ensures bound { IfErr result IsUnnamed }
     ensures judged { (own : FactScope) → kept_in around.now ≡ kept_of own
-        → Judges result (ValidCore (entries_in own) (core_module (map shown_module_node decls.now))) }
+        → Judges result (λ d. ValidCore d (entries_in own) (core_module (map shown_module_node decls.now))) }
     ensures size { (own : FactScope) → kept_in around.now ≡ kept_of own → IfOk result
         (λ m. m.size ≡ capped (core_size (entries_in own) (core_module (map shown_module_node decls.now)))) }
 {
@@ -232,7 +233,7 @@ fn module_of(alloc: Global, around: &Scope, decls: &[ModuleNode]) -> Result<Modu
 pub(crate) fn core_facts(alloc: Global, around: &Scope, ty: &CoreNode) -> Result<CoreFacts, Stop>
     ensures bound { IfErr result IsUnnamed }
     ensures judged { (own : FactScope) → kept_in around.now ≡ kept_of own
-        → Judges result (ValidCore (entries_in own) (shown_core_node ty.now)) }
+        → Judges result (λ d. ValidCore d (entries_in own) (shown_core_node ty.now)) }
     ensures kept { (own : FactScope) → kept_in around.now ≡ kept_of own
         → IfOk result (λ f. f ≡ kept_core (core_facts (shown_core_node ty.now) own)) }
 {

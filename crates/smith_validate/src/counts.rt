@@ -3,6 +3,7 @@
 ghost use Rattle.std.specs.Prelude.{◌≡◌, ◌+◌, ◌≤◌, IfErr, IfOk, OnOk};
 ghost use Rattle.smith_validity.specs.Counts.{ValidCounts, no_counts, with_component, with_export, with_function};
 ghost use Rattle.smith_validity.specs.Counts.{with_import, with_module, with_reference, with_type_count};
+ghost use Rattle.smith_validity.specs.Demands.{Keeps};
 ghost use Rattle.smith_validate.specs.Counted.{counted};
 ghost use Rattle.smith_validate.specs.Judges.{IsUnnamed, Judges};
 
@@ -31,7 +32,7 @@ pub(crate) struct Counts {
 // One more, of at most that many.
 fn one_more(count: usize, most: usize) -> Result<usize, Stop>
     ensures bound { IfErr result IsUnnamed }
-    ensures judged { Judges result (count + 1 ≤ most) }
+    ensures judged { Judges result (λ d. Keeps d.counts (count + 1 ≤ most)) }
     ensures value { IfOk result (λ n. n ≡ count + 1) }
 {
     if count < most {
@@ -59,7 +60,7 @@ impl Counts {
     pub(crate) fn add_type(&mut self) -> Result<(), Stop>
         ensures bound { IfErr result IsUnnamed }
         ensures judged { ValidCounts (counted self.old)
-            → Judges result (ValidCounts (with_type_count (counted self.old) 1)) }
+            → Judges result (λ d. Keeps d.counts (ValidCounts (with_type_count (counted self.old) 1))) }
         ensures added { OnOk result (counted self.new ≡ with_type_count (counted self.old) 1) }
     {
         self.types = one_more(self.types, MANY)?;
@@ -69,7 +70,7 @@ impl Counts {
     pub(crate) fn add_function(&mut self) -> Result<(), Stop>
         ensures bound { IfErr result IsUnnamed }
         ensures judged { ValidCounts (counted self.old)
-            → Judges result (ValidCounts (with_function (counted self.old))) }
+            → Judges result (λ d. Keeps d.counts (ValidCounts (with_function (counted self.old)))) }
         ensures added { OnOk result (counted self.new ≡ with_function (counted self.old)) }
     {
         self.functions = one_more(self.functions, MANY)?;
@@ -78,7 +79,8 @@ impl Counts {
 
     pub(crate) fn add_module(&mut self) -> Result<(), Stop>
         ensures bound { IfErr result IsUnnamed }
-        ensures judged { ValidCounts (counted self.old) → Judges result (ValidCounts (with_module (counted self.old))) }
+        ensures judged { ValidCounts (counted self.old)
+            → Judges result (λ d. Keeps d.counts (ValidCounts (with_module (counted self.old)))) }
         ensures added { OnOk result (counted self.new ≡ with_module (counted self.old)) }
     {
         self.modules = one_more(self.modules, FEW)?;
@@ -88,7 +90,7 @@ impl Counts {
     pub(crate) fn add_component(&mut self) -> Result<(), Stop>
         ensures bound { IfErr result IsUnnamed }
         ensures judged { ValidCounts (counted self.old)
-            → Judges result (ValidCounts (with_component (counted self.old))) }
+            → Judges result (λ d. Keeps d.counts (ValidCounts (with_component (counted self.old)))) }
         ensures added { OnOk result (counted self.new ≡ with_component (counted self.old)) }
     {
         self.components = one_more(self.components, FEW)?;
@@ -99,7 +101,7 @@ impl Counts {
     fn add(&mut self, to: ComponentTypeRef) -> Result<(), Stop>
         ensures bound { IfErr result IsUnnamed }
         ensures judged { ValidCounts (counted self.old)
-            → Judges result (ValidCounts (with_reference (counted self.old) to)) }
+            → Judges result (λ d. Keeps d.counts (ValidCounts (with_reference (counted self.old) to))) }
         ensures added { OnOk result (counted self.new ≡ with_reference (counted self.old) to) }
     {
         match to {
@@ -118,7 +120,7 @@ impl Counts {
     pub(crate) fn add_import(&mut self, to: ComponentTypeRef) -> Result<(), Stop>
         ensures bound { IfErr result IsUnnamed }
         ensures judged { ValidCounts (counted self.old)
-            → Judges result (ValidCounts (with_import (counted self.old) to)) }
+            → Judges result (λ d. Keeps d.counts (ValidCounts (with_import (counted self.old) to))) }
         ensures added { OnOk result (counted self.new ≡ with_import (counted self.old) to) }
     {
         self.imports = one_more(self.imports, MANY)?;
@@ -129,7 +131,7 @@ impl Counts {
     pub(crate) fn add_export(&mut self, to: ComponentTypeRef) -> Result<(), Stop>
         ensures bound { IfErr result IsUnnamed }
         ensures judged { ValidCounts (counted self.old)
-            → Judges result (ValidCounts (with_export (counted self.old) to)) }
+            → Judges result (λ d. Keeps d.counts (ValidCounts (with_export (counted self.old) to))) }
         ensures added { OnOk result (counted self.new ≡ with_export (counted self.old) to) }
     {
         self.exports = one_more(self.exports, MANY)?;

@@ -18,8 +18,8 @@ pub enum Demand {
     /// exports each. A bound of wasmparser's own.
     #[error("there are too many entries of one sort")]
     Count,
-    /// A module type imports at most 100 memories. A bound of wasmparser's own.
-    #[error("a module type imports more than 100 memories")]
+    /// A core module has at most 100 memories, and a module type imports at most 100. A bound of wasmparser's own.
+    #[error("a core module has, or a module type imports, more than 100 memories")]
     Memories,
     /// A module type imports at most 100 tables. A bound of wasmparser's own.
     #[error("a module type imports more than 100 tables")]

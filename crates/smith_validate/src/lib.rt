@@ -3,6 +3,7 @@
 #![tactic(auto)]
 
 mod body;
+mod core_modules;
 mod core_types;
 mod counts;
 mod error;

@@ -10,6 +10,7 @@ ghost use Rattle.smith_tree.specs.Spaces.{after_import as spaces_after_import, a
 ghost use Rattle.smith_tree.specs.Tree.{tree_of};
 ghost use Rattle.smith_validity.specs.Bodies.{Body as PlainBody, IsSmall, after_export, after_import, core_facts};
 ghost use Rattle.smith_validity.specs.Bodies.{empty_body, externs_at, facts, with_core_facts, with_facts};
+ghost use Rattle.smith_validity.specs.Demands.{Keeps};
 ghost use Rattle.smith_validity.specs.Facts.{FactScope, Id};
 ghost use Rattle.smith_validity.specs.Sizes.{ValidCore};
 ghost use Rattle.smith_validity.specs.Validates.{RefersTo, ValidCanons, imported};
@@ -21,19 +22,21 @@ ghost use Rattle.smith_read_types.specs.Nodes.{shown_core_node};
 ghost use Rattle.smith_read_types.specs.TypeNodes.{shown_type_node};
 ghost use Rattle.smith_read.specs.PartNodes.{shown_canon_node, shown_export_node, shown_import_node};
 ghost use Rattle.smith_read.specs.PartNodes.{shown_part_node, shown_tree};
-ghost use Rattle.smith_validate.specs.Bodies.{IsBody, IsBodyNow, IsEmpty, IsFresh, IsIn, demanded};
+ghost use Rattle.smith_validate.specs.Bodies.{IsBody, IsBodyNow, IsEmpty, IsFresh, IsIn};
 ghost use Rattle.smith_validate.specs.Exact.{AreKnown, IsBodyExactly, IsBodyExactlyAfter};
 ghost use Rattle.smith_validate.specs.Instances.{Exports, IsTableNow};
 ghost use Rattle.smith_validate.specs.Judges.{IsNamed, IsUnnamed, Judges};
 ghost use Rattle.smith_validate.specs.Modules.{entries_in};
-ghost use Rattle.smith_validate.specs.Outcome.{IsOutcome};
+ghost use Rattle.smith_validate.specs.Outcome.{IsOutcome, asking};
 ghost use Rattle.smith_validate.specs.Parts.{IsOpen, IsOpenNow};
 ghost use Rattle.smith_validate.specs.Kept.{types_in};
 ghost use Rattle.smith_validate.specs.Tables.{AreExactNow};
 ghost use Rattle.smith_validate.specs.Usual.{AreUsualEntries, AreUsualParts, IsUsualEntry, IsUsualImport, IsUsualPart};
+ghost use Rattle.smith_validate.specs.declared.error.Demand.TheVariants.{Named};
 ghost use Rattle.smith_validate.specs.declared.known.Known.{Known as KnownValue};
 
 use crate::body::{Body, Role, Sets};
+use crate::core_modules::add_module;
 use crate::core_types::core_facts;
 use crate::error::{Shortfall, Stop, Validity};
 use crate::known::Known;
@@ -84,8 +87,8 @@ fn declare_core_type(
     ensures bound { IfErr result IsUnnamed }
     ensures judged { (b : PlainBody) (outer : List FactScope) (names : List (List Id)) (table : List Exports)
         → IsBody true known.old body.old b outer names table
-        → Judges result (ValidCore (entries_in b.own) (shown_core_node ty.now)
-        × IsSmall (with_core_facts b (core_facts (shown_core_node ty.now) b.own ∷ []))) }
+        → Judges result (λ d. ValidCore d (entries_in b.own) (shown_core_node ty.now)
+        × IsSmall d (with_core_facts b (core_facts (shown_core_node ty.now) b.own ∷ []))) }
     ensures added { (b : PlainBody) (outer : List FactScope) (names : List (List Id)) (table : List Exports)
         → IsBody true known.old body.old b outer names table → OnOk result (IsBody true known.new body.new
         (with_core_facts b (core_facts (shown_core_node ty.now) b.own ∷ [])) outer names table) }
@@ -109,7 +112,7 @@ fn add_core_types(
     ensures bound { IfErr result IsUnnamed }
     ensures judged { (b : PlainBody) (outer : List FactScope) (names : List (List Id)) (table : List Exports)
         → IsBody true known.old body.old b outer names table
-        → Judges result (ValidCores (map shown_core_node types.now) b) }
+        → Judges result (λ d. ValidCores d (map shown_core_node types.now) b) }
     ensures added { (b : PlainBody) (outer : List FactScope) (names : List (List Id)) (table : List Exports)
         → IsBody true known.old body.old b outer names table → OnOk result
         (IsBody true known.new body.new (after_cores (map shown_core_node types.now) b) outer names table) }
@@ -129,10 +132,10 @@ fn declare_type(
     body: &mut Body,
     ty: &TypeNode,
 ) -> Result<(), Stop>
-    ensures judged { (d : Bool) (b : PlainBody) (outer : List FactScope) (names : List (List Id))
+    ensures judged { (b : PlainBody) (outer : List FactScope) (names : List (List Id))
         (table : List Exports) → IsBody true known.old body.old b outer names table
-        → Judges result (ValidEntry (demanded d) (shown_type_node ty.now) b.own outer
-        × IsSmall (with_facts b (facts (shown_type_node ty.now) b.own outer ∷ []))) }
+        → Judges result (λ d. ValidEntry d (shown_type_node ty.now) b.own outer
+        × IsSmall d (with_facts b (facts (shown_type_node ty.now) b.own outer ∷ []))) }
     ensures added { (b : PlainBody) (outer : List FactScope) (names : List (List Id)) (table : List Exports)
         → IsBody true known.old body.old b outer names table → OnOk result (IsBodyNow true known.new body.new
         (with_facts b (facts (shown_type_node ty.now) b.own outer ∷ [])) outer names table) }
@@ -143,7 +146,7 @@ fn declare_type(
     ensures refused { (b : PlainBody) (outer : List FactScope) (named : List Id) (table : List Exports)
         → IsBodyExactly true known.old body.old b outer named table
         → IsUsualEntry (shown_type_node ty.now) b.own outer
-        → IfErr result (λ e. IsNamed e → ¬ (ValidEntry RefersTo (shown_type_node ty.now) b.own outer)) }
+        → IfErr result (λ e. IsNamed e → ¬ (ValidEntry (asking Named) (shown_type_node ty.now) b.own outer)) }
     ensures outer { OnOk result (known.new.outer.items ≡ known.old.outer.items) }
 {
     let facts = type_facts(alloc, known, ty)?;
@@ -158,9 +161,9 @@ fn add_types(
     body: &mut Body,
     types: &[TypeNode],
 ) -> Result<(), Stop>
-    ensures judged { (d : Bool) (b : PlainBody) (outer : List FactScope) (names : List (List Id))
+    ensures judged { (b : PlainBody) (outer : List FactScope) (names : List (List Id))
         (table : List Exports) → IsBody true known.old body.old b outer names table
-        → Judges result (ValidEntries (demanded d) (map shown_type_node types.now) outer b) }
+        → Judges result (λ d. ValidEntries d (map shown_type_node types.now) outer b) }
     ensures added { (b : PlainBody) (outer : List FactScope) (names : List (List Id)) (table : List Exports)
         → IsBody true known.old body.old b outer names table → OnOk result (IsBodyNow true known.new body.new
         (after_entries (map shown_type_node types.now) outer b) outer names table) }
@@ -171,7 +174,7 @@ fn add_types(
     ensures refused { (b : PlainBody) (outer : List FactScope) (named : List Id) (table : List Exports)
         → IsBodyExactly true known.old body.old b outer named table
         → AreUsualEntries (map shown_type_node types.now) outer b
-        → IfErr result (λ e. IsNamed e → ¬ (ValidEntries RefersTo (map shown_type_node types.now) outer b)) }
+        → IfErr result (λ e. IsNamed e → ¬ (ValidEntries (asking Named) (map shown_type_node types.now) outer b)) }
     ensures outer { OnOk result (known.new.outer.items ≡ known.old.outer.items) }
 {
     for ty in types {
@@ -187,7 +190,7 @@ fn add_canon(here: &mut Open, canon: &CanonNode) -> Result<(), Stop>
     ensures bound { IfErr result IsUnnamed }
     ensures judged { (k : KnownValue) (s : Spaces) (b : PlainBody) (outer : List FactScope)
         (names : List (List Id)) (table : List Exports) → IsOpen k here.old s b outer names table
-        → Judges result (IsSmall (after_canon b (shown_canon_node canon.now))) }
+        → Judges result (λ d. IsSmall d (after_canon b (shown_canon_node canon.now))) }
     ensures added { (k : KnownValue) (s : Spaces) (b : PlainBody) (outer : List FactScope)
         (names : List (List Id)) (table : List Exports) → IsOpen k here.old s b outer names table
         → OnOk result (IsOpen k here.new (spaces_after_canon s (shown_canon_node canon.now))
@@ -207,7 +210,7 @@ fn add_canons(track: &mut Track, here: &mut Open, canons: &[CanonNode]) -> Resul
     ensures bound { IfErr result IsUnnamed }
     ensures judged { (k : KnownValue) (s : Spaces) (b : PlainBody) (outer : List FactScope)
         (names : List (List Id)) (table : List Exports) → IsOpen k here.old s b outer names table
-        → Judges result (ValidCanons (map shown_canon_node canons.now) b) }
+        → Judges result (λ d. ValidCanons d (map shown_canon_node canons.now) b) }
     ensures added { (k : KnownValue) (s : Spaces) (b : PlainBody) (outer : List FactScope)
         (names : List (List Id)) (table : List Exports) → IsOpen k here.old s b outer names table → OnOk result
         (IsOpen k here.new (fold spaces_after_canon s (map shown_canon_node canons.now))
@@ -227,10 +230,11 @@ fn import_one(
     here: &mut Open,
     import: &ImportNode,
 ) -> Result<(), Stop>
-    ensures judged { (d : Bool) (s : Spaces) (b : PlainBody) (outer : List FactScope) (names : List (List Id))
+    ensures judged { (s : Spaces) (b : PlainBody) (outer : List FactScope) (names : List (List Id))
         (table : List Exports) → IsOpen known.now here.old s b outer names table
-        → Judges result (demanded d (imported b) (externs_at b.own outer (shown_import_node import.now).to)
-        × IsSmall (after_import outer b (shown_import_node import.now).to)) }
+        → Judges result (λ d. Keeps d.names
+        (RefersTo (imported b) (externs_at b.own outer (shown_import_node import.now).to))
+        × IsSmall d (after_import outer b (shown_import_node import.now).to)) }
     ensures added { (s : Spaces) (b : PlainBody) (outer : List FactScope) (names : List (List Id))
         (table : List Exports) → IsOpen known.now here.old s b outer names table
         → OnOk result (IsOpen known.now here.new (spaces_after_import s (shown_import_node import.now))
@@ -263,9 +267,9 @@ fn add_imports(
     here: &mut Open,
     imports: &[ImportNode],
 ) -> Result<(), Stop>
-    ensures judged { (d : Bool) (s : Spaces) (b : PlainBody) (outer : List FactScope) (names : List (List Id))
+    ensures judged { (s : Spaces) (b : PlainBody) (outer : List FactScope) (names : List (List Id))
         (table : List Exports) → IsOpen known.now here.old s b outer names table → Judges result
-        (ValidImports (demanded d) (imported_references (map shown_import_node imports.now)) outer b) }
+        (λ d. ValidImports d (imported_references (map shown_import_node imports.now)) outer b) }
     ensures added { (s : Spaces) (b : PlainBody) (outer : List FactScope) (names : List (List Id))
         (table : List Exports) → IsOpen known.now here.old s b outer names table → OnOk result
         (IsOpen known.now here.new (fold spaces_after_import s (map shown_import_node imports.now))
@@ -279,7 +283,7 @@ fn add_imports(
         → IsBodyExactly true known.now here.old.body b outer named table
         → AllByRecursion (IsUsualImport true) (imported_references (map shown_import_node imports.now))
         → IfErr result (λ e. IsNamed e
-        → ¬ (ValidImports RefersTo (imported_references (map shown_import_node imports.now)) outer b)) }
+        → ¬ (ValidImports (asking Named) (imported_references (map shown_import_node imports.now)) outer b)) }
 {
     for import in imports {
         import_one(alloc, known, here, import)?;
@@ -295,9 +299,9 @@ fn export_one(
     here: &mut Open,
     export: &ExportNode,
 ) -> Result<(), Stop>
-    ensures judged { (d : Bool) (s : Spaces) (b : PlainBody) (outer : List FactScope) (names : List (List Id))
+    ensures judged { (s : Spaces) (b : PlainBody) (outer : List FactScope) (names : List (List Id))
         (table : List Exports) → IsOpen known.old here.old s b outer names table → Judges result
-        (ValidExports (demanded d) (exported_reference s (shown_export_node export.now)) outer b) }
+        (λ d. ValidExports d (exported_reference s (shown_export_node export.now)) outer b) }
     ensures added { (s : Spaces) (b : PlainBody) (outer : List FactScope) (names : List (List Id))
         (table : List Exports) → IsOpen known.old here.old s b outer names table
         → OnOk result (IsOpen known.new here.new (spaces_after_export s (shown_export_node export.now))
@@ -309,7 +313,7 @@ fn export_one(
     ensures refused { (s : Spaces) (b : PlainBody) (outer : List FactScope) (named : List Id) (table : List Exports)
         → IsBodyExactly true known.old here.old.body b outer named table → here.old.functions.items ≡ s.functions
         → IfErr result (λ e. IsNamed e
-        → ¬ (ValidExports RefersTo (exported_reference s (shown_export_node export.now)) outer b)) }
+        → ¬ (ValidExports (asking Named) (exported_reference s (shown_export_node export.now)) outer b)) }
     ensures functions { (s : Spaces) → here.old.functions.items ≡ s.functions → OnOk result
         (here.new.functions.items ≡ (spaces_after_export s (shown_export_node export.now)).functions) }
     ensures outer { OnOk result (known.new.outer.items ≡ known.old.outer.items) }
@@ -330,9 +334,9 @@ fn add_exports(
     here: &mut Open,
     exports: &[ExportNode],
 ) -> Result<(), Stop>
-    ensures judged { (d : Bool) (s : Spaces) (b : PlainBody) (outer : List FactScope) (names : List (List Id))
+    ensures judged { (s : Spaces) (b : PlainBody) (outer : List FactScope) (names : List (List Id))
         (table : List Exports) → IsOpen known.old here.old s b outer names table → Judges result
-        (ValidExports (demanded d) (exported_references s (map shown_export_node exports.now)) outer b) }
+        (λ d. ValidExports d (exported_references s (map shown_export_node exports.now)) outer b) }
     ensures added { (s : Spaces) (b : PlainBody) (outer : List FactScope) (names : List (List Id))
         (table : List Exports) → IsOpen known.old here.old s b outer names table → OnOk result
         (IsOpen known.new here.new (fold spaces_after_export s (map shown_export_node exports.now))
@@ -344,7 +348,7 @@ fn add_exports(
     ensures refused { (s : Spaces) (b : PlainBody) (outer : List FactScope) (named : List Id) (table : List Exports)
         → IsBodyExactly true known.old here.old.body b outer named table → here.old.functions.items ≡ s.functions
         → IfErr result (λ e. IsNamed e
-        → ¬ (ValidExports RefersTo (exported_references s (map shown_export_node exports.now)) outer b)) }
+        → ¬ (ValidExports (asking Named) (exported_references s (map shown_export_node exports.now)) outer b)) }
     ensures outer { OnOk result (known.new.outer.items ≡ known.old.outer.items) }
 {
     for export in exports {
@@ -363,9 +367,9 @@ fn add_part(
     here: &mut Open,
     part: &PartNode,
 ) -> Result<(), Stop>
-    ensures judged { (d : Bool) (s : Spaces) (b : PlainBody) (outer : List FactScope) (names : List (List Id))
+    ensures judged { (s : Spaces) (b : PlainBody) (outer : List FactScope) (names : List (List Id))
         (table : List Exports) → IsOpen known.old here.old s b outer names table
-        → Judges result (ValidPart (demanded d) (shown_part_node part.now) s outer b) }
+        → Judges result (λ d. ValidPart d (shown_part_node part.now) s outer b) }
     ensures added { (s : Spaces) (b : PlainBody) (outer : List FactScope) (names : List (List Id))
         (table : List Exports) → IsOpen known.old here.old s b outer names table → OnOk result
         (IsOpenNow known.new here.new (spaces_after s (shown_part_node part.now))
@@ -379,12 +383,12 @@ fn add_part(
         (named : List Id) (covered table : List Exports) → IsOpen known.old here.old s b outer names covered
         → IsBodyExactly true known.old here.old.body b outer named table
         → IsUsualPart (shown_part_node part.now) s outer b
-        → IfErr result (λ e. IsNamed e → ¬ (ValidPart RefersTo (shown_part_node part.now) s outer b)) }
+        → IfErr result (λ e. IsNamed e → ¬ (ValidPart (asking Named) (shown_part_node part.now) s outer b)) }
     ensures outer { OnOk result (known.new.outer.items ≡ known.old.outer.items) }
 {
     match part {
         PartNode::Custom { .. } => Ok(()),
-        PartNode::CoreModule(_) => here.body.counts.add_module(),
+        PartNode::CoreModule(text) => add_module(&mut here.body.counts, text),
         PartNode::CoreTypes(types) => add_core_types(alloc, track, known, &mut here.body, types),
         PartNode::Component(parts) => {
             here.body.counts.add_component()?;
@@ -408,9 +412,9 @@ fn add_parts(
     known: &mut Known,
     parts: &[PartNode],
 ) -> Result<(), Stop>
-    ensures judged { (d : Bool) (outer : List FactScope) (names : List (List Id)) (table : List Exports)
+    ensures judged { (outer : List FactScope) (names : List (List Id)) (table : List Exports)
         → IsIn known.old empty_scope outer [] names table → Judges result
-        (ValidParts (demanded d) (tree_of (map shown_part_node parts.now)) no_spaces outer empty_body) }
+        (λ d. ValidParts d (tree_of (map shown_part_node parts.now)) no_spaces outer empty_body) }
     ensures instances { (outer : List FactScope) (names : List (List Id)) (table : List Exports)
         → IsIn known.old empty_scope outer [] names table → OnOk result
         (IsTableNow known.new.instances.items table) }
@@ -426,7 +430,7 @@ fn add_parts(
         → length outer ≡ length known.old.outer.items
         → AreUsualParts (tree_of (map shown_part_node parts.now)) no_spaces outer empty_body
         → IfErr result (λ e. IsNamed e
-        → ¬ (ValidParts RefersTo (tree_of (map shown_part_node parts.now)) no_spaces outer empty_body)) }
+        → ¬ (ValidParts (asking Named) (tree_of (map shown_part_node parts.now)) no_spaces outer empty_body)) }
     ensures outer { OnOk result (known.new.outer.items ≡ known.old.outer.items) }
 {
     track.enter()?;
@@ -443,8 +447,9 @@ fn add_parts(
 /// with the first demand that it does not meet and the place. An error is returned only where an allocation failed, and
 /// says nothing about the component.
 ///
-/// It is proved that what is `Valid` meets all demands, that what is `Invalid` for a bound does not keep all bounds,
-/// and that a well formed component that is `Invalid` for a name does not meet all demands.
+/// It is proved that what is `Valid` meets all demands, that what is `Invalid` for a bound does not keep that bound,
+/// whatever else is asked, and that a well formed component that is `Invalid` for a name does not name all that it has
+/// to.
 ///
 /// The stack is bounded by how deep components and types nest.
 pub fn validated(alloc: Global, component: &ComponentTree) -> Result<Validity, AllocError>

@@ -8,9 +8,10 @@ ghost use Rattle.smith_syntax.specs.Scope.{with_types};
 ghost use Rattle.smith_validity.specs.Bodies.{Body as PlainBody, IsSmall, after_export, after_import, exported_facts};
 ghost use Rattle.smith_validity.specs.Bodies.{externs_at, module_size_at, reference_size};
 ghost use Rattle.smith_validity.specs.Counts.{ValidCounts, with_type_count};
+ghost use Rattle.smith_validity.specs.Demands.{Keeps};
 ghost use Rattle.smith_validity.specs.Facts.{Extern as PlainExtern, FactScope, Facts as PlainFacts, Id, sizes};
 ghost use Rattle.smith_validity.specs.Validates.{RefersTo, exported, imported, names_of};
-ghost use Rattle.smith_validate.specs.Bodies.{AreSets, IsBody, IsIn, IsOther, IsRole, demanded};
+ghost use Rattle.smith_validate.specs.Bodies.{AreSets, IsBody, IsIn, IsOther, IsRole};
 ghost use Rattle.smith_validate.specs.Counted.{counted};
 ghost use Rattle.smith_validate.specs.Exact.{AreNamedFor, AreSetsExactly, IsBodyExactly, IsPieceExactly};
 ghost use Rattle.smith_validate.specs.Exact.{IsRoleExactly, IsRoleExported, IsKeptBody};
@@ -265,9 +266,10 @@ pub(crate) fn add_import(
     body: &mut Body,
     to: ComponentTypeRef,
 ) -> Result<(), Stop>
-    ensures judged { (d : Bool) (asks : Bool) (b : PlainBody) (outer : List FactScope) (names : List (List Id))
+    ensures judged { (asks : Bool) (b : PlainBody) (outer : List FactScope) (names : List (List Id))
         (table : List Exports) → IsBody asks known.now body.old b outer names table
-        → Judges result (demanded d (imported b) (externs_at b.own outer to) × IsSmall (after_import outer b to)) }
+        → Judges result (λ d. Keeps d.names (RefersTo (imported b) (externs_at b.own outer to))
+        × IsSmall d (after_import outer b to)) }
     ensures added { (asks : Bool) (b : PlainBody) (outer : List FactScope) (names : List (List Id))
         (table : List Exports) → IsBody asks known.now body.old b outer names table
         → OnOk result (IsBody asks known.now body.new (after_import outer b to) outer names table) }
@@ -291,7 +293,8 @@ fn add_exported(known: &mut Known, counts: &mut Counts, to: ComponentTypeRef) ->
     ensures instances { known.new.instances.items ≡ known.old.instances.items }
     ensures judged { (own : FactScope) (outer : List FactScope) (here : List Id) (names : List (List Id))
         (table : List Exports) → IsIn known.old own outer here names table → ValidCounts (counted counts.old)
-        → Judges result (ValidCounts (with_type_count (counted counts.old) (length (exported_facts own outer to)))) }
+        → Judges result (λ d. Keeps d.counts
+        (ValidCounts (with_type_count (counted counts.old) (length (exported_facts own outer to))))) }
     ensures added { (own : FactScope) (outer : List FactScope) (here : List Id) (names : List (List Id))
         (table : List Exports) → IsIn known.old own outer here names table → OnOk result
         (IsIn known.new (with_types own (exported_facts own outer to)) outer
@@ -319,10 +322,10 @@ pub(crate) fn add_export(
     body: &mut Body,
     to: ComponentTypeRef,
 ) -> Result<(), Stop>
-    ensures judged { (d : Bool) (asks : Bool) (b : PlainBody) (outer : List FactScope) (names : List (List Id))
+    ensures judged { (asks : Bool) (b : PlainBody) (outer : List FactScope) (names : List (List Id))
         (table : List Exports) → IsBody asks known.old body.old b outer names table
-        → Judges result (IsAskedFor d asks (exported b) (externs_at b.own outer to)
-        × IsSmall (after_export outer b to)) }
+        → Judges result (λ d. IsAskedFor d asks (exported b) (externs_at b.own outer to)
+        × IsSmall d (after_export outer b to)) }
     ensures added { (asks : Bool) (b : PlainBody) (outer : List FactScope) (names : List (List Id))
         (table : List Exports) → IsBody asks known.old body.old b outer names table
         → OnOk result (IsBody asks known.new body.new (after_export outer b to) outer names table) }

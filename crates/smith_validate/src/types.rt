@@ -7,16 +7,18 @@ ghost use Rattle.smith_syntax.specs.Entries.{in_order};
 ghost use Rattle.smith_validity.specs.Bodies.{Body as PlainBody, IsSmall, after_decl, after_decls, empty_body, facts};
 ghost use Rattle.smith_validity.specs.Bodies.{with_core_facts, with_facts};
 ghost use Rattle.smith_validity.specs.Facts.{CoreFacts as PlainCoreFacts, FactScope, Facts as PlainFacts, Id, id_at};
-ghost use Rattle.smith_validity.specs.Validates.{RefersTo, ValidDecl, ValidDecls, ValidEntry, names_of};
+ghost use Rattle.smith_validity.specs.Validates.{ValidDecl, ValidDecls, ValidEntry, names_of};
 ghost use Rattle.smith_read_types.specs.TypeNodes.{shown_decl_node, shown_type_node};
-ghost use Rattle.smith_validate.specs.Bodies.{IsBody, IsBodyNow, IsEmpty, IsFresh, IsIn, IsOther, IsRole, demanded};
+ghost use Rattle.smith_validate.specs.Bodies.{IsBody, IsBodyNow, IsEmpty, IsFresh, IsIn, IsOther, IsRole};
 ghost use Rattle.smith_validate.specs.Exact.{AreKnown, IsBodyExactly, IsBodyExactlyNow, IsDeclaredExactly};
 ghost use Rattle.smith_validate.specs.Exact.{IsJudgedExactly};
 ghost use Rattle.smith_validate.specs.Nested.{IsDeclared, IsJudged, instance_plain};
 ghost use Rattle.smith_validate.specs.Instances.{AreKept, Exports, IsKept, IsTable};
 ghost use Rattle.smith_validate.specs.Judges.{IsNamed, IsUnnamed, Judges};
 ghost use Rattle.smith_validate.specs.Kept.{capped, kept_core, types_in};
+ghost use Rattle.smith_validate.specs.Outcome.{asking};
 ghost use Rattle.smith_validate.specs.Usual.{AreUsualDecls, IsUsualDecl, IsUsualEntry};
+ghost use Rattle.smith_validate.specs.declared.error.Demand.TheVariants.{Named};
 
 use crate::body::{Body, Exported, Role, Sets};
 use crate::core_types::core_facts;
@@ -36,7 +38,7 @@ pub(crate) fn add_type(known: &mut Known, body: &mut Body, ty: Facts) -> Result<
     ensures bound { IfErr result IsUnnamed }
     ensures judged { (asks : Bool) (b : PlainBody) (outer : List FactScope) (names : List (List Id))
         (table : List Exports) (f : PlainFacts) → IsBody asks known.old body.old b outer names table
-        → Judges result (IsSmall (with_facts b (f ∷ []))) }
+        → Judges result (λ d. IsSmall d (with_facts b (f ∷ []))) }
     ensures added { (asks : Bool) (b : PlainBody) (outer : List FactScope) (names : List (List Id))
         (table : List Exports) (f : PlainFacts) → IsBody asks known.old body.old b outer names table
         → ty.size ≡ capped f.size → IsKept table (names_of b.exports ∷ names) ty f
@@ -55,7 +57,7 @@ pub(crate) fn add_core_type(known: &mut Known, body: &mut Body, ty: CoreFacts) -
     ensures bound { IfErr result IsUnnamed }
     ensures judged { (asks : Bool) (b : PlainBody) (outer : List FactScope) (names : List (List Id))
         (table : List Exports) (f : PlainCoreFacts) → IsBody asks known.old body.old b outer names table
-        → Judges result (IsSmall (with_core_facts b (f ∷ []))) }
+        → Judges result (λ d. IsSmall d (with_core_facts b (f ∷ []))) }
     ensures added { (asks : Bool) (b : PlainBody) (outer : List FactScope) (names : List (List Id))
         (table : List Exports) (f : PlainCoreFacts) → IsBody asks known.old body.old b outer names table
         → ty ≡ kept_core f
@@ -75,7 +77,7 @@ fn add_named(known: &mut Known, body: &mut Body, ty: Option<Facts>) -> Result<()
     ensures judged { (asks : Bool) (b : PlainBody) (outer : List FactScope) (names : List (List Id))
         (table : List Exports) (f : Option PlainFacts) → IsBody asks known.old body.old b outer names table
         → option_map (λ t. t.size) ty ≡ option_map (λ t. capped t.size) f
-        → Judges result (IsSmall (with_facts b (option_to_list f))) }
+        → Judges result (λ d. IsSmall d (with_facts b (option_to_list f))) }
     ensures added { (asks : Bool) (b : PlainBody) (outer : List FactScope) (names : List (List Id))
         (table : List Exports) (f : Option PlainFacts) → IsBody asks known.old body.old b outer names table
         → option_map (λ t. t.size) ty ≡ option_map (λ t. capped t.size) f
@@ -97,7 +99,7 @@ fn add_core_named(known: &mut Known, body: &mut Body, ty: Option<CoreFacts>) -> 
     ensures bound { IfErr result IsUnnamed }
     ensures judged { (asks : Bool) (b : PlainBody) (outer : List FactScope) (names : List (List Id))
         (table : List Exports) (f : Option PlainCoreFacts) → IsBody asks known.old body.old b outer names table
-        → ty ≡ option_map kept_core f → Judges result (IsSmall (with_core_facts b (option_to_list f))) }
+        → ty ≡ option_map kept_core f → Judges result (λ d. IsSmall d (with_core_facts b (option_to_list f))) }
     ensures added { (asks : Bool) (b : PlainBody) (outer : List FactScope) (names : List (List Id))
         (table : List Exports) (f : Option PlainCoreFacts) → IsBody asks known.old body.old b outer names table
         → ty ≡ option_map kept_core f
@@ -143,9 +145,9 @@ fn instance_type(known: &mut Known, body: Body) -> Result<Facts, Stop>
 #[cycle(types)]
 #[tactic(auto, using(smith_read_types::proofs::ShownNodes::shown_nodes))]
 pub(crate) fn type_facts(alloc: Global, known: &mut Known, ty: &TypeNode) -> Result<Facts, Stop>
-    ensures judged { (d : Bool) (own : FactScope) (outer : List FactScope) (here : List Id)
+    ensures judged { (own : FactScope) (outer : List FactScope) (here : List Id)
         (names : List (List Id)) (table : List Exports) → IsIn known.old own outer here names table
-        → Judges result (ValidEntry (demanded d) (shown_type_node ty.now) own outer) }
+        → Judges result (λ d. ValidEntry d (shown_type_node ty.now) own outer) }
     ensures size { (own : FactScope) (outer : List FactScope) (here : List Id)
         (names : List (List Id)) (table : List Exports) → IsIn known.old own outer here names table
         → IfOk result (λ f. f.size ≡ capped (facts (shown_type_node ty.now) own outer).size) }
@@ -159,7 +161,7 @@ pub(crate) fn type_facts(alloc: Global, known: &mut Known, ty: &TypeNode) -> Res
     ensures refused { (own : FactScope) (outer : List FactScope) (named : List Id) (table : List Exports)
         → AreKnown (types_in known.old) known.old.instances.items (own ∷ outer) named table
         → length outer ≡ length known.old.outer.items → IsUsualEntry (shown_type_node ty.now) own outer
-        → IfErr result (λ e. IsNamed e → ¬ (ValidEntry RefersTo (shown_type_node ty.now) own outer)) }
+        → IfErr result (λ e. IsNamed e → ¬ (ValidEntry (asking Named) (shown_type_node ty.now) own outer)) }
     ensures own { OnOk result (known.new.own ≡ known.old.own) }
     ensures outer { OnOk result (known.new.outer.items ≡ known.old.outer.items) }
 {
@@ -183,10 +185,10 @@ pub(crate) fn type_facts(alloc: Global, known: &mut Known, ty: &TypeNode) -> Res
 #[cycle(types)]
 #[tactic(auto, using(smith_read_types::proofs::ShownNodes::shown_nodes))]
 fn add_decl(alloc: Global, known: &mut Known, body: &mut Body, decl: &DeclNode) -> Result<(), Stop>
-    ensures judged { (d : Bool) (asks : Bool) (b : PlainBody) (outer : List FactScope) (names : List (List Id))
+    ensures judged { (asks : Bool) (b : PlainBody) (outer : List FactScope) (names : List (List Id))
         (table : List Exports) → IsBody asks known.old body.old b outer names table
-        → Judges result (ValidDecl (demanded d) asks (shown_decl_node decl.now) outer b
-        × IsSmall (after_decl (shown_decl_node decl.now) outer b)) }
+        → Judges result (λ d. ValidDecl d asks (shown_decl_node decl.now) outer b
+        × IsSmall d (after_decl (shown_decl_node decl.now) outer b)) }
     ensures added { (asks : Bool) (b : PlainBody) (outer : List FactScope) (names : List (List Id))
         (table : List Exports) → IsBody asks known.old body.old b outer names table → OnOk result
         (IsBodyNow asks known.new body.new (after_decl (shown_decl_node decl.now) outer b) outer names table) }
@@ -197,7 +199,7 @@ fn add_decl(alloc: Global, known: &mut Known, body: &mut Body, decl: &DeclNode) 
     ensures refused { (asks : Bool) (b : PlainBody) (outer : List FactScope) (named : List Id)
         (table : List Exports) → IsBodyExactly asks known.old body.old b outer named table
         → IsUsualDecl asks (shown_decl_node decl.now) outer b
-        → IfErr result (λ e. IsNamed e → ¬ (ValidDecl RefersTo asks (shown_decl_node decl.now) outer b)) }
+        → IfErr result (λ e. IsNamed e → ¬ (ValidDecl (asking Named) asks (shown_decl_node decl.now) outer b)) }
     ensures outer { OnOk result (known.new.outer.items ≡ known.old.outer.items) }
 {
     match decl {
@@ -231,10 +233,10 @@ fn add_decls(
     body: &mut Body,
     decls: &[DeclNode],
 ) -> Result<(), Stop>
-    ensures judged { (d : Bool) (asks : Bool) (own : FactScope) (outer : List FactScope) (here : List Id)
+    ensures judged { (asks : Bool) (own : FactScope) (outer : List FactScope) (here : List Id)
         (names : List (List Id)) (table : List Exports) → IsIn known.old own outer here names table
         → IsEmpty body.old → IsFresh asks body.old.role → Judges result
-        (ValidDecls (demanded d) asks (in_order (map shown_decl_node decls.now)) (own ∷ outer) empty_body) }
+        (λ d. ValidDecls d asks (in_order (map shown_decl_node decls.now)) (own ∷ outer) empty_body) }
     ensures added { (asks : Bool) (own : FactScope) (outer : List FactScope) (here : List Id)
         (names : List (List Id)) (table : List Exports) → IsIn known.old own outer here names table
         → IsEmpty body.old → IsFresh asks body.old.role → OnOk result
@@ -251,7 +253,7 @@ fn add_decls(
         → length outer ≡ length known.old.outer.items → IsFresh asks body.old.role
         → AreUsualDecls asks (in_order (map shown_decl_node decls.now)) (own ∷ outer) empty_body
         → IfErr result (λ e. IsNamed e
-        → ¬ (ValidDecls RefersTo asks (in_order (map shown_decl_node decls.now)) (own ∷ outer) empty_body)) }
+        → ¬ (ValidDecls (asking Named) asks (in_order (map shown_decl_node decls.now)) (own ∷ outer) empty_body)) }
     ensures own { OnOk result (known.new.own ≡ known.old.own) }
     ensures outer { OnOk result (known.new.outer.items ≡ known.old.outer.items) }
 {

@@ -8,6 +8,7 @@ ghost use Rattle.smith_syntax.specs.Shown.{shown_defined};
 ghost use Rattle.smith_syntax.specs.declared.types.ComponentValType.{ComponentValType};
 ghost use Rattle.smith_validity.specs.Facts.{FactScope, Facts as PlainFacts, Id, is_nominal, members, sizes};
 ghost use Rattle.smith_validity.specs.Facts.{value_needs};
+ghost use Rattle.smith_validity.specs.Demands.{Keeps};
 ghost use Rattle.smith_validity.specs.Sizes.{SmallDefined, defined_size, maybe_size, signature_members};
 ghost use Rattle.smith_validity.specs.Sizes.{signature_size, size_bound};
 ghost use Rattle.smith_validity.specs.Sizes.{summed, value_size};
@@ -165,7 +166,7 @@ fn values_of<T: Valued>(scope: &Scope, items: &[T]) -> Values
 // Checks a sum.
 fn check_size(values: Values) -> Result<Values, Stop>
     ensures bound { IfErr result IsUnnamed }
-    ensures judged { Judges result (values.size < size_bound) }
+    ensures judged { Judges result (λ d. Keeps d.sizes (values.size < size_bound)) }
     ensures same { IfOk result (λ v. v ≡ values) }
 {
     if values.size < SIZE_BOUND {
@@ -183,8 +184,8 @@ fn small_values<T: Valued>(
 ) -> Result<Values, Stop>
     ensures bound { IfErr result IsUnnamed }
     ensures judged { (own : FactScope) → kept_in scope.now ≡ kept_of own
-        → Judges result (summed (sizes own.types)
-        (flat_map (λ i. option_to_list (T.value i)) items.now ++ option_to_list last) < size_bound) }
+        → Judges result (λ d. Keeps d.sizes (summed (sizes own.types)
+        (flat_map (λ i. option_to_list (T.value i)) items.now ++ option_to_list last) < size_bound)) }
     ensures size { (own : FactScope) → kept_in scope.now ≡ kept_of own → IfOk result (λ v. v.size ≡ capped
         (summed (sizes own.types) (flat_map (λ i. option_to_list (T.value i)) items.now ++ option_to_list last))) }
     ensures needs { (types : List PlainFacts) (names : List (List Id)) (table : List Exports)
@@ -213,7 +214,7 @@ fn nominal_type(values: Values) -> Facts
 pub(crate) fn defined_facts(scope: &Scope, ty: &DefinedType) -> Result<Facts, Stop>
     ensures bound { IfErr result IsUnnamed }
     ensures judged { (own : FactScope) → kept_in scope.now ≡ kept_of own
-        → Judges result (SmallDefined (sizes own.types) (shown_defined ty.now)) }
+        → Judges result (λ d. Keeps d.sizes (SmallDefined (sizes own.types) (shown_defined ty.now))) }
     ensures size { (own : FactScope) → kept_in scope.now ≡ kept_of own
         → IfOk result (λ f. f.size ≡ capped (defined_size (sizes own.types) (shown_defined ty.now))) }
     ensures kept { (id : Id) (types : List PlainFacts) (names : List (List Id)) (table : List Exports)
@@ -250,7 +251,7 @@ pub(crate) fn defined_facts(scope: &Scope, ty: &DefinedType) -> Result<Facts, St
 pub(crate) fn function_facts(scope: &Scope, ty: &FuncType) -> Result<Facts, Stop>
     ensures bound { IfErr result IsUnnamed }
     ensures judged { (own : FactScope) → kept_in scope.now ≡ kept_of own
-        → Judges result (signature_size (sizes own.types) ty.now < size_bound) }
+        → Judges result (λ d. Keeps d.sizes (signature_size (sizes own.types) ty.now < size_bound)) }
     ensures size { (own : FactScope) → kept_in scope.now ≡ kept_of own
         → IfOk result (λ f. f.size ≡ capped (signature_size (sizes own.types) ty.now)) }
     ensures kept { (id : Id) (types : List PlainFacts) (names : List (List Id)) (table : List Exports)

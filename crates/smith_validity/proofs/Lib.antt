@@ -1,1 +1,2 @@
+pub mod CoreModules
 pub mod Weaker

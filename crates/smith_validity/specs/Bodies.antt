@@ -8,6 +8,7 @@ use Rattle.smith_syntax.specs.Scope.{empty_scope, with_core_types, with_types}
 use Rattle.smith_syntax.specs.declared.deftype.ComponentTypeRef.{ComponentTypeRef}
 use Rattle.smith_syntax.specs.declared.deftype.ComponentTypeRef.TheVariants as to
 use Rattle.smith_validity.specs.Counts.{Counts, ValidCounts, no_counts, with_export, with_import, with_type_count}
+use Rattle.smith_validity.specs.Demands.{Demands, Keeps}
 use Rattle.smith_validity.specs.Facts.{CoreFacts, Extern, FactScope, Facts, Id, id_at, is_nominal, members, sizes, value_needs}
 use Rattle.smith_validity.specs.Sizes.{core_size, defined_size, signature_members, signature_size, size_bound}
 
@@ -22,9 +23,9 @@ pub record Body : Type 0 where
 abbrev pub empty_body : Body
 empty_body = record { own = empty_scope; imports = []; exports = []; size = 1; counts = no_counts }
 
--- It is below the bounds.
-abbrev pub IsSmall : Body → Type 0
-IsSmall b = (b.size < size_bound) × ValidCounts b.counts
+-- It is below the bounds that are asked.
+abbrev pub IsSmall : Demands → Body → Type 0
+IsSmall d b = Keeps d.sizes (b.size < size_bound) × Keeps d.counts (ValidCounts b.counts)
 
 -- with more types and core types
 abbrev pub with_facts : Body → List Facts → Body

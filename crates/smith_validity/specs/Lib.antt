@@ -1,5 +1,7 @@
 pub mod Bodies
+pub mod CoreModules
 pub mod Counts
+pub mod Demands
 pub mod Examples
 pub mod Facts
 pub mod Sizes

@@ -10,6 +10,7 @@ use Rattle.smith_syntax.specs.ModuleTypes.{is_of_kind, module_import_of}
 pub use Rattle.smith_syntax.specs.Members.{signature_members}
 pub use Rattle.smith_syntax.specs.Sizes.{core_size, defined_size, entity_size, function_size, function_size_at, maybe_size, module_size, signature_size}
 pub use Rattle.smith_syntax.specs.Sizes.{size_bound, summed, value_size}
+use Rattle.smith_validity.specs.Demands.{Demands, Keeps}
 
 -- The bound is asked where there are any number of members.
 abbrev pub SmallDefined : List ℕ → DefValType → Type 0
@@ -28,7 +29,7 @@ abbrev pub imported_of_kind : ExportKind → List ModuleDecl → ℕ
 imported_of_kind k ds = length (filter (is_of_kind k) (map (λ i. i.2) (flat_map module_import_of ds)))
 
 -- The bound is asked of module types, and of what they import: at most 100 memories and 100 tables.
-abbrev pub ValidCore : List CoreEntry → CoreEntry → Type 0
-ValidCore around (core_func f) = Unit {0}
-ValidCore around (core_module ds) = (core_size around (core_module ds) < size_bound)
-    × (imported_of_kind kind.Memory ds ≤ 100) × (imported_of_kind kind.Table ds ≤ 100)
+abbrev pub ValidCore : Demands → List CoreEntry → CoreEntry → Type 0
+ValidCore d around (core_func f) = Unit {0}
+ValidCore d around (core_module ds) = Keeps d.sizes (core_size around (core_module ds) < size_bound)
+    × Keeps d.memories (imported_of_kind kind.Memory ds ≤ 100) × Keeps d.tables (imported_of_kind kind.Table ds ≤ 100)

@@ -11,7 +11,9 @@ use Rattle.smith_tree.specs.Spaces.{Spaces, after_export as after_one_export, af
 use Rattle.smith_tree.specs.Tree.{Canon, ExportEntry, Tree, Part, ends, first, custom, core_module, core_types, component, types, canons, imports, exports}
 use Rattle.smith_validity.specs.Bodies.{Body, IsSmall, after_decl, after_export, after_import, core_facts, empty_body, externs_at, facts}
 use Rattle.smith_validity.specs.Bodies.{with_core_facts, with_facts}
+use Rattle.smith_validity.specs.CoreModules.{HasFewMemories}
 use Rattle.smith_validity.specs.Counts.{ValidCounts, with_component, with_function, with_module}
+use Rattle.smith_validity.specs.Demands.{Demands, Keeps, everything}
 use Rattle.smith_validity.specs.Facts.{Extern, FactScope, Id, sizes}
 use Rattle.smith_validity.specs.Sizes.{SmallDefined, ValidCore, signature_size, size_bound}
 
@@ -68,57 +70,55 @@ after_part (canons fs) s outer b = fold after_canon b fs
 after_part (imports is) s outer b = fold (after_import outer) b (imported_references is)
 after_part (exports es) s outer b = fold (after_export outer) b (exported_references s es)
 
--- Core types and canonical functions in a row: each is judged after those before it.
-
-abbrev pub ValidCores : List CoreEntry → Body → Type 0
-ValidCores [] b = Unit {0}
-ValidCores (e ∷ es) b = ValidCore (map (λ f. f.entry) b.own.core_types) e
-    × IsSmall (with_core_facts b (core_facts e b.own ∷ [])) × ValidCores es (with_core_facts b (core_facts e b.own ∷ []))
-
-abbrev pub ValidCanons : List Canon → Body → Type 0
-ValidCanons [] b = Unit {0}
-ValidCanons (f ∷ fs) b = IsSmall (after_canon b f) × ValidCanons fs (after_canon b f)
-
--- What follows is stated once for any demand on what is named and what is imported or exported.
-module _ (Asked : List Id → List Extern → Type 0) where
+-- What follows is stated once, whichever demands are asked.
+module _ (d : Demands) where
   -- Types in their own scope and those around it, innermost first. What a component type imports and exports is named there. An
   -- instance type says what is exported wherever there is an instance of it, so that nothing has to be named within it.
   abbrev mutual
     pub ValidEntry : Entry → FactScope → List FactScope → Type 0
-    ValidEntry (defined t) own outer = SmallDefined (sizes own.types) t
-    ValidEntry (function s) own outer = signature_size (sizes own.types) s < size_bound
+    ValidEntry (defined t) own outer = Keeps d.sizes (SmallDefined (sizes own.types) t)
+    ValidEntry (function s) own outer = Keeps d.sizes (signature_size (sizes own.types) s < size_bound)
     ValidEntry (component_type ds) own outer = ValidDecls true ds (own ∷ outer) empty_body
     ValidEntry (instance_type ds) own outer = ValidDecls false ds (own ∷ outer) empty_body
 
     pub ValidDecl : Bool → Decl → List FactScope → Body → Type 0
-    ValidDecl asks (core_type_decl t k) outer b = ValidCore (map (λ f. f.entry) b.own.core_types) t
+    ValidDecl asks (core_type_decl t k) outer b = ValidCore d (map (λ f. f.entry) b.own.core_types) t
     ValidDecl asks (type_decl e) outer b = ValidEntry e b.own outer
     ValidDecl asks (type_alias count i k) outer b = Unit {0}
     ValidDecl asks (core_type_alias count i k) outer b = Unit {0}
-    ValidDecl asks (import_decl name n r) outer b = Asked (imported b) (externs_at b.own outer r)
-    ValidDecl true (export_decl name n r) outer b = Asked (exported b) (externs_at b.own outer r)
+    ValidDecl asks (import_decl name n r) outer b = Keeps d.names (RefersTo (imported b) (externs_at b.own outer r))
+    ValidDecl true (export_decl name n r) outer b = Keeps d.names (RefersTo (exported b) (externs_at b.own outer r))
     ValidDecl false (export_decl name n r) outer b = Unit {0}
 
     pub ValidDecls : Bool → Decls → List FactScope → Body → Type 0
     ValidDecls asks no_decls outer b = Unit {0}
-    ValidDecls asks (then_decls d ds) outer b = ValidDecl asks d outer b × IsSmall (after_decl d outer b) × ValidDecls asks ds outer (after_decl d outer b)
+    ValidDecls asks (then_decls e es) outer b = ValidDecl asks e outer b × IsSmall d (after_decl e outer b) × ValidDecls asks es outer (after_decl e outer b)
 
-  -- Types, imports and exports in a row.
+  -- Entries in a row: each is judged after those before it.
+
+  abbrev pub ValidCores : List CoreEntry → Body → Type 0
+  ValidCores [] b = Unit {0}
+  ValidCores (e ∷ es) b = ValidCore d (map (λ f. f.entry) b.own.core_types) e
+      × IsSmall d (with_core_facts b (core_facts e b.own ∷ [])) × ValidCores es (with_core_facts b (core_facts e b.own ∷ []))
+
+  abbrev pub ValidCanons : List Canon → Body → Type 0
+  ValidCanons [] b = Unit {0}
+  ValidCanons (f ∷ fs) b = IsSmall d (after_canon b f) × ValidCanons fs (after_canon b f)
 
   abbrev pub ValidEntries : List Entry → List FactScope → Body → Type 0
   ValidEntries [] outer b = Unit {0}
   ValidEntries (e ∷ es) outer b = ValidEntry e b.own outer
-      × IsSmall (with_facts b (facts e b.own outer ∷ [])) × ValidEntries es outer (with_facts b (facts e b.own outer ∷ []))
+      × IsSmall d (with_facts b (facts e b.own outer ∷ [])) × ValidEntries es outer (with_facts b (facts e b.own outer ∷ []))
 
   abbrev pub ValidImports : List ComponentTypeRef → List FactScope → Body → Type 0
   ValidImports [] outer b = Unit {0}
-  ValidImports (r ∷ rs) outer b = Asked (imported b) (externs_at b.own outer r)
-      × IsSmall (after_import outer b r) × ValidImports rs outer (after_import outer b r)
+  ValidImports (r ∷ rs) outer b = Keeps d.names (RefersTo (imported b) (externs_at b.own outer r))
+      × IsSmall d (after_import outer b r) × ValidImports rs outer (after_import outer b r)
 
   abbrev pub ValidExports : List ComponentTypeRef → List FactScope → Body → Type 0
   ValidExports [] outer b = Unit {0}
-  ValidExports (r ∷ rs) outer b = Asked (exported b) (externs_at b.own outer r)
-      × IsSmall (after_export outer b r) × ValidExports rs outer (after_export outer b r)
+  ValidExports (r ∷ rs) outer b = Keeps d.names (RefersTo (exported b) (externs_at b.own outer r))
+      × IsSmall d (after_export outer b r) × ValidExports rs outer (after_export outer b r)
 
   -- Parts after those before them, in the scopes around the component.
   abbrev mutual
@@ -128,9 +128,9 @@ module _ (Asked : List Id → List Extern → Type 0) where
 
     pub ValidPart : Part → Spaces → List FactScope → Body → Type 0
     ValidPart (custom name contents) s outer b = Unit {0}
-    ValidPart (core_module text) s outer b = ValidCounts (with_module b.counts)
+    ValidPart (core_module text) s outer b = Keeps d.counts (ValidCounts (with_module b.counts)) × Keeps d.memories (HasFewMemories text)
     ValidPart (core_types ts) s outer b = ValidCores ts b
-    ValidPart (component t) s outer b = ValidCounts (with_component b.counts) × ValidParts t no_spaces (b.own ∷ outer) empty_body
+    ValidPart (component t) s outer b = Keeps d.counts (ValidCounts (with_component b.counts)) × ValidParts t no_spaces (b.own ∷ outer) empty_body
     ValidPart (types ts) s outer b = ValidEntries ts outer b
     ValidPart (canons fs) s outer b = ValidCanons fs b
     ValidPart (imports is) s outer b = ValidImports (imported_references is) outer b
@@ -142,12 +142,4 @@ module _ (Asked : List Id → List Extern → Type 0) where
 
 -- What is referred to is named, and the bounds are kept.
 abbrev pub Validates : Tree → Type 0
-Validates = ValidTree RefersTo
-
--- nothing
-abbrev pub NoDemand : List Id → List Extern → Type 0
-NoDemand named xs = Unit {0}
-
--- The bounds are kept, regardless of what is named.
-abbrev pub IsBounded : Tree → Type 0
-IsBounded = ValidTree NoDemand
+Validates = ValidTree everything

@@ -7,12 +7,24 @@ ghost use Rattle.smith_validity.specs.Examples.{exports_function_of_named_enum, 
 ghost use Rattle.smith_validity.specs.Examples.{exports_function_of_aliased_enum, imports_instance};
 ghost use Rattle.smith_validity.specs.Examples.{names_instance_type, names_type_of_exported_instance, exports_instance};
 ghost use Rattle.smith_validity.specs.Examples.{names_record_of_enum, names_enum};
+ghost use Rattle.std.specs.Prelude.{◌≡◌, ◌↔◌, ◌≤◌, ℕ, List, Some};
+ghost use Rattle.smith_core.specs.Preamble.{core_preamble};
+ghost use Rattle.smith_format.specs.Piece.{◌⊕◌, bytes, sized, u};
 ghost use Rattle.smith_tree.specs.Tree.{Tree};
-ghost use Rattle.smith_validity.specs.Validates.{IsBounded, Validates};
+ghost use Rattle.smith_validity.specs.CoreModules.{HasFewMemories};
+ghost use Rattle.smith_validity.specs.Demands.{Demands};
+ghost use Rattle.smith_validity.specs.Validates.{ValidTree, Validates};
 
-/// What validates keeps the bounds.
-pub fn bounds_are_kept()
-    ensures { (tree : Tree) → Validates tree → IsBounded tree }
+/// What validates meets the demands that are asked, whichever they are.
+pub fn any_demands_are_met()
+    ensures { (demands : Demands) (tree : Tree) → Validates tree → ValidTree demands tree }
+{}
+
+/// A core module of a memory section alone has few memories exactly if it counts at most 100.
+pub fn memories_of_core_modules_are_counted()
+    ensures { (count : ℕ) (memories text : List ℕ)
+        → bytes core_preamble ⊕ sized 5 (u count ⊕ bytes memories) ≡ Some text
+        → HasFewMemories text ↔ (count ≤ 100) }
 {}
 
 /// A function of an enum without a name may be declared, and not imported.

@@ -2,8 +2,11 @@ use Rattle.std.proofs.Common.{◌+◌, ◌∷◌, ◌++◌, fold, length, map, �
 use Rattle.std.proofs.Math.ListN.{drop}
 use Rattle.smith_tree.specs.Spaces.{no_spaces}
 use Rattle.smith_validity.specs.Bodies.{after_export, after_import, empty_body}
+use Rattle.smith_validity.specs.CoreModules.{HasFewMemories}
 use Rattle.smith_validity.specs.Counts.{ValidCounts, with_component, with_module}
+use Rattle.smith_validity.specs.Demands.{Keeps}
 use Rattle.smith_validity.specs.Validates.{names_of}
+use Rattle.smith_validate.specs.Counted.{counted}
 use Rattle.smith_read.specs.PartNodes.{shown_part_node}
 use Rattle.smith_read.proofs.PartNodes.{shown_canons, shown_core_types, shown_custom, shown_exports, shown_imports, shown_module, shown_nested, shown_types}
 use Rattle.smith_validate.specs.Instances.{IsTable}
@@ -24,15 +27,15 @@ use Rattle.smith_validate.proofs.Rows.{row_all, row_at, row_exit, row_last, row_
 use Rattle.smith_validate.proofs.parts.+parts.Goals as goal
 
 pub add_part-returns-in_err-add_parts-in-Component-clause-judged : goal.add_part-returns-in_err-add_parts-in-Component-clause-judged
-add_part-returns-in_err-add_parts-in-Component-clause-judged t c = λ d s b outer names table h.
+add_part-returns-in_err-add_parts-in-Component-clause-judged t c = λ s b outer names table h.
     let entered = c.in_ok-enter-in-Component.ensures {u = tt} in
     let here = names_of b.exports in
     let inner = in_entered c.args.known.now _ b.own outer here names table h.body.scopes entered.own entered.types entered.outer entered.instances in
     rw (c.in-Component.is, shown_nested c.in-Component.parts)
     (passed_on _ _ c.from_residual-in_err-add_parts-in-Component.ensures.1
-    (refute_by (λ q. q.1)
+    (refute_by (λ d q. q.1)
     (rw c.deref-in-Component.ensures.value at
-    ((c.in_err-add_parts-in-Component.ensures {u = tt}).judged d (b.own ∷ outer) (here ∷ names) table inner))))
+    ((c.in_err-add_parts-in-Component.ensures {u = tt}).judged (b.own ∷ outer) (here ∷ names) table inner))))
 
 pub add_part-returns-in-Custom-clause-added : goal.add_part-returns-in-Custom-clause-added
 add_part-returns-in-Custom-clause-added t c = λ s b outer names table h.
@@ -41,30 +44,30 @@ add_part-returns-in-Custom-clause-added t c = λ s b outer names table h.
 pub add_part-returns-in-CoreModule-clause-added : goal.add_part-returns-in-CoreModule-clause-added
 add_part-returns-in-CoreModule-clause-added t c = λ s b outer names table h.
     let counts = ap with_module h.body.counts_are in
-    rw (c.in-CoreModule.is, shown_module c.in-CoreModule.field-0)
-    (on_judged c.add_module.result
+    rw (c.in-CoreModule.is, shown_module c.in-CoreModule.text)
+    (on_judged c.add_module.result (λ d. Keeps d.counts (ValidCounts (with_module (counted c.args.here.now.body.counts))) × Keeps d.memories (HasFewMemories c.in-CoreModule.text.items))
     (λ n m j. open_now _ _ _ _ outer names table
     (record {
       body = record {
         scopes = h.body.scopes;
         size_is = h.body.size_is;
         counts_are = n ∙ counts;
-        small = (h.body.small.0, subst ValidCounts counts j);
+        small = (h.body.small.0, subst ValidCounts counts j.0);
         role_is = role_of table names true c.args.here.now.body.role b _ refl refl h.body.role_is;
       };
       functions_are = h.functions_are;
     }))
     c.add_module.ensures.added c.add_module.ensures.added
-    (c.add_module.ensures.judged (subst ValidCounts (sym h.body.counts_are) h.body.small.1)))
+    (rw c.deref.ensures.value at (c.add_module.ensures.judged (subst ValidCounts (sym h.body.counts_are) h.body.small.1))))
 
 pub add_part-returns-in-CoreTypes-clause-added : goal.add_part-returns-in-CoreTypes-clause-added
 add_part-returns-in-CoreTypes-clause-added t c = λ s b outer names table h.
     rw (c.in-CoreTypes.is, shown_core_types c.in-CoreTypes.types)
     (on_by c.add_core_types.result (λ k. open_now _ _ _ _ outer names table (record { body = k; functions_are = h.functions_are }))
-    (rw c.deref.ensures.value at (c.add_core_types.ensures.added b outer names table h.body)))
+    (rw c.deref-in-CoreTypes.ensures.value at (c.add_core_types.ensures.added b outer names table h.body)))
 
 pub add_part-returns-in_ok-add_parts-in-Component-clause-judged : goal.add_part-returns-in_ok-add_parts-in-Component-clause-judged
-add_part-returns-in_ok-add_parts-in-Component-clause-judged t c = λ d s b outer names table h.
+add_part-returns-in_ok-add_parts-in-Component-clause-judged t c = λ s b outer names table h.
     let entered = c.in_ok-enter-in-Component.ensures {u = tt} in
     let here = names_of b.exports in
     let inner = in_entered c.args.known.now _ b.own outer here names table h.body.scopes entered.own entered.types entered.outer entered.instances in
@@ -72,7 +75,7 @@ add_part-returns-in_ok-add_parts-in-Component-clause-judged t c = λ d s b outer
     rw (c.in-Component.is, shown_nested c.in-Component.parts) (
       subst ValidCounts (ap with_component h.body.counts_are) valid,
       rw c.deref-in-Component.ensures.value at
-          ((c.in_ok-add_parts-in-Component.ensures {u = tt}).judged d (b.own ∷ outer) (here ∷ names) table inner),
+          ((c.in_ok-add_parts-in-Component.ensures {u = tt}).judged (b.own ∷ outer) (here ∷ names) table inner),
     )
 
 pub add_part-returns-in_ok-add_parts-in-Component-clause-added : goal.add_part-returns-in_ok-add_parts-in-Component-clause-added
@@ -110,7 +113,7 @@ add_part-returns-in-Types-clause-added t c = λ s b outer names table h.
     (rw c.deref-in-Types.ensures.value at (c.add_types.ensures.added b outer names table h.body)))
 
 pub add_part-returns-in-Canons-clause-judged : goal.add_part-returns-in-Canons-clause-judged
-add_part-returns-in-Canons-clause-judged t c = λ d s b outer names table h.
+add_part-returns-in-Canons-clause-judged t c = λ s b outer names table h.
     rw (c.in-Canons.is, shown_canons c.in-Canons.canons)
     (rw c.deref-in-Canons.ensures.value at (c.add_canons.ensures.judged c.args.known.now s b outer names table h))
 
@@ -121,9 +124,9 @@ add_part-returns-in-Canons-clause-added t c = λ s b outer names table h.
     (rw c.deref-in-Canons.ensures.value at (c.add_canons.ensures.added c.args.known.now s b outer names table h)))
 
 pub add_part-returns-in-Imports-clause-judged : goal.add_part-returns-in-Imports-clause-judged
-add_part-returns-in-Imports-clause-judged t c = λ d s b outer names table h.
+add_part-returns-in-Imports-clause-judged t c = λ s b outer names table h.
     rw (c.in-Imports.is, shown_imports c.in-Imports.imports)
-    (rw c.deref-in-Imports.ensures.value at (c.add_imports.ensures.judged d s b outer names table h))
+    (rw c.deref-in-Imports.ensures.value at (c.add_imports.ensures.judged s b outer names table h))
 
 pub add_part-returns-in-Imports-clause-added : goal.add_part-returns-in-Imports-clause-added
 add_part-returns-in-Imports-clause-added t c = λ s b outer names table h.
@@ -167,7 +170,7 @@ add_parts-loop-part-preserved t c =
           (c.loop-part.invariant.left outer names table s) in
           row_more (parts_row outer) (no_spaces, empty_body) (map shown_part_node ps) T (shown_part_node p) (map shown_part_node (drop (i + 1) ps)) l
           (OpenNow outer names table c.add_part.new.known c.add_part.new.here)
-          (λ d. done.judged d l.at.0 l.at.1 outer names (table ++ l.is.0) l.is.1)
+          (done.judged l.at.0 l.at.1 outer names (table ++ l.is.0) l.is.1)
           (open_more _ _ _ _ outer names table l.is.0 (done.added l.at.0 l.at.1 outer names (table ++ l.is.0) l.is.1));
       exact = λ outer names named covered table s h d u.
           let T = BothNow outer names named covered table c.loop-part.known c.loop-part.here in
@@ -183,7 +186,7 @@ add_parts-loop-part-preserved t c =
     }
 
 pub add_parts-returns-in_err-add_part-clause-judged : goal.add_parts-returns-in_err-add_part-clause-judged
-add_parts-returns-in_err-add_part-clause-judged t c = λ d outer names table s.
+add_parts-returns-in_err-add_part-clause-judged t c = λ outer names table s.
     let ps = c.args.parts.now in
     let i = c.loop-part.part-index in
     let p = c.part-item.result in
@@ -191,17 +194,16 @@ add_parts-returns-in_err-add_part-clause-judged t c = λ d outer names table s.
     let l = row_at (parts_row outer) shown_part_node (no_spaces, empty_body) ps T i p c.loop-part-test.true c.part-item.is
     (c.loop-part.invariant.left outer names table s) in
     passed_on _ _ c.from_residual-in_err-add_part.ensures.1
-    (row_exit (parts_row outer) (no_spaces, empty_body) (map shown_part_node ps) T (shown_part_node p) (map shown_part_node (drop (i + 1) ps)) l d
-    ((c.in_err-add_part.ensures {u = tt}).judged d l.at.0 l.at.1 outer names (table ++ l.is.0) l.is.1))
+    (row_exit (parts_row outer) (no_spaces, empty_body) (map shown_part_node ps) T (shown_part_node p) (map shown_part_node (drop (i + 1) ps)) l
+    ((c.in_err-add_part.ensures {u = tt}).judged l.at.0 l.at.1 outer names (table ++ l.is.0) l.is.1))
 
 pub add_parts-returns-clause-judged : goal.add_parts-returns-clause-judged
-add_parts-returns-clause-judged t c = λ d outer names table s.
+add_parts-returns-clause-judged t c = λ outer names table s.
     let ps = c.args.parts.now in
     let T = OpenNow outer names table c.loop-part.known c.loop-part.here in
     row_valid (parts_row outer) (no_spaces, empty_body) (map shown_part_node ps) T
     (row_last (parts_row outer) shown_part_node (no_spaces, empty_body) ps T c.loop-part.part-index c.loop-part-test.false
     (c.loop-part.invariant.left outer names table s))
-    d
 
 pub add_parts-returns-clause-instances : goal.add_parts-returns-clause-instances
 add_parts-returns-clause-instances t c = λ outer names table s.
@@ -264,7 +266,7 @@ add_part-returns-in_ok-add_parts-in-Component-clause-exact t c = λ s b outer na
 pub add_part-returns-in-CoreModule-clause-exact : goal.add_part-returns-in-CoreModule-clause-exact
 add_part-returns-in-CoreModule-clause-exact t c = λ s b outer names named covered table o h usual.
     let k = c.args.known.now in
-    rw (c.in-CoreModule.is, shown_module c.in-CoreModule.field-0)
+    rw (c.in-CoreModule.is, shown_module c.in-CoreModule.text)
     (on_any c.add_module.result
     (now_after true k c.args.here.now.body (record b { counts = with_module b.counts }) outer named (id_at (b.own ∷ outer)) table
     (body_as true k c.args.here.now.body b outer named table h k c.args.here.now.body refl refl (record b { counts = with_module b.counts }) refl refl refl
@@ -314,3 +316,18 @@ pub add_part-returns-in-Exports-clause-refused : goal.add_part-returns-in-Export
 add_part-returns-in-Exports-clause-refused t c = λ s b outer names named covered table o h usual.
     rw (c.in-Exports.is, shown_exports c.in-Exports.exports)
     (rw c.deref-in-Exports.ensures.value at (c.add_exports.ensures.refused s b outer named table h o.functions_are))
+
+pub add_part-returns-in-CoreTypes-clause-judged : goal.add_part-returns-in-CoreTypes-clause-judged
+add_part-returns-in-CoreTypes-clause-judged t c = λ s b outer names table h.
+    rw (c.in-CoreTypes.is, shown_core_types c.in-CoreTypes.types)
+    (rw c.deref-in-CoreTypes.ensures.value at (c.add_core_types.ensures.judged b outer names table h.body))
+
+pub add_part-returns-in-Types-clause-judged : goal.add_part-returns-in-Types-clause-judged
+add_part-returns-in-Types-clause-judged t c = λ s b outer names table h.
+    rw (c.in-Types.is, shown_types c.in-Types.types)
+    (rw c.deref-in-Types.ensures.value at (c.add_types.ensures.judged b outer names table h.body))
+
+pub add_part-returns-in-Exports-clause-judged : goal.add_part-returns-in-Exports-clause-judged
+add_part-returns-in-Exports-clause-judged t c = λ s b outer names table h.
+    rw (c.in-Exports.is, shown_exports c.in-Exports.exports)
+    (rw c.deref-in-Exports.ensures.value at (c.add_exports.ensures.judged s b outer names table h))

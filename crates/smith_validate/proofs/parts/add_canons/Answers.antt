@@ -1,4 +1,4 @@
-use Rattle.std.proofs.Common.{true, ◌≡◌, ◌+◌, map, refl, get_or, ◌∙◌}
+use Rattle.std.proofs.Common.{◌≡◌, ◌+◌, map, refl, get_or, ◌∙◌}
 use Rattle.std.proofs.Math.ListN.{drop}
 use Rattle.smith_read.specs.PartNodes.{shown_canon_node}
 use Rattle.smith_read.specs.declared.nodes.CanonNode.TheVariants as canon
@@ -29,7 +29,7 @@ loop-canon-preserved c =
           (c.loop-canon.invariant.left k s b outer names table h) in
           row_more canons_row (s, b) (map shown_canon_node xs) (OpenAt outer names table k c.loop-canon.here) (shown_canon_node x)
           (map shown_canon_node (drop (i + 1) xs)) l
-          (OpenAt outer names table k c.add_canon.new.here) (λ d. done.judged k l.at.0 l.at.1 outer names table l.is)
+          (OpenAt outer names table k c.add_canon.new.here) (done.judged k l.at.0 l.at.1 outer names table l.is)
           (done.added k l.at.0 l.at.1 outer names table l.is);
     }
 
@@ -43,7 +43,7 @@ returns-in_err-add_canon-clause-judged c = λ k s b outer names table h.
     (c.loop-canon.invariant.left k s b outer names table h) in
     passed_on _ _ c.from_residual.ensures.1
     (row_exit canons_row (s, b) (map shown_canon_node xs) (OpenAt outer names table k c.loop-canon.here) (shown_canon_node x)
-    (map shown_canon_node (drop (i + 1) xs)) l true
+    (map shown_canon_node (drop (i + 1) xs)) l
     ((c.in_err-add_canon.ensures {u = tt}).judged k l.at.0 l.at.1 outer names table l.is))
 
 pub returns-clause-judged : goal.returns-clause-judged
@@ -51,7 +51,7 @@ returns-clause-judged c = λ k s b outer names table h.
     row_valid canons_row (s, b) (map shown_canon_node c.args.canons.now) (OpenAt outer names table k c.loop-canon.here)
     (row_last canons_row shown_canon_node (s, b) c.args.canons.now
     (OpenAt outer names table k c.loop-canon.here) c.loop-canon.canon-index c.loop-canon-test.false
-    (c.loop-canon.invariant.left k s b outer names table h)) true
+    (c.loop-canon.invariant.left k s b outer names table h))
 
 pub returns-clause-added : goal.returns-clause-added
 returns-clause-added c = λ k s b outer names table h.

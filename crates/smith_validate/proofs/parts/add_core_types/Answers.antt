@@ -1,4 +1,4 @@
-use Rattle.std.proofs.Common.{true, ◌+◌, map, refl, ◌∙◌}
+use Rattle.std.proofs.Common.{◌+◌, map, refl, ◌∙◌}
 use Rattle.std.proofs.Math.ListN.{drop}
 use Rattle.smith_read_types.specs.Nodes.{shown_core_node}
 use Rattle.smith_validate.proofs.Judging.{passed_on}
@@ -32,7 +32,7 @@ loop-ty-preserved c =
           (c.loop-ty.invariant.left b outer names table h) in
           row_more cores_row b (map shown_core_node xs) (BodyAt outer names table c.loop-ty.known c.loop-ty.body) (shown_core_node x)
           (map shown_core_node (drop (i + 1) xs)) l
-          (BodyAt outer names table c.declare_core_type.new.known c.declare_core_type.new.body) (λ d. done.judged l.at outer names table l.is)
+          (BodyAt outer names table c.declare_core_type.new.known c.declare_core_type.new.body) (done.judged l.at outer names table l.is)
           (done.added l.at outer names table l.is);
     }
 
@@ -45,14 +45,14 @@ returns-in_err-declare_core_type-clause-judged c = λ b outer names table h.
     (c.loop-ty.invariant.left b outer names table h) in
     passed_on _ _ c.from_residual.ensures.1
     (row_exit cores_row b (map shown_core_node xs) (BodyAt outer names table c.loop-ty.known c.loop-ty.body) (shown_core_node x)
-    (map shown_core_node (drop (i + 1) xs)) l true
+    (map shown_core_node (drop (i + 1) xs)) l
     ((c.in_err-declare_core_type.ensures {u = tt}).judged l.at outer names table l.is))
 
 pub returns-clause-judged : goal.returns-clause-judged
 returns-clause-judged c = λ b outer names table h.
     row_valid cores_row b (map shown_core_node c.args.types.now) (BodyAt outer names table c.loop-ty.known c.loop-ty.body)
     (row_last cores_row shown_core_node b c.args.types.now (BodyAt outer names table c.loop-ty.known c.loop-ty.body) c.loop-ty.ty-index c.loop-ty-test.false
-    (c.loop-ty.invariant.left b outer names table h)) true
+    (c.loop-ty.invariant.left b outer names table h))
 
 pub returns-clause-added : goal.returns-clause-added
 returns-clause-added c = λ b outer names table h.

@@ -35,7 +35,7 @@ loop-export-preserved c =
           (c.loop-export.invariant.left s b outer names table h) in
           row_more (exports_row outer) (s, b) (map shown_export_node xs) (OpenAt outer names table c.loop-export.known c.loop-export.here) (shown_export_node x)
           (map shown_export_node (drop (i + 1) xs)) l
-          (OpenAt outer names table c.export_one.new.known c.export_one.new.here) (λ d. done.judged d l.at.0 l.at.1 outer names table l.is)
+          (OpenAt outer names table c.export_one.new.known c.export_one.new.here) (done.judged l.at.0 l.at.1 outer names table l.is)
           (done.added l.at.0 l.at.1 outer names table l.is);
       exact = λ s b outer named table h f.
           let xs = c.args.exports.now in
@@ -52,7 +52,7 @@ loop-export-preserved c =
     }
 
 pub returns-in_err-export_one-clause-judged : goal.returns-in_err-export_one-clause-judged
-returns-in_err-export_one-clause-judged c = λ d s b outer names table h.
+returns-in_err-export_one-clause-judged c = λ s b outer names table h.
     let xs = c.args.exports.now in
     let i = c.loop-export.export-index in
     let x = c.export-item.result in
@@ -61,15 +61,15 @@ returns-in_err-export_one-clause-judged c = λ d s b outer names table h.
     (c.loop-export.invariant.left s b outer names table h) in
     passed_on _ _ c.from_residual.ensures.1
     (row_exit (exports_row outer) (s, b) (map shown_export_node xs) (OpenAt outer names table c.loop-export.known c.loop-export.here) (shown_export_node x)
-    (map shown_export_node (drop (i + 1) xs)) l d
-    ((c.in_err-export_one.ensures {u = tt}).judged d l.at.0 l.at.1 outer names table l.is))
+    (map shown_export_node (drop (i + 1) xs)) l
+    ((c.in_err-export_one.ensures {u = tt}).judged l.at.0 l.at.1 outer names table l.is))
 
 pub returns-clause-judged : goal.returns-clause-judged
-returns-clause-judged c = λ d s b outer names table h.
+returns-clause-judged c = λ s b outer names table h.
     row_valid (exports_row outer) (s, b) (map shown_export_node c.args.exports.now) (OpenAt outer names table c.loop-export.known c.loop-export.here)
     (row_last (exports_row outer) shown_export_node (s, b) c.args.exports.now (OpenAt outer names table c.loop-export.known c.loop-export.here)
     c.loop-export.export-index c.loop-export-test.false
-    (c.loop-export.invariant.left s b outer names table h)) d
+    (c.loop-export.invariant.left s b outer names table h))
 
 pub returns-clause-added : goal.returns-clause-added
 returns-clause-added c = λ s b outer names table h.

@@ -33,7 +33,7 @@ loop-import-preserved c =
           (c.loop-import.invariant.left s b outer names table h) in
           row_more (imports_row outer) (s, b) (map shown_import_node xs) (OpenAt outer names table c.args.known.now c.loop-import.here) (shown_import_node x)
           (map shown_import_node (drop (i + 1) xs)) l
-          (OpenAt outer names table c.args.known.now c.import_one.new.here) (λ d. done.judged d l.at.0 l.at.1 outer names table l.is)
+          (OpenAt outer names table c.args.known.now c.import_one.new.here) (done.judged l.at.0 l.at.1 outer names table l.is)
           (done.added l.at.0 l.at.1 outer names table l.is);
       exact = λ b outer named table h u.
           let xs = c.args.imports.now in
@@ -48,7 +48,7 @@ loop-import-preserved c =
     }
 
 pub returns-in_err-import_one-clause-judged : goal.returns-in_err-import_one-clause-judged
-returns-in_err-import_one-clause-judged c = λ d s b outer names table h.
+returns-in_err-import_one-clause-judged c = λ s b outer names table h.
     let xs = c.args.imports.now in
     let i = c.loop-import.import-index in
     let x = c.import-item.result in
@@ -57,16 +57,16 @@ returns-in_err-import_one-clause-judged c = λ d s b outer names table h.
     (c.loop-import.invariant.left s b outer names table h) in
     passed_on _ _ c.from_residual.ensures.1
     (row_exit (imports_row outer) (s, b) (map shown_import_node xs) (OpenAt outer names table c.args.known.now c.loop-import.here) (shown_import_node x)
-    (map shown_import_node (drop (i + 1) xs)) l d
-    ((c.in_err-import_one.ensures {u = tt}).judged d l.at.0 l.at.1 outer names table l.is))
+    (map shown_import_node (drop (i + 1) xs)) l
+    ((c.in_err-import_one.ensures {u = tt}).judged l.at.0 l.at.1 outer names table l.is))
 
 pub returns-clause-judged : goal.returns-clause-judged
-returns-clause-judged c = λ d s b outer names table h.
+returns-clause-judged c = λ s b outer names table h.
     row_valid (imports_row outer) (s, b) (map shown_import_node c.args.imports.now) (OpenAt outer names table c.args.known.now c.loop-import.here)
     (row_last (imports_row outer) shown_import_node (s, b) c.args.imports.now
     (OpenAt outer names table c.args.known.now c.loop-import.here) c.loop-import.import-index
     c.loop-import-test.false
-    (c.loop-import.invariant.left s b outer names table h)) d
+    (c.loop-import.invariant.left s b outer names table h))
 
 pub returns-clause-added : goal.returns-clause-added
 returns-clause-added c = λ s b outer names table h.

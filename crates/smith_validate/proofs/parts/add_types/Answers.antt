@@ -35,7 +35,7 @@ loop-ty-preserved c =
           (c.loop-ty.invariant.left b outer names table h) in
           row_more (types_row outer) b (map shown_type_node xs) (BodyNow outer names table c.loop-ty.known c.loop-ty.body) (shown_type_node x)
           (map shown_type_node (drop (i + 1) xs)) l
-          (BodyNow outer names table c.declare_type.new.known c.declare_type.new.body) (λ d. done.judged d l.at outer names (table ++ l.is.0) l.is.1)
+          (BodyNow outer names table c.declare_type.new.known c.declare_type.new.body) (done.judged l.at outer names (table ++ l.is.0) l.is.1)
           (body_more true c.declare_type.new.known c.declare_type.new.body _ outer names table l.is.0 (done.added l.at outer names (table ++ l.is.0) l.is.1));
       exact = λ b outer named table h u.
           let xs = c.args.types.now in
@@ -51,7 +51,7 @@ loop-ty-preserved c =
     }
 
 pub returns-in_err-declare_type-clause-judged : goal.returns-in_err-declare_type-clause-judged
-returns-in_err-declare_type-clause-judged c = λ d b outer names table h.
+returns-in_err-declare_type-clause-judged c = λ b outer names table h.
     let xs = c.args.types.now in
     let i = c.loop-ty.ty-index in
     let x = c.ty-item.result in
@@ -59,15 +59,15 @@ returns-in_err-declare_type-clause-judged c = λ d b outer names table h.
     (c.loop-ty.invariant.left b outer names table h) in
     passed_on _ _ c.from_residual.ensures.1
     (row_exit (types_row outer) b (map shown_type_node xs) (BodyNow outer names table c.loop-ty.known c.loop-ty.body) (shown_type_node x)
-    (map shown_type_node (drop (i + 1) xs)) l d
-    ((c.in_err-declare_type.ensures {u = tt}).judged d l.at outer names (table ++ l.is.0) l.is.1))
+    (map shown_type_node (drop (i + 1) xs)) l
+    ((c.in_err-declare_type.ensures {u = tt}).judged l.at outer names (table ++ l.is.0) l.is.1))
 
 pub returns-clause-judged : goal.returns-clause-judged
-returns-clause-judged c = λ d b outer names table h.
+returns-clause-judged c = λ b outer names table h.
     row_valid (types_row outer) b (map shown_type_node c.args.types.now) (BodyNow outer names table c.loop-ty.known c.loop-ty.body)
     (row_last (types_row outer) shown_type_node b c.args.types.now
     (BodyNow outer names table c.loop-ty.known c.loop-ty.body) c.loop-ty.ty-index c.loop-ty-test.false
-    (c.loop-ty.invariant.left b outer names table h)) d
+    (c.loop-ty.invariant.left b outer names table h))
 
 pub returns-clause-added : goal.returns-clause-added
 returns-clause-added c = λ b outer names table h.

@@ -10,16 +10,16 @@ use Rattle.smith_validate.proofs.TypeSteps.{body_declared}
 use Rattle.smith_validate.proofs.parts.declare_type.Goals as goal
 
 pub returns-in_err-facts-clause-judged : goal.returns-in_err-facts-clause-judged
-returns-in_err-facts-clause-judged c = λ d b outer names table s.
+returns-in_err-facts-clause-judged c = λ b outer names table s.
     passed_on _ _ c.from_residual.ensures.1
-    (refute_by (λ q. q.0) ((c.in_err-facts.ensures {u = tt}).judged d b.own outer (names_of b.exports) names table s.scopes))
+    (refute_by (λ d q. q.0) ((c.in_err-facts.ensures {u = tt}).judged b.own outer (names_of b.exports) names table s.scopes))
 
 pub returns-clause-judged : goal.returns-clause-judged
-returns-clause-judged c = λ d b outer names table s.
+returns-clause-judged c = λ b outer names table s.
     let done = c.in_ok-facts.ensures {u = tt} in
     let here = names_of b.exports in
     let kept = done.kept b.own outer here names table s.scopes in
-    judged_by c.add_type.result (λ p. (done.judged d b.own outer here names table s.scopes, p)) (λ q. q.1)
+    judged_by c.add_type.result (λ p. (done.judged b.own outer here names table s.scopes, p)) (λ d q. q.1)
     (c.add_type.ensures.judged true b outer names (table ++ kept.more) (facts (shown_type_node c.args.ty.now) b.own outer)
     (body_declared true c.args.known.now _ c.args.body.now b outer names table kept.more s done.own done.outer kept.instances_are))
 

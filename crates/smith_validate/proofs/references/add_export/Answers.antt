@@ -2,18 +2,18 @@ use Rattle.std.proofs.Common.{◌+◌, ap, sym, ◌∙◌, length, subst, arith}
 use Rattle.smith_validity.specs.Bodies.{after_export, exported_facts, externs_at, reference_size}
 use Rattle.smith_validity.specs.Counts.{ValidCounts, with_export, with_type_count}
 use Rattle.smith_validity.specs.Facts.{sizes}
-use Rattle.smith_validity.specs.Validates.{exported, names_of}
+use Rattle.smith_validity.specs.Validates.{names_of}
 use Rattle.smith_syntax.specs.Scope.{with_types}
 use Rattle.smith_validate.specs.Bodies.{IsIn, IsRole}
 use Rattle.smith_validate.specs.Counted.{counted}
-use Rattle.smith_validate.proofs.Judging.{asked_met, judged_by, on_by, on_judged}
+use Rattle.smith_validate.proofs.Judging.{judged_by, keeps_by, on_by, on_judged}
 use Rattle.smith_validate.proofs.Names.{names_append}
 use Rattle.smith_validate.specs.Exact.{IsKeptBody}
 use Rattle.smith_validate.proofs.ExportSteps.{export_exactly}
 use Rattle.smith_validate.proofs.references.add_export.Goals as goal
 
 pub returns-clause-judged : goal.returns-clause-judged
-returns-clause-judged c = λ d asks b outer names table s.
+returns-clause-judged c = λ asks b outer names table s.
     let to = c.args.to in
     let fs = exported_facts b.own outer to in
     let named = (c.in_ok-name_export.ensures {u = tt}).named asks b outer names table s.scopes s.role_is in
@@ -27,10 +27,10 @@ returns-clause-judged c = λ d asks b outer names table s.
     ((c.in_ok-add_export.ensures {u = tt}).judged (subst ValidCounts (sym s.counts_are) s.small.1))) in
     judged_by c.add_exported.result
     (λ p. (
-      asked_met d asks (exported b) (externs_at b.own outer to) named.0,
+      named.0,
       (omega (arith, bound, s.size_is), subst ValidCounts (ap (λ m. with_type_count m (length fs)) counts) p),
     ))
-    (λ q. subst ValidCounts (sym (ap (λ m. with_type_count m (length fs)) counts)) q.1.1)
+    (λ d q. keeps_by d.counts (λ k. subst ValidCounts (sym (ap (λ m. with_type_count m (length fs)) counts)) k) q.1.1)
     (c.add_exported.ensures.judged b.own outer (names_of b.exports) names table
     s.scopes valid)
 
@@ -50,7 +50,7 @@ returns-clause-added c = λ asks b outer names table s.
     (subst ValidCounts (ap (λ m. with_export m to) s.counts_are)
     ((c.in_ok-add_export.ensures {u = tt}).judged (subst ValidCounts (sym s.counts_are) s.small.1))) in
     let here = names_of b.exports in
-    on_judged c.add_exported.result
+    on_judged c.add_exported.result _
     (λ k m j. record {
       scopes = subst (λ ids. IsIn c.add_exported.new.known (with_types b.own fs) outer ids names table) (sym (names_append b.exports xs)) k;
       size_is = grown ∙ ap (λ z. z + n) s.size_is;

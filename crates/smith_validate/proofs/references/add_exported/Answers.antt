@@ -2,6 +2,7 @@ use Rattle.std.proofs.Common.{◌∷◌, ◌++◌, [], ap, sym, ◌∙◌, lengt
 use Rattle.smith_input.specs.NewNames.{is_among}
 use Rattle.smith_validity.specs.Bodies.{equal_facts, exported_facts, externs_at}
 use Rattle.smith_validity.specs.Counts.{ValidCounts, with_type_count}
+use Rattle.smith_validity.specs.Demands.{Keeps}
 use Rattle.smith_validity.specs.Facts.{id_at}
 use Rattle.smith_validity.specs.Validates.{names_of}
 use Rattle.smith_validate.specs.Counted.{counted}
@@ -60,7 +61,7 @@ returns-in_err-add_type-clause-judged c = λ own outer here names table s v.
     let f = beside (IsKept table (here ∷ names)) c.args.known.now.own.types.items own.types i c.in-Some.facts s.types_are.0 c.in-Some.ensures.facts in
     rw (c.in-TypeEq.is)
     (passed_on _ _ c.from_residual.ensures.1
-    (refuted_at (λ fs. ValidCounts (with_type_count (counted c.args.counts.now) (length fs))) _ _
+    (refuted_at (λ fs d. Keeps d.counts (ValidCounts (with_type_count (counted c.args.counts.now) (length fs)))) _ _
     (sym (exported_one own outer i f.item f.at)) ((c.in_err-add_type.ensures {u = tt}).judged v)))
 
 pub returns-clause-added : goal.returns-clause-added

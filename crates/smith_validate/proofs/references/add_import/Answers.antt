@@ -1,25 +1,24 @@
 use Rattle.std.proofs.Common.{◌+◌, ap, sym, ◌∙◌, subst, arith}
-use Rattle.smith_validity.specs.Bodies.{after_import, externs_at, reference_size}
+use Rattle.smith_validity.specs.Bodies.{after_import, reference_size}
 use Rattle.smith_validity.specs.Counts.{ValidCounts, with_import}
 use Rattle.smith_validity.specs.Facts.{sizes}
-use Rattle.smith_validity.specs.Validates.{imported}
 use Rattle.smith_validate.specs.Bodies.{IsRole}
 use Rattle.smith_validate.specs.Counted.{counted}
-use Rattle.smith_validate.proofs.Judging.{demand_met, judged_by, on_any, on_judged}
+use Rattle.smith_validate.proofs.Judging.{judged_by, keeps_by, on_any, on_judged}
 use Rattle.smith_validate.specs.Exact.{IsKeptBody}
 use Rattle.smith_validate.proofs.ExportSteps.{import_exactly}
 use Rattle.smith_validate.proofs.references.add_import.Goals as goal
 
 pub returns-clause-judged : goal.returns-clause-judged
-returns-clause-judged c = λ d asks b outer names table s.
+returns-clause-judged c = λ asks b outer names table s.
     let to = c.args.to in
     let named = (c.in_ok-name_import.ensures {u = tt}).named asks b outer names table s.scopes s.role_is in
     let n = reference_size b.own.core_types (sizes b.own.types) to in
     let valid = subst ValidCounts (ap (λ m. with_import m to) s.counts_are)
     ((c.in_ok-add_import.ensures {u = tt}).judged (subst ValidCounts (sym s.counts_are) s.small.1)) in
     judged_by c.add_size.result
-    (λ p. (demand_met d (imported b) (externs_at b.own outer to) named.0, (omega (arith, p, s.size_is), valid)))
-    (λ q. omega (arith, q.1.0, s.size_is))
+    (λ p. (named.0, (omega (arith, p, s.size_is), valid)))
+    (λ d q. keeps_by d.sizes (λ k. omega (arith, k, s.size_is)) q.1.0)
     (c.add_size.ensures.judged n (c.size_of_reference.ensures b.own s.scopes.own_is))
 
 pub returns-clause-added : goal.returns-clause-added
@@ -31,7 +30,7 @@ returns-clause-added c = λ asks b outer names table s.
     let counts = (c.in_ok-add_import.ensures {u = tt}).added ∙ ap (λ m. with_import m to) s.counts_are in
     let valid = subst ValidCounts (ap (λ m. with_import m to) s.counts_are)
     ((c.in_ok-add_import.ensures {u = tt}).judged (subst ValidCounts (sym s.counts_are) s.small.1)) in
-    on_judged c.add_size.result
+    on_judged c.add_size.result _
     (λ grown same j. record {
       scopes = s.scopes;
       size_is = grown ∙ ap (λ m. m + n) s.size_is;

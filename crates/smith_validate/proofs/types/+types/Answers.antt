@@ -30,16 +30,16 @@ use Rattle.smith_validate.proofs.Valued.{plain_kept}
 use Rattle.smith_validate.proofs.types.+types.Goals as goal
 
 pub add_decl-returns-in_err-facts-in-Type-clause-judged : goal.add_decl-returns-in_err-facts-in-Type-clause-judged
-add_decl-returns-in_err-facts-in-Type-clause-judged t c = λ d asks b outer names table s.
+add_decl-returns-in_err-facts-in-Type-clause-judged t c = λ asks b outer names table s.
     rw (c.in-Type.is, shown_declared c.in-Type.ty)
     (passed_on _ _ c.from_residual-in_err-facts-in-Type.ensures.1
-    (refute_by (λ q. q.0) ((c.in_err-facts-in-Type.ensures {u = tt}).judged d b.own outer (names_of b.exports) names table s.scopes)))
+    (refute_by (λ d q. q.0) ((c.in_err-facts-in-Type.ensures {u = tt}).judged b.own outer (names_of b.exports) names table s.scopes)))
 
 pub add_decl-returns-in_ok-facts-in-Core-clause-judged : goal.add_decl-returns-in_ok-facts-in-Core-clause-judged
-add_decl-returns-in_ok-facts-in-Core-clause-judged t c = λ d asks b outer names table s.
+add_decl-returns-in_ok-facts-in-Core-clause-judged t c = λ asks b outer names table s.
     let done = c.in_ok-facts-in-Core.ensures {u = tt} in
     rw (c.in-Core.is, shown_core c.in-Core.ty)
-    (judged_by c.add_core_type.result (λ p. (done.judged b.own s.scopes.own_is, p)) (λ q. q.1)
+    (judged_by c.add_core_type.result (λ p. (done.judged b.own s.scopes.own_is, p)) (λ d q. q.1)
     (c.add_core_type.ensures.judged asks b outer names table (core_facts (shown_core_node c.in-Core.ty) b.own) s))
 
 pub add_decl-returns-in_ok-facts-in-Core-clause-added : goal.add_decl-returns-in_ok-facts-in-Core-clause-added
@@ -52,12 +52,12 @@ add_decl-returns-in_ok-facts-in-Core-clause-added t c = λ asks b outer names ta
     (c.add_core_type.ensures.added asks b outer names table f s (done.kept b.own s.scopes.own_is)))
 
 pub add_decl-returns-in_ok-facts-in-Type-clause-judged : goal.add_decl-returns-in_ok-facts-in-Type-clause-judged
-add_decl-returns-in_ok-facts-in-Type-clause-judged t c = λ d asks b outer names table s.
+add_decl-returns-in_ok-facts-in-Type-clause-judged t c = λ asks b outer names table s.
     let done = c.in_ok-facts-in-Type.ensures {u = tt} in
     let here = names_of b.exports in
     let kept = done.kept b.own outer here names table s.scopes in
     rw (c.in-Type.is, shown_declared c.in-Type.ty)
-    (judged_by c.add_type.result (λ p. (done.judged d b.own outer here names table s.scopes, p)) (λ q. q.1)
+    (judged_by c.add_type.result (λ p. (done.judged b.own outer here names table s.scopes, p)) (λ d q. q.1)
     (c.add_type.ensures.judged asks b outer names (table ++ kept.more) (facts (shown_type_node c.in-Type.ty) b.own outer)
     (body_declared asks c.args.known.now _ c.args.body.now b outer names table kept.more s done.own done.outer kept.instances_are)))
 
@@ -75,14 +75,14 @@ add_decl-returns-in_ok-facts-in-Type-clause-added t c = λ asks b outer names ta
     (done.size b.own outer here names table s.scopes) kept.is))
 
 pub add_decl-returns-in-TypeAlias-clause-judged : goal.add_decl-returns-in-TypeAlias-clause-judged
-add_decl-returns-in-TypeAlias-clause-judged t c = λ d asks b outer names table s.
+add_decl-returns-in-TypeAlias-clause-judged t c = λ asks b outer names table s.
     let count = c.in-TypeAlias.count in
     let i = c.in-TypeAlias.index in
     let found = c.type_named-facts.ensures.size
     ∙ (ap (λ os. named_at (λ o. o.types) os count i) (scopes_kept _ b.own outer (names_of b.exports) names table s.scopes) ∙ type_kept count i
     (b.own ∷ outer)) in
     rw (c.in-TypeAlias.is, shown_alias count i)
-    (judged_by c.add_named.result (λ p. (tt, p)) (λ q. q.1) (c.add_named.ensures.judged asks b outer names table _ s found))
+    (judged_by c.add_named.result (λ p. (tt, p)) (λ d q. q.1) (c.add_named.ensures.judged asks b outer names table _ s found))
 
 pub add_decl-returns-in-TypeAlias-clause-added : goal.add_decl-returns-in-TypeAlias-clause-added
 add_decl-returns-in-TypeAlias-clause-added t c = λ asks b outer names table s.
@@ -101,14 +101,14 @@ add_decl-returns-in-TypeAlias-clause-added t c = λ asks b outer names table s.
     (c.add_named.ensures.added asks b outer names table f s found kept))
 
 pub add_decl-returns-in-CoreTypeAlias-clause-judged : goal.add_decl-returns-in-CoreTypeAlias-clause-judged
-add_decl-returns-in-CoreTypeAlias-clause-judged t c = λ d asks b outer names table s.
+add_decl-returns-in-CoreTypeAlias-clause-judged t c = λ asks b outer names table s.
     let count = c.in-CoreTypeAlias.count in
     let i = c.in-CoreTypeAlias.index in
     let found = c.core_type_named-facts.ensures
     ∙ (ap (λ os. named_at (λ o. o.core_types) os count i) (scopes_kept _ b.own outer (names_of b.exports) names table s.scopes)
     ∙ core_kept count i (b.own ∷ outer)) in
     rw (c.in-CoreTypeAlias.is, shown_core_alias count i)
-    (judged_by c.add_core_named.result (λ p. (tt, p)) (λ q. q.1) (c.add_core_named.ensures.judged asks b outer names table _ s found))
+    (judged_by c.add_core_named.result (λ p. (tt, p)) (λ d q. q.1) (c.add_core_named.ensures.judged asks b outer names table _ s found))
 
 pub add_decl-returns-in-CoreTypeAlias-clause-added : goal.add_decl-returns-in-CoreTypeAlias-clause-added
 add_decl-returns-in-CoreTypeAlias-clause-added t c = λ asks b outer names table s.
@@ -124,8 +124,8 @@ add_decl-returns-in-CoreTypeAlias-clause-added t c = λ asks b outer names table
     (c.add_core_named.ensures.added asks b outer names table f s found))
 
 pub add_decl-returns-in-Import-clause-judged : goal.add_decl-returns-in-Import-clause-judged
-add_decl-returns-in-Import-clause-judged t c = λ d asks b outer names table s.
-    rw (c.in-Import.is, shown_import c.in-Import.name c.in-Import.to) (c.add_import.ensures.judged d asks b outer names table s)
+add_decl-returns-in-Import-clause-judged t c = λ asks b outer names table s.
+    rw (c.in-Import.is, shown_import c.in-Import.name c.in-Import.to) (c.add_import.ensures.judged asks b outer names table s)
 
 pub add_decl-returns-in-Import-clause-added : goal.add_decl-returns-in-Import-clause-added
 add_decl-returns-in-Import-clause-added t c = λ asks b outer names table s.
@@ -134,9 +134,9 @@ add_decl-returns-in-Import-clause-added t c = λ asks b outer names table s.
     (c.add_import.ensures.added asks b outer names table s))
 
 pub add_decl-returns-in-Export-clause-judged : goal.add_decl-returns-in-Export-clause-judged
-add_decl-returns-in-Export-clause-judged t c = λ d asks b outer names table s.
+add_decl-returns-in-Export-clause-judged t c = λ asks b outer names table s.
     rw (c.in-Export.is, shown_export c.in-Export.name c.in-Export.to)
-    (export_judged c.add_export.result d asks (string_bytes c.in-Export.name) c.in-Export.to outer b (c.add_export.ensures.judged d asks b outer names table s))
+    (export_judged c.add_export.result asks (string_bytes c.in-Export.name) c.in-Export.to outer b (c.add_export.ensures.judged asks b outer names table s))
 
 pub add_decl-returns-in-Export-clause-added : goal.add_decl-returns-in-Export-clause-added
 add_decl-returns-in-Export-clause-added t c = λ asks b outer names table s.
@@ -165,7 +165,7 @@ add_decls-loop-decl-preserved t c =
           let l = decls_at asks own outer ns table c.args.decls.now c.loop-decl.known c.loop-decl.body c.loop-decl.decl-index c.decl-item.result
           c.loop-decl-test.true c.decl-item.is (c.loop-decl.invariant.left asks own outer here names table s e f) in
           decls_more asks own outer _ ns table _ _ _ _ l c.add_decl.new.known c.add_decl.new.body
-          (λ d. done.judged d asks l.b (own ∷ outer) ns (table ++ l.more) l.is)
+          (done.judged asks l.b (own ∷ outer) ns (table ++ l.more) l.is)
           (done.added asks l.b (own ∷ outer) ns (table ++ l.more) l.is);
       exact = λ asks own outer named table h d f u.
           let l = exactly_at asks own outer named table c.args.decls.now c.loop-decl.known c.loop-decl.body c.loop-decl.decl-index c.decl-item.result
@@ -175,19 +175,18 @@ add_decls-loop-decl-preserved t c =
     }
 
 pub add_decls-returns-in_err-add_decl-clause-judged : goal.add_decls-returns-in_err-add_decl-clause-judged
-add_decls-returns-in_err-add_decl-clause-judged t c = λ d asks own outer here names table s e f.
+add_decls-returns-in_err-add_decl-clause-judged t c = λ asks own outer here names table s e f.
     let ns = here ∷ names in
     let l = decls_at asks own outer ns table c.args.decls.now c.loop-decl.known c.loop-decl.body c.loop-decl.decl-index c.decl-item.result
     c.loop-decl-test.true c.decl-item.is (c.loop-decl.invariant.left asks own outer here names table s e f) in
     passed_on _ _ c.from_residual-in_err-add_decl.ensures.1
-    (decls_exit asks own outer _ ns table _ _ _ _ l d ((c.in_err-add_decl.ensures {u = tt}).judged d asks l.b (own ∷ outer) ns (table ++ l.more) l.is))
+    (decls_exit asks own outer _ ns table _ _ _ _ l ((c.in_err-add_decl.ensures {u = tt}).judged asks l.b (own ∷ outer) ns (table ++ l.more) l.is))
 
 pub add_decls-returns-clause-judged : goal.add_decls-returns-clause-judged
-add_decls-returns-clause-judged t c = λ d asks own outer here names table s e f.
+add_decls-returns-clause-judged t c = λ asks own outer here names table s e f.
     decls_end asks own outer _ (here ∷ names) table _ _
     (decls_last asks own outer (here ∷ names) table c.args.decls.now c.loop-decl.known c.loop-decl.body c.loop-decl.decl-index c.loop-decl-test.false
     (c.loop-decl.invariant.left asks own outer here names table s e f))
-    d
 
 pub add_decls-returns-clause-added : goal.add_decls-returns-clause-added
 add_decls-returns-clause-added t c = λ asks own outer here names table s e f.
@@ -207,13 +206,13 @@ add_decls-returns-clause-outer t c =
     (sym c.leave.ensures.outer ∙ c.loop-decl.invariant.outer)).1
 
 pub type_facts-returns-in_err-add_decls-in-Component-clause-judged : goal.type_facts-returns-in_err-add_decls-in-Component-clause-judged
-type_facts-returns-in_err-add_decls-in-Component-clause-judged t c = λ d own outer here names table s.
+type_facts-returns-in_err-add_decls-in-Component-clause-judged t c = λ own outer here names table s.
     let fresh = subst (λ r. IsFresh true r) (sym c.new-body.ensures.role)
     (refl, λ es ids. (c.new.ensures.imported es ids, c.new.ensures.exported es ids), c.new.ensures.exposed) in
     rw (c.in-Component.is, shown_component c.in-Component.decls)
     (passed_on _ _ c.from_residual.ensures.1
     (rw c.deref.ensures.value at
-    ((c.in_err-add_decls-in-Component.ensures {u = tt}).judged d true own outer here names table s c.new-body.ensures.empty fresh)))
+    ((c.in_err-add_decls-in-Component.ensures {u = tt}).judged true own outer here names table s c.new-body.ensures.empty fresh)))
 
 pub type_facts-returns-in-Defined-clause-kept : goal.type_facts-returns-in-Defined-clause-kept
 type_facts-returns-in-Defined-clause-kept t c = λ own outer here names table s.
@@ -228,12 +227,12 @@ type_facts-returns-in-Func-clause-kept t c = λ own outer here names table s.
     (c.function_facts.ensures.kept (id_at (own ∷ outer)) own.types (here ∷ names) table s.types_are.0))
 
 pub type_facts-returns-in_ok-add_decls-in-Component-clause-judged : goal.type_facts-returns-in_ok-add_decls-in-Component-clause-judged
-type_facts-returns-in_ok-add_decls-in-Component-clause-judged t c = λ d own outer here names table s.
+type_facts-returns-in_ok-add_decls-in-Component-clause-judged t c = λ own outer here names table s.
     let fresh = subst (λ r. IsFresh true r) (sym c.new-body.ensures.role)
     (refl, λ es ids. (c.new.ensures.imported es ids, c.new.ensures.exported es ids), c.new.ensures.exposed) in
     rw (c.in-Component.is, shown_component c.in-Component.decls)
     (rw c.deref.ensures.value at
-    ((c.in_ok-add_decls-in-Component.ensures {u = tt}).judged d true own outer here names table s c.new-body.ensures.empty fresh))
+    ((c.in_ok-add_decls-in-Component.ensures {u = tt}).judged true own outer here names table s c.new-body.ensures.empty fresh))
 
 pub type_facts-returns-in_ok-add_decls-in-Component-clause-size : goal.type_facts-returns-in_ok-add_decls-in-Component-clause-size
 type_facts-returns-in_ok-add_decls-in-Component-clause-size t c = λ own outer here names table s.
@@ -397,3 +396,12 @@ type_facts-returns-in_err-add_decls-in-Component-clause-refused t c = λ own out
     (refused_on _ _ c.from_residual.ensures.1
     ((rw c.deref.ensures.value at
     ((c.in_err-add_decls-in-Component.ensures {u = tt}).refused true own outer named table h d fresh)) u))
+
+pub type_facts-returns-in_err-add_decls-in-Instance-clause-judged : goal.type_facts-returns-in_err-add_decls-in-Instance-clause-judged
+type_facts-returns-in_err-add_decls-in-Instance-clause-judged t c = λ own outer here names table s.
+    let fresh = subst (λ r. IsFresh false r) (sym c.new-body-in-Instance.ensures.role)
+    (refl, c.new-in-Instance.ensures.refers, c.new-in-Instance.ensures.uses, c.new-in-Instance.ensures.any) in
+    rw (c.in-Instance.is, shown_instance c.in-Instance.decls)
+    (passed_on _ _ c.from_residual-in_err-add_decls-in-Instance.ensures.1
+    (rw c.deref-in-Instance.ensures.value at
+    ((c.in_err-add_decls-in-Instance.ensures {u = tt}).judged false own outer here names table s c.new-body-in-Instance.ensures.empty fresh)))

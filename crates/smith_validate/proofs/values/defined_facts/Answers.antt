@@ -2,6 +2,7 @@ use Rattle.std.proofs.Common.{◌≡◌, ◌∙◌, [], ap, append-nil, refl, So
 use Rattle.std.specs.List.{flat_map}
 use Rattle.std.specs.Option.{option_to_list}
 use Rattle.std.specs.Prelude.{◌<◌}
+use Rattle.smith_validity.specs.Demands.{Keeps}
 use Rattle.smith_validity.specs.Facts.{sizes}
 use Rattle.smith_validity.specs.Sizes.{size_bound, summed}
 use Rattle.smith_syntax.specs.Shown.{shown_defined}
@@ -19,7 +20,8 @@ returns-in_err-values-in-Record-clause-judged c = λ own k.
     let xs = c.in-Record.ty.fields.items in
     rw (c.in-Record.is)
     (passed_on _ _ c.from_residual.ensures.1
-    (refuted_at (λ ts. summed (sizes own.types) ts < size_bound) _ _ (append-nil (flat_map (λ p. option_to_list (Some p.1)) xs) ∙ field_types xs)
+    (refuted_at (λ ts d. Keeps d.sizes (summed (sizes own.types) ts < size_bound)) _ _
+    (append-nil (flat_map (λ p. option_to_list (Some p.1)) xs) ∙ field_types xs)
     (rw c.deref.ensures.value at ((c.in_err-values-in-Record.ensures {u = tt}).judged own k))))
 
 pub returns-in_ok-values-in-Record-clause-judged : goal.returns-in_ok-values-in-Record-clause-judged
@@ -43,7 +45,7 @@ returns-in_err-values-in-Variant-clause-judged c = λ own k.
     let xs = c.in-Variant.ty.cases.items in
     rw (c.in-Variant.is)
     (passed_on _ _ c.from_residual-in_err-values-in-Variant.ensures.1
-    (refuted_at (λ ts. summed (sizes own.types) ts < size_bound) _ _ (append-nil (flat_map (λ p. option_to_list p.1) xs) ∙ case_types xs)
+    (refuted_at (λ ts d. Keeps d.sizes (summed (sizes own.types) ts < size_bound)) _ _ (append-nil (flat_map (λ p. option_to_list p.1) xs) ∙ case_types xs)
     (rw c.deref-in-Variant.ensures.value at ((c.in_err-values-in-Variant.ensures {u = tt}).judged own k))))
 
 pub returns-in_ok-values-in-Variant-clause-judged : goal.returns-in_ok-values-in-Variant-clause-judged
@@ -67,7 +69,8 @@ returns-in_err-values-in-Tuple-clause-judged c = λ own k.
     let xs = c.in-Tuple.ty.fields.items in
     rw (c.in-Tuple.is)
     (passed_on _ _ c.from_residual-in_err-values-in-Tuple.ensures.1
-    (refuted_at (λ ts. summed (sizes own.types) ts < size_bound) _ _ (append-nil (flat_map (λ v. option_to_list (Some v)) xs) ∙ tuple_types xs)
+    (refuted_at (λ ts d. Keeps d.sizes (summed (sizes own.types) ts < size_bound)) _ _
+    (append-nil (flat_map (λ v. option_to_list (Some v)) xs) ∙ tuple_types xs)
     (rw c.deref-in-Tuple.ensures.value at ((c.in_err-values-in-Tuple.ensures {u = tt}).judged own k))))
 
 pub returns-in_ok-values-in-Tuple-clause-judged : goal.returns-in_ok-values-in-Tuple-clause-judged

@@ -2,6 +2,7 @@ use Rattle.std.proofs.Common.{◌≡◌, ◌++◌, ◌∙◌, ap, map, refl, sub
 use Rattle.std.specs.Option.{option_to_list}
 use Rattle.std.specs.Prelude.{◌<◌}
 use Rattle.smith_syntax.specs.Signature.{named}
+use Rattle.smith_validity.specs.Demands.{Keeps}
 use Rattle.smith_validity.specs.Facts.{sizes}
 use Rattle.smith_validity.specs.Sizes.{size_bound, summed}
 use Rattle.smith_validate.specs.Kept.{capped}
@@ -17,7 +18,7 @@ returns-in_err-values-clause-judged c = λ own k.
     let ps = c.ty.inside.params.items in
     rw (← c.ty.view_is)
     (passed_on _ _ c.from_residual.ensures.1
-    (refuted_at (λ ts. summed (sizes own.types) (ts ++ option_to_list c.ty.inside.result) < size_bound) _ _ (field_types ps)
+    (refuted_at (λ ts d. Keeps d.sizes (summed (sizes own.types) (ts ++ option_to_list c.ty.inside.result) < size_bound)) _ _ (field_types ps)
     (rw c.deref.ensures.value at ((c.in_err-values.ensures {u = tt}).judged own k))))
 
 pub returns-clause-judged : goal.returns-clause-judged

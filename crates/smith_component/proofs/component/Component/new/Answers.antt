@@ -7,6 +7,7 @@ use Rattle.smith_component.specs.Runs.{RunsTo}
 use Rattle.smith_component.proofs.Finishing.{err_by, ok_by}
 use Rattle.smith_component.proofs.Plans.{plan_lacks_none, plan_refuses_no_module, run_is_plan}
 use Rattle.smith_component.proofs.Refusals.{refused_accepted}
+use Rattle.smith_component.proofs.RunsButLast.{runs_end}
 use Rattle.smith_component.proofs.RunsFinishable.{runs_finish}
 use Rattle.smith_component.proofs.RunsReadable.{runs_come}
 use Rattle.smith_component.proofs.Stepped.{valid_generated}
@@ -23,7 +24,13 @@ returns-clause-made c =
     let is = c.new-progress.ensures.made.0 in
     let consistent = subst IsConsistent is c.new-progress.ensures.sound.0.sound.consistent in
     let run = subst (λ (k : Config). IfOk c.run.result (λ x. RunsTo k c.args.u.now x c.run.new.u)) is c.run.ensures.run in
-    ok_by c.run.result (λ x r. record { run = r; image = runs_come _ _ _ _ consistent r; finishable = λ followed. runs_finish _ _ _ _ followed r }) run
+    ok_by c.run.result
+    (λ x r. record {
+      run = r;
+      image = runs_come _ _ _ _ consistent r;
+      finishable = λ followed. runs_finish _ _ _ _ followed r;
+      but_last = runs_end _ _ _ _ r;
+    }) run
 
 pub returns-clause-validates : goal.returns-clause-validates
 returns-clause-validates c valid =
