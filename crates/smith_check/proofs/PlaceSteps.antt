@@ -73,6 +73,19 @@ parts_is : (ps : List Part) → parts_of (tree_of ps) ≡ ps
 parts_is [] = refl
 parts_is (p ∷ ps) = ap (λ qs. p ∷ qs) (parts_is ps)
 
+-- what there is up to a place in one of them
+pub upto_is : (qs : List Part) (i : ℕ) (q : Part) → slice_get qs i ≡ Some q → (inner : List ℕ) (n : ℕ)
+    → upto (i ∷ inner) n (tree_of qs) ≡ tree_of (take i qs ++ upto_in inner n q)
+upto_is qs i q there inner n =
+    ap (λ rs. tree_of (take i rs ++ flat_map (upto_in inner n) (option_to_list (slice_get rs i)))) (parts_is qs)
+    ∙ ap (λ o. tree_of (take i qs ++ flat_map (upto_in inner n) (option_to_list o))) there
+    ∙ ap (λ rs. tree_of (take i qs ++ rs)) (append-nil (upto_in inner n q))
+
+-- the section of a node
+pub shown_at : (ps : List PartNode) (i : ℕ) (p : PartNode) → i < length ps → p ≡ get_or ps i p
+    → slice_get (map shown_part_node ps) i ≡ Some (shown_part_node p)
+shown_at ps i p h e = slice_get-map shown_part_node ps i ∙ ap (option_map shown_part_node) (slice_get-get_or ps i p h ∙ ap Some (sym e))
+
 -- what its sections are judged as
 abbrev pub sections_judged : List Scope → List Part → Tree → Type 0
 sections_judged outer ps before = Formed (tree_of ps) outer before
@@ -86,14 +99,10 @@ module _ (ps : List PartNode) (i : ℕ) (p : PartNode) (h : i < length ps) (e : 
       (λ ys. same_row (sections_judged outer ys) (add (tree_upto i ps) (shown_part_node p)) (tree_upto (i + 1) ps) (sym (upto_more ps i p h e)) formed)
 
   -- what there is up to a place in that section
-  upto_is : (inner : List ℕ) (n : ℕ)
+  upto_here : (inner : List ℕ) (n : ℕ)
       → upto (i ∷ inner) n (tree_of (map shown_part_node ps)) ≡ tree_of (map shown_part_node (take i ps) ++ upto_in inner n (shown_part_node p))
-  upto_is inner n =
-      let there : slice_get (map shown_part_node ps) i ≡ Some (shown_part_node p) =
-      slice_get-map shown_part_node ps i ∙ ap (option_map shown_part_node) (slice_get-get_or ps i p h ∙ ap Some (sym e)) in
-      ap (λ qs. tree_of (take i qs ++ flat_map (upto_in inner n) (option_to_list (slice_get qs i)))) (parts_is (map shown_part_node ps))
-      ∙ ap (λ o. tree_of (take i (map shown_part_node ps) ++ flat_map (upto_in inner n) (option_to_list o))) there
-      ∙ ap (λ qs. tree_of (take i (map shown_part_node ps) ++ qs)) (append-nil (upto_in inner n (shown_part_node p)))
+  upto_here inner n =
+      upto_is (map shown_part_node ps) i (shown_part_node p) (shown_at ps i p h e) inner n
       ∙ ap (λ qs. tree_of (qs ++ upto_in inner n (shown_part_node p))) (take-map shown_part_node i ps)
 
   pub in_sections : (path : List ℕ) (track : Track) → IsIn (path ++ i ∷ []) track (shown_part_node p) outer (tree_upto i ps)
@@ -103,8 +112,8 @@ module _ (ps : List PartNode) (i : ℕ) (p : PartNode) (h : i < length ps) (e : 
     path_is = w.path_is ∙ append_assoc path (i ∷ []) w.inner;
     first = first_by track.place.entry
         (λ n. record {
-          to = λ f. subst (λ u. Formed u outer ends) (sym (upto_is w.inner n)) ((front.same (upto_in w.inner n (shown_part_node p))).from f);
-          from = λ f. (front.same (upto_in w.inner n (shown_part_node p))).to (subst (λ u. Formed u outer ends) (upto_is w.inner n) f);
+          to = λ f. subst (λ u. Formed u outer ends) (sym (upto_here w.inner n)) ((front.same (upto_in w.inner n (shown_part_node p))).from f);
+          from = λ f. (front.same (upto_in w.inner n (shown_part_node p))).to (subst (λ u. Formed u outer ends) (upto_here w.inner n) f);
         })
         w.first;
   }

@@ -1,6 +1,6 @@
 -- Where an entry is in a component's bytes.
 use Rattle.std.proofs.Common.{◌≡◌, ℕ, ◌+◌, ◌-◌, ◌<◌, ◌≤◌, List, [], ◌∷◌, ◌++◌, length, take, Option, Some, None, option_map, slice_get}
-use Rattle.std.proofs.Common.{append_assoc, refl, ap, sym, ◌∙◌, arith, Bool, true, false, cond, nat_lt}
+use Rattle.std.proofs.Common.{append_assoc, refl, ap, sym, ◌∙◌, arith, Bool, true, false, cond, nat_eq, nat_lt, zero, suc}
 use Rattle.std.proofs.lemmas.List.{length-append, take_at}
 use Rattle.std.proofs.lemmas.Option.{same_Some}
 use Rattle.smith_format.specs.Piece.{Piece, ◌⊕◌, byte, bytes, each, many, u}
@@ -10,8 +10,8 @@ use Rattle.smith_tree.specs.Depths.{scope_depth, scope_depth_in}
 use Rattle.smith_tree.specs.Grammar.{Spells, canon, component_text, export_entry, part, parts, preamble}
 use Rattle.smith_tree.specs.Tree.{Part, Tree, canons, component, core_module, core_types, custom, exports, imports, parts_of, types}
 use Rattle.smith_read_types.specs.Reading.{◌>>=◌, u_at}
-use Rattle.smith_places.specs.Finding.{behind_at, contents_before, contents_in, entries_before, first_of, section_at}
-use Rattle.smith_places.specs.Places.{before, before_entry, before_inside, before_section, list_before, offset_in, opened}
+use Rattle.smith_places.specs.Finding.{behind_at, contents_before, contents_in, entries_before, first_of, is_one, section_at}
+use Rattle.smith_places.specs.Places.{before, before_entry, before_inside, before_section, list_before, offset_in, opened, sole_before}
 use Rattle.smith_places.proofs.Counting.{Rest, Split, spelled, split}
 use Rattle.smith_places.proofs.Skipping.{At, at, depth_at, gone, id_of, tree_each}
 
@@ -80,35 +80,74 @@ contents_counted index (canons fs) b rest n m e r h = list_counted canon index f
 contents_counted index (imports is) b rest n m e r h = list_counted import_entry index is b rest n m e r h
 contents_counted index (exports es) b rest n m e r h = list_counted export_entry index es b rest n m e r h
 
-pub contents_gone : (index : ℕ) (p : Part) → option_map length (entries_before index p) ≡ None → option_map length (contents_before index p) ≡ None
-contents_gone index (custom a c) e = refl
-contents_gone index (core_module a) e = refl
-contents_gone index (core_types ts) e = list_gone core_entry index ts e
-contents_gone index (component t) e = refl
-contents_gone index (types ts) e = list_gone entry index ts e
-contents_gone index (canons fs) e = list_gone canon index fs e
-contents_gone index (imports is) e = list_gone import_entry index is e
-contents_gone index (exports es) e = list_gone export_entry index es e
+pub contents_gone : (index : ℕ) (p : Part) → is_one p ≡ false → option_map length (entries_before index p) ≡ None
+    → option_map length (contents_before index p) ≡ None
+contents_gone index (custom a c) o e = refl
+contents_gone index (core_module a) o e = absurd cc
+contents_gone index (core_types ts) o e = list_gone core_entry index ts e
+contents_gone index (component t) o e = absurd cc
+contents_gone index (types ts) o e = list_gone entry index ts e
+contents_gone index (canons fs) o e = list_gone canon index fs e
+contents_gone index (imports is) o e = list_gone import_entry index is e
+contents_gone index (exports es) o e = list_gone export_entry index es e
 
-pub no_count : (index : ℕ) (p : Part) (b : List ℕ) → contents_in p ≡ Some b → u_at b ≡ None → option_map length (contents_before index p) ≡ None
-no_count index (custom a c) b e n = refl
-no_count index (core_module a) b e n = refl
-no_count index (core_types ts) b e n = absurd (list_has_count core_entry index ts b e n)
-no_count index (component t) b e n = refl
-no_count index (types ts) b e n = absurd (list_has_count entry index ts b e n)
-no_count index (canons fs) b e n = absurd (list_has_count canon index fs b e n)
-no_count index (imports is) b e n = absurd (list_has_count import_entry index is b e n)
-no_count index (exports es) b e n = absurd (list_has_count export_entry index es b e n)
+pub no_count : (index : ℕ) (p : Part) (b : List ℕ) → is_one p ≡ false → contents_in p ≡ Some b → u_at b ≡ None
+    → option_map length (contents_before index p) ≡ None
+no_count index (custom a c) b o e n = refl
+no_count index (core_module a) b o e n = absurd cc
+no_count index (core_types ts) b o e n = absurd (list_has_count core_entry index ts b e n)
+no_count index (component t) b o e n = absurd cc
+no_count index (types ts) b o e n = absurd (list_has_count entry index ts b e n)
+no_count index (canons fs) b o e n = absurd (list_has_count canon index fs b e n)
+no_count index (imports is) b o e n = absurd (list_has_count import_entry index is b e n)
+no_count index (exports es) b o e n = absurd (list_has_count export_entry index es b e n)
+
+sole_fits : (index : ℕ) (b x : List ℕ) → sole_before index ≡ Some x → length x ≤ length b
+sole_fits zero b x h = omega (arith, ap length (same_Some [] x h))
+sole_fits (suc index) b x h = absurd cc
 
 pub contents_fit : (index : ℕ) (p : Part) (b x : List ℕ) → contents_in p ≡ Some b → contents_before index p ≡ Some x → length x ≤ length b
 contents_fit index (custom a c) b x e h = absurd cc
-contents_fit index (core_module a) b x e h = absurd cc
+contents_fit index (core_module a) b x e h = sole_fits index b x h
 contents_fit index (core_types ts) b x e h = list_fits core_entry index ts b x e h
-contents_fit index (component t) b x e h = absurd cc
+contents_fit index (component t) b x e h = sole_fits index b x h
 contents_fit index (types ts) b x e h = list_fits entry index ts b x e h
 contents_fit index (canons fs) b x e h = list_fits canon index fs b x e h
 contents_fit index (imports is) b x e h = list_fits import_entry index is b x e h
 contents_fit index (exports es) b x e h = list_fits export_entry index es b x e h
+
+-- what a section counts as, by its id
+
+pub one_first : (p : Part) → id_of p ≡ 1 → true ≡ is_one p
+one_first (custom a c) e = absurd (omega (arith, e))
+one_first (core_module a) e = refl
+one_first (core_types ts) e = absurd (omega (arith, e))
+one_first (component t) e = refl
+one_first (types ts) e = absurd (omega (arith, e))
+one_first (canons fs) e = absurd (omega (arith, e))
+one_first (imports is) e = absurd (omega (arith, e))
+one_first (exports es) e = absurd (omega (arith, e))
+
+pub one_next : (p : Part) → (id_of p ≡ 1 → ⊥) → nat_eq (id_of p) 4 ≡ is_one p
+one_next (custom a c) n = refl
+one_next (core_module a) n = absurd (n refl)
+one_next (core_types ts) n = refl
+one_next (component t) n = refl
+one_next (types ts) n = refl
+one_next (canons fs) n = refl
+one_next (imports is) n = refl
+one_next (exports es) n = refl
+
+-- nothing precedes the first entry of a section that counts as one
+pub sole_contents : (index : ℕ) (p : Part) → is_one p ≡ true → contents_before index p ≡ sole_before index
+sole_contents index (custom a c) o = absurd cc
+sole_contents index (core_module a) o = refl
+sole_contents index (core_types ts) o = absurd cc
+sole_contents index (component t) o = refl
+sole_contents index (types ts) o = absurd cc
+sole_contents index (canons fs) o = absurd cc
+sole_contents index (imports is) o = absurd cc
+sole_contents index (exports es) o = absurd cc
 
 -- ---- in a section
 
@@ -117,9 +156,9 @@ opened_none id c = ap (λ q. byte id ⊕ q) (right_none (c >>= λ x. u (length x
 
 pub entry_opened : (index : ℕ) (p : Part) → before_entry index p ≡ opened (id_of p) (contents_in p) (contents_before index p)
 entry_opened index (custom a c) = sym (opened_none 0 _)
-entry_opened index (core_module a) = sym (opened_none 1 _)
+entry_opened index (core_module a) = refl
 entry_opened index (core_types ts) = refl
-entry_opened index (component t) = sym (opened_none 4 _)
+entry_opened index (component t) = refl
 entry_opened index (types ts) = refl
 entry_opened index (canons fs) = refl
 entry_opened index (imports is) = refl

@@ -1,18 +1,18 @@
 -- What begins at the offset of an entry is that entry.
-use Rattle.std.proofs.Common.{◌≡◌, ℕ, suc, ◌+◌, ◌<◌, ◌≤◌, List, [], ◌∷◌, ◌++◌, length, take, drop, get_or, Option, Some, None, option_map, slice_get}
+use Rattle.std.proofs.Common.{◌≡◌, ℕ, zero, suc, ◌+◌, ◌<◌, ◌≤◌, List, [], ◌∷◌, ◌++◌, length, take, drop, get_or, Option, Some, None, option_map, slice_get}
 use Rattle.std.proofs.Common.{append_assoc, refl, ap, sym, ◌∙◌, subst, arith, Bool, true, false, cond, nat_lt}
 use Rattle.std.proofs.Math.Seq.{drop-append-add, drop-cons}
 use Rattle.std.proofs.lemmas.List.{drop-append-le, drop_at, length-append, length-drop}
 use Rattle.std.proofs.lemmas.Option.{same_Some, slice_get-get_or}
 use borrow.Author.Tests.{ltb-true}
 use Rattle.smith_format.specs.Piece.{Piece, ◌⊕◌, each, many, u}
-use Rattle.smith_format.proofs.Piece.{joined, parts_are}
+use Rattle.smith_format.proofs.Piece.{joined, parts_are, right_nil}
 use Rattle.smith_syntax.specs.Grammar.{core_entry, entry, import_entry}
-use Rattle.smith_tree.specs.Grammar.{Spells, canon, component_text, export_entry}
+use Rattle.smith_tree.specs.Grammar.{Spells, canon, component_text, embedded, export_entry}
 use Rattle.smith_tree.specs.Tree.{Part, Tree, canons, component, core_module, core_types, custom, exports, imports, parts_of, types}
 use Rattle.smith_read_types.specs.Reading.{◌>>=◌}
 use Rattle.smith_places.specs.Finding.{contents_before, contents_in}
-use Rattle.smith_places.specs.Places.{IsAtFront, entry_text, inside, list_before, offset_in, place_text}
+use Rattle.smith_places.specs.Places.{IsAtFront, entry_text, inside, list_before, offset_in, place_text, sole_before, sole_text}
 use Rattle.smith_places.proofs.Counting.{Rest, Split, spelled, split}
 use Rattle.smith_places.proofs.Placing.{Placed, contents_fit, missing, of_entry, of_inside, of_none, offset_fits, placed, shift}
 use Rattle.smith_places.proofs.Skipping.{at, id_of, tree_each}
@@ -53,12 +53,17 @@ module _ {A : Type 0} (f : A → Piece) (index : ℕ) (xs : List A) where
           subst (λ (r : List ℕ). IsAtFront (slice_get xs index >>= f) r) d (some s (ltb-true index (length xs) l) (drop index xs) refl)
       by_test s false l g = absurd cc
 
+-- what counts as one entry begins with it
+sole_there : (index : ℕ) (p : Piece) (b x : List ℕ) → p ≡ Some b → sole_before index ≡ Some x → IsAtFront (sole_text p index) (drop (length x) b)
+sole_there zero p b x e h = subst (λ y. IsAtFront p (drop (length y) b)) (same_Some [] x h) ([], right_nil p ∙ e)
+sole_there (suc index) p b x e h = absurd cc
+
 contents_there : (index : ℕ) (p : Part) (b x : List ℕ) → contents_in p ≡ Some b → contents_before index p ≡ Some x
     → IsAtFront (entry_text index p) (drop (length x) b)
 contents_there index (custom a c) b x e h = absurd cc
-contents_there index (core_module a) b x e h = absurd cc
+contents_there index (core_module a) b x e h = sole_there index (embedded a) b x e h
 contents_there index (core_types ts) b x e h = list_there core_entry index ts b x e h
-contents_there index (component t) b x e h = absurd cc
+contents_there index (component t) b x e h = sole_there index (component_text t) b x e h
 contents_there index (types ts) b x e h = list_there entry index ts b x e h
 contents_there index (canons fs) b x e h = list_there canon index fs b x e h
 contents_there index (imports is) b x e h = list_there import_entry index is b x e h

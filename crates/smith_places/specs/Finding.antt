@@ -1,5 +1,6 @@
 -- How sections are found in bytes, and what precedes an entry in one.
-use Rattle.std.specs.Prelude.{◌≡◌, Result, Ok, Err, ℕ, zero, suc, List, length, take, drop, Option, None, Some, option_map, nat_lt, if◌then◌else◌}
+use Rattle.std.specs.Prelude.{◌≡◌, Bool, true, false, Result, Ok, Err, ℕ, zero, suc, List, length, take, drop, Option, None, Some, option_map}
+use Rattle.std.specs.Prelude.{nat_lt, if◌then◌else◌}
 use Rattle.smith_format.specs.Piece.{Piece, ◌⊕◌, each, many, raw, text}
 use Rattle.smith_syntax.specs.Grammar.{core_entry, entry, import_entry}
 use Rattle.smith_tree.specs.Grammar.{canon, component_text, embedded, export_entry}
@@ -7,7 +8,7 @@ use Rattle.smith_tree.specs.Tree.{Part, canons, component, core_module, core_typ
 use Rattle.smith_read_types.specs.Reading.{Found, ◌>>=◌, byte_at, frame_at, u_at}
 use Rattle.smith_read_types.specs.declared.error.Unread.{Unread}
 use Rattle.smith_read_types.specs.declared.error.Unread.TheVariants as error
-use Rattle.smith_places.specs.Places.{list_before}
+use Rattle.smith_places.specs.Places.{list_before, sole_before}
 
 -- a section: its id and its contents
 unfoldable pub section_at : List ℕ → Found (ℕ × List ℕ)
@@ -36,6 +37,17 @@ contents_in (types ts) = many entry ts
 contents_in (canons fs) = many canon fs
 contents_in (imports is) = many import_entry is
 contents_in (exports es) = many export_entry es
+
+-- It counts as one entry.
+abbrev pub is_one : Part → Bool
+is_one (custom name contents) = false
+is_one (core_module bs) = true
+is_one (core_types ts) = false
+is_one (component t) = true
+is_one (types ts) = false
+is_one (canons fs) = false
+is_one (imports is) = false
+is_one (exports es) = false
 
 -- those of a list that precede one of them
 abbrev pub first_of : {A : Type 0} → ℕ → List A → Option (List A)
@@ -66,9 +78,9 @@ entries_before index (exports es) = first_of index es >>= each export_entry
 -- as much of a section's contents as precedes an entry in it
 abbrev pub contents_before : ℕ → Part → Piece
 contents_before index (custom name contents) = None
-contents_before index (core_module text) = None
+contents_before index (core_module text) = sole_before index
 contents_before index (core_types ts) = list_before core_entry ts index
-contents_before index (component t) = None
+contents_before index (component t) = sole_before index
 contents_before index (types ts) = list_before entry ts index
 contents_before index (canons fs) = list_before canon fs index
 contents_before index (imports is) = list_before import_entry is index

@@ -1,8 +1,8 @@
 -- Where an entry of a section is in the bytes of a component: what precedes it (Binary.md, component definitions).
-use Rattle.std.specs.Prelude.{◌≡◌, ℕ, List, [], ◌∷◌, length, take, Option, None, Some, option_map, slice_get, nat_lt, if◌then◌else◌}
+use Rattle.std.specs.Prelude.{◌≡◌, ℕ, zero, suc, List, [], ◌∷◌, length, take, Option, None, Some, option_map, slice_get, nat_lt, if◌then◌else◌}
 use Rattle.smith_format.specs.Piece.{Piece, ◌⊕◌, byte, bytes, each, many, u}
 use Rattle.smith_syntax.specs.Grammar.{core_entry, entry, import_entry}
-use Rattle.smith_tree.specs.Grammar.{canon, component_text, export_entry, part, preamble}
+use Rattle.smith_tree.specs.Grammar.{canon, component_text, embedded, export_entry, part, preamble}
 use Rattle.smith_tree.specs.Tree.{Part, Tree, canons, component, core_module, core_types, custom, exports, imports, parts_of, types}
 use Rattle.smith_read_types.specs.Reading.{◌>>=◌}
 
@@ -14,12 +14,17 @@ opened id contents front = byte id ⊕ (contents >>= λ c. u (length c)) ⊕ fro
 abbrev pub list_before : {A : Type 0} → (A → Piece) → List A → ℕ → Piece
 list_before f xs index = if nat_lt index (length xs) then u (length xs) ⊕ each f (take index xs) else None
 
--- as much of a section as precedes an entry in it
+-- as much of what counts as one entry as precedes an entry in it: nothing precedes the first, and there is no other
+abbrev pub sole_before : ℕ → Piece
+sole_before zero = Some []
+sole_before (suc index) = None
+
+-- As much of a section as precedes an entry in it. A core module and a component count as one entry.
 abbrev pub before_entry : ℕ → Part → Piece
 before_entry index (custom name contents) = None
-before_entry index (core_module text) = None
+before_entry index (core_module text) = opened 1 (embedded text) (sole_before index)
 before_entry index (core_types ts) = opened 3 (many core_entry ts) (list_before core_entry ts index)
-before_entry index (component t) = None
+before_entry index (component t) = opened 4 (component_text t) (sole_before index)
 before_entry index (types ts) = opened 7 (many entry ts) (list_before entry ts index)
 before_entry index (canons fs) = opened 8 (many canon fs) (list_before canon fs index)
 before_entry index (imports is) = opened 10 (many import_entry is) (list_before import_entry is index)
@@ -57,11 +62,15 @@ offset_in path index t = option_map length (before path index t)
 
 -- The encoding of that entry.
 
+abbrev pub sole_text : Piece → ℕ → Piece
+sole_text p zero = p
+sole_text p (suc index) = None
+
 abbrev pub entry_text : ℕ → Part → Piece
 entry_text index (custom name contents) = None
-entry_text index (core_module text) = None
+entry_text index (core_module text) = sole_text (embedded text) index
 entry_text index (core_types ts) = slice_get ts index >>= core_entry
-entry_text index (component t) = None
+entry_text index (component t) = sole_text (component_text t) index
 entry_text index (types ts) = slice_get ts index >>= entry
 entry_text index (canons fs) = slice_get fs index >>= canon
 entry_text index (imports is) = slice_get is index >>= import_entry

@@ -1,20 +1,61 @@
 //! Places in components.
 
-ghost use Rattle.std.specs.Prelude.{◌≡◌, ◌≤◌, Some, IfOk, IfSome, length, option_map};
+ghost use Rattle.std.specs.Prelude.{◌≡◌, ◌≤◌, false, Some, IfOk, IfSome, length, option_map};
 ghost use Rattle.smith_tree.specs.Depths.{scope_depth, scope_depth_in};
 ghost use Rattle.smith_tree.specs.Grammar.{Spells, part};
 ghost use Rattle.smith_tree.specs.Tree.{Part, Tree};
+ghost use Rattle.smith_read_types.specs.Reading.{Gives};
 ghost use Rattle.smith_read.specs.Reads.{most_depth};
-ghost use Rattle.smith_places.specs.Finding.{GivesWhere, contents_before, contents_in};
-ghost use Rattle.smith_places.specs.Places.{offset_in};
+ghost use Rattle.smith_places.specs.Finding.{GivesWhere, contents_before, contents_in, is_one};
+ghost use Rattle.smith_places.specs.Places.{offset_in, sole_before};
 
 use crate::entries::len_before;
 use crate::sections::{behind, section_of, sections_of};
 use smith_read_types::{Reason, Unread, count_of, malformed};
 use std::alloc::{AllocError, Global};
 
+// The id of a section that holds a core module.
+const CORE_MODULE_ID: u8 = 1;
+
 // The id of a section that holds a component.
 const COMPONENT_ID: u8 = 4;
+
+// Whether a section, which is all of these bytes, counts as one entry: that of a core module or of a component.
+fn is_one(section: &[u8]) -> bool
+    ensures { (p : Part) → part p ≡ Some section.now → result ≡ is_one p }
+{
+    match section.first() {
+        Some(id) => *id == CORE_MODULE_ID || *id == COMPONENT_ID,
+        None => false,
+    }
+}
+
+// How many of the contents of such a section precede an entry in it: none, and there is no other than the first.
+fn within_one(section: &[u8], entry: usize) -> Result<usize, Unread>
+    ensures { Gives (λ n. n) result (option_map length (sole_before entry)) }
+{
+    if entry == 0 {
+        Ok(0)
+    } else {
+        Err(malformed(section, Reason::Ends))
+    }
+}
+
+// How many of the contents of a list precede an entry in it.
+fn within_list(
+    alloc: Global,
+    section: &[u8],
+    contents: &[u8],
+    entry: usize,
+) -> Result<usize, Unread>
+    ensures { (p : Part) → part p ≡ Some section.now → is_one p ≡ false → contents_in p ≡ Some contents.now
+        → GivesWhere (scope_depth_in p ≤ most_depth) (λ n. n) result (option_map length (contents_before entry p)) }
+{
+    let (_count, entries) = count_of(contents)?;
+    let len = len_before(alloc, section, entry)?;
+    let left = entries.len().saturating_sub(len);
+    Ok(contents.len().saturating_sub(left))
+}
 
 // How many of the contents of a section, which is all of these bytes, precede an entry in it.
 fn within_section(
@@ -26,10 +67,11 @@ fn within_section(
     ensures { (p : Part) → part p ≡ Some section.now → contents_in p ≡ Some contents.now
         → GivesWhere (scope_depth_in p ≤ most_depth) (λ n. n) result (option_map length (contents_before entry p)) }
 {
-    let (_count, entries) = count_of(contents)?;
-    let len = len_before(alloc, section, entry)?;
-    let left = entries.len().saturating_sub(len);
-    Ok(contents.len().saturating_sub(left))
+    if is_one(section) {
+        within_one(section, entry)
+    } else {
+        within_list(alloc, section, contents, entry)
+    }
 }
 
 // How many of a component's bytes precede a place in it.
@@ -58,7 +100,8 @@ fn within(alloc: Global, bytes: &[u8], sections: &[usize], entry: usize) -> Resu
 
 /// How many of the bytes that spell a component precede an entry in it: the offset of that entry. It is in the section
 /// with the last of the indexes, the first being that of a section of the component, the next that of a section of the
-/// component in that section, and so on. `None` where there is no such entry.
+/// component in that section, and so on. A core module and a component count as the one entry of their section. `None`
+/// where there is no such entry.
 ///
 /// It takes time and memory in proportion to the bytes, and stack in proportion to the number of indexes.
 pub fn offset_of(

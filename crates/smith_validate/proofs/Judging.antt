@@ -98,9 +98,9 @@ on_any (Ok x) {P} p = p
 on_any (Err e) {P} p = tt
 
 -- an error that is passed on
-pub refused_on : {A : Type 0} (r : Result A Stop) (e : Stop) {P : Type 0} → IsErrAnd r (λ y. y ≡ e) → (IsNamed e → ¬ P) → IfErr r (λ y. IsNamed y → ¬ P)
+pub refused_on : {A : Type 0} (r : Result A Stop) (e : Stop) {P : Type 0} → IsErrAnd r (λ y. y ≡ e) → (IsNamed e → P) → IfErr r (λ y. IsNamed y → P)
 refused_on (Ok x) e {P} is d = tt
-refused_on (Err y) e {P} is d = subst (λ (z : Stop). IsNamed z → ¬ P) (sym is) d
+refused_on (Err y) e {P} is d = subst (λ (z : Stop). IsNamed z → P) (sym is) d
 
 -- a fact that another rests on, if it is asked
 pub keeps_by : (asked : Bool) {P Q : Type 0} → (P → Q) → Keeps asked P → Keeps asked Q

@@ -30,4 +30,5 @@ pub mod ExportSteps
 pub mod Declaring
 pub mod RowsExactly
 pub mod PartsExactly
+pub mod PlaceSteps
 pub mod Usually

@@ -9,28 +9,22 @@ use Rattle.smith_syntax.specs.declared.deftype.ComponentTypeRef.{ComponentTypeRe
 use Rattle.smith_syntax.specs.declared.deftype.ComponentTypeRef.TheVariants as to
 use Rattle.smith_tree.specs.Spaces.{Spaces, after_canon as spaces_after_canon, after_export as spaces_after_export, after_import as spaces_after_import}
 use Rattle.smith_tree.specs.Spaces.{after_part as spaces_after, no_spaces}
-use Rattle.smith_tree.specs.Tree.{Canon, ExportEntry, Part, Tree, tree_of}
-use Rattle.smith_tree.specs.WellFormed.{WellFormed}
+use Rattle.smith_tree.specs.Tree.{Canon, ExportEntry, Part, tree_of}
 use Rattle.smith_validity.specs.Bodies.{Body, IsSmall, after_export, after_import, core_facts, empty_body, externs_at, facts, with_core_facts}
 use Rattle.smith_validity.specs.Bodies.{with_facts}
 use Rattle.smith_validity.specs.Demands.{Demands, Keeps}
 use Rattle.smith_validity.specs.Facts.{FactScope, Id}
 use Rattle.smith_validity.specs.Sizes.{ValidCore}
 use Rattle.smith_validity.specs.Validates.{ValidCanons, ValidCores, ValidEntries, ValidEntry, ValidExports, ValidImports, after_canon, after_cores}
-use Rattle.smith_validity.specs.Validates.{RefersTo, ValidPart, ValidParts, ValidTree, after_entries, after_part, exported_reference}
+use Rattle.smith_validity.specs.Validates.{RefersTo, ValidPart, ValidParts, after_entries, after_part, exported_reference}
 use Rattle.smith_validity.specs.Validates.{exported_references, imported, imported_references}
 use Rattle.smith_validate.specs.Bodies.{IsBody, IsBodyNow, IsEmpty, IsFresh, IsIn}
 use Rattle.smith_validate.specs.Instances.{Exports}
-use Rattle.smith_validate.specs.Judges.{IsNamed, Refutes}
 use Rattle.smith_validate.specs.Modules.{entries_in}
-use Rattle.smith_validate.specs.Outcome.{IsUnmet, Lacks}
 use Rattle.smith_validate.specs.Parts.{IsOpen, IsOpenNow}
 use Rattle.smith_validate.specs.declared.body.Body.{Body as KeptBody}
-use Rattle.smith_validate.specs.declared.error.Demand.{Demand}
-use Rattle.smith_validate.specs.declared.error.Demand.TheVariants as demand
-use Rattle.smith_validate.specs.declared.error.Stop.TheVariants.{Invalid}
 use Rattle.smith_validate.specs.declared.known.Known.{Known}
-use Rattle.smith_validate.specs.declared.parts.Open.{Open}
+use Rattle.smith_validate.specs.declared.open.Open.{Open}
 use Rattle.smith_validate.proofs.DeclSteps.{empty_small}
 use Rattle.smith_validate.proofs.Judging.{Same}
 use Rattle.smith_validate.proofs.Roles.{role_fresh}
@@ -168,11 +162,3 @@ one_reference s e t h = ap (λ o. map (λ i. to.Func i) (option_to_list o)) h
 pub one_function : (s : Spaces) (e : ExportEntry) (t : ℕ) → slice_get s.functions e.func ≡ Some t
     → (spaces_after_export s e).functions ≡ s.functions ++ t ∷ []
 one_function s e t h = ap (λ o. s.functions ++ option_to_list o) h
-
--- what a demand that is not met says
-pub unmet : (d : Demand) (t : Tree) → Refutes (Invalid d) (λ a. ValidTree a t) → (IsNamed (Invalid d) → WellFormed t → IsUnmet demand.Named t) → Lacks d t
-unmet demand.Named t r n = n tt
-unmet demand.Size t r n = r.is tt
-unmet demand.Count t r n = r.is tt
-unmet demand.Memories t r n = r.is tt
-unmet demand.Tables t r n = r.is tt

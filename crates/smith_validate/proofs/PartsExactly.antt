@@ -18,7 +18,7 @@ use Rattle.smith_validate.specs.Places.{IsBefore}
 use Rattle.smith_validate.specs.Tables.{AreAdded, AreExact, IsGrown, IsLive, names_in}
 use Rattle.smith_validate.specs.Bodies.{IsFresh}
 use Rattle.smith_validate.specs.Usual.{AreUsualEntries, AreUsualParts, IsUsualImport}
-use Rattle.smith_validate.specs.declared.parts.Open.{Open}
+use Rattle.smith_validate.specs.declared.open.Open.{Open}
 use Rattle.smith_validate.proofs.Declaring.{role_fresh_exactly}
 use Rattle.smith_validate.specs.declared.body.Body.{Body as KeptBody}
 use Rattle.smith_validate.specs.declared.known.Known.{Known}

@@ -15,6 +15,7 @@ pub mod Values
 pub mod Attained
 pub mod Places
 pub mod Tables
+pub mod Tracks
 pub mod Exact
 pub mod Opening
 pub mod Usual

@@ -1,7 +1,8 @@
 -- What a judgement says.
-use Rattle.std.specs.Prelude.{true, false}
+use Rattle.std.specs.Prelude.{ℕ, ◌+◌, List, true, false}
 use Rattle.smith_tree.specs.Tree.{Tree}
 use Rattle.smith_tree.specs.WellFormed.{WellFormed}
+use Rattle.smith_check.specs.Upto.{upto}
 use Rattle.smith_validity.specs.Demands.{Demands}
 use Rattle.smith_validity.specs.Validates.{ValidTree, Validates}
 use Rattle.smith_validate.specs.declared.error.Demand.TheVariants.{Named, Size, Count, Memories, Tables}
@@ -24,15 +25,20 @@ asking Tables = record nothing { tables = true }
 abbrev pub IsUnmet : Demand → Tree → Type 0
 IsUnmet demand t = ¬ (ValidTree (asking demand) t)
 
--- It is not met; for a demand on names, where the component is well formed.
-abbrev pub Lacks : Demand → Tree → Type 0
-Lacks Named t = WellFormed t → IsUnmet Named t
-Lacks Size t = IsUnmet Size t
-Lacks Count t = IsUnmet Count t
-Lacks Memories t = IsUnmet Memories t
-Lacks Tables t = IsUnmet Tables t
+-- Names are judged where the component is well formed, and bounds always.
+abbrev pub IsJudged : Demand → Tree → Type 0
+IsJudged Named t = WellFormed t
+IsJudged Size t = Unit {0}
+IsJudged Count t = Unit {0}
+IsJudged Memories t = Unit {0}
+IsJudged Tables t = Unit {0}
 
--- It is `Valid` only where all demands are met, and `Invalid` only where the demand that it names is not.
+-- What precedes that entry meets all demands. The component, and what ends with the entry, does not meet that one.
+pub record FallsShort (demand : Demand) (path : List ℕ) (entry : ℕ) (t : Tree) : Type 0 where
+  pub before : Validates (upto path entry t)
+  pub there : IsJudged demand t → IsUnmet demand t × IsUnmet demand (upto path (entry + 1) t)
+
+-- It is `Valid` only where all demands are met, and `Invalid` only where the demand that it names is not, from that entry on.
 abbrev pub IsOutcome : Tree → Validity → Type 0
 IsOutcome t validity.Valid = Validates t
-IsOutcome t (validity.Invalid shortfall) = Lacks shortfall.demand t
+IsOutcome t (validity.Invalid shortfall) = FallsShort shortfall.demand shortfall.place.sections.items shortfall.place.entry t

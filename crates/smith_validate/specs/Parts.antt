@@ -6,7 +6,7 @@ use Rattle.smith_validity.specs.Facts.{FactScope, Id}
 use Rattle.smith_validate.specs.Bodies.{IsBody}
 use Rattle.smith_validate.specs.Instances.{Exports}
 use Rattle.smith_validate.specs.declared.known.Known.{Known}
-use Rattle.smith_validate.specs.declared.parts.Open.{Open}
+use Rattle.smith_validate.specs.declared.open.Open.{Open}
 
 -- What is kept is of that, and of these index spaces.
 pub record IsOpen (k : Known) (o : Open) (s : Spaces) (b : Body) (outer : List FactScope) (names : List (List Id)) (table : List Exports) : Type 0 where

@@ -26,7 +26,8 @@ pub enum Demand {
     Tables,
 }
 
-/// Why a well formed component is not accepted: the first demand that it does not meet, and where.
+/// Why a well formed component is not accepted: a demand that it does not meet, and the place of the first entry with
+/// which it does not meet all demands.
 #[derive(Debug, PartialEq, Eq, Drop)]
 pub struct Shortfall {
     pub place: Place,

@@ -1,14 +1,16 @@
 //! Where a judgement is.
 
-ghost use Rattle.std.specs.Prelude.{IfErr};
+ghost use Rattle.std.specs.Prelude.{◌≡◌, ◌<◌, ◌+◌, ◌-◌, ◌^◌, ◌++◌, ◌∷◌, [], ℕ, List, IfErr, OnOk};
 ghost use Rattle.smith_validate.specs.Bodies.{IsOther};
 ghost use Rattle.smith_validate.specs.Judges.{IsUnnamed};
+ghost use Rattle.smith_validate.specs.Tracks.{path_of};
+ghost use Rattle.smith_validate.specs.declared.error.Stop.TheVariants.{OutOfMemory};
 
 use crate::error::Stop;
 use smith_check::Place;
 use std::alloc::Global;
 
-/// Where a judgement is: at the end of these sections, one within another. No contract depends on it.
+/// Where a judgement is: at the end of these sections, one within another.
 #[derive(Drop)]
 pub(crate) struct Track {
     pub(crate) place: Place,
@@ -16,7 +18,9 @@ pub(crate) struct Track {
 
 impl Track {
     /// Before a component.
-    pub(crate) fn new(alloc: Global) -> Track {
+    pub(crate) fn new(alloc: Global) -> Track
+        ensures { path_of result ≡ [] }
+    {
         let sections = Vec::new(alloc);
         Track {
             place: Place { sections, entry: 0 },
@@ -27,6 +31,9 @@ impl Track {
     pub(crate) fn enter(&mut self) -> Result<(), Stop>
         ensures other { IfErr result IsOther }
         ensures bound { IfErr result IsUnnamed }
+        ensures memory { IfErr result (λ e. e ≡ OutOfMemory) }
+        ensures path { OnOk result (path_of self.new ≡ path_of self.old ++ 0 ∷ []) }
+        ensures entry { OnOk result (self.new.place.entry ≡ 0) }
     {
         self.place.sections.push(0)?;
         self.place.entry = 0;
@@ -34,18 +41,27 @@ impl Track {
     }
 
     /// After the last section of a component.
-    pub(crate) fn leave(&mut self) {
+    pub(crate) fn leave(&mut self)
+        ensures { (path : List ℕ) (section : ℕ) → path_of self.old ≡ path ++ section ∷ [] → path_of self.new ≡ path }
+    {
         self.place.sections.pop();
         self.place.entry = 0;
     }
 
     /// At the next entry.
-    pub(crate) fn next_entry(&mut self) {
+    pub(crate) fn next_entry(&mut self)
+        ensures path { path_of self.new ≡ path_of self.old }
+        ensures entry { self.old.place.entry < 2 ^ 64 - 1 → self.new.place.entry ≡ self.old.place.entry + 1 }
+    {
         self.place.entry = self.place.entry.saturating_add(1);
     }
 
     /// At the next section.
-    pub(crate) fn next_section(&mut self) {
+    pub(crate) fn next_section(&mut self)
+        ensures path { (path : List ℕ) (section : ℕ) → path_of self.old ≡ path ++ section ∷ [] → section < 2 ^ 64 - 1
+            → path_of self.new ≡ path ++ (section + 1) ∷ [] }
+        ensures entry { self.new.place.entry ≡ 0 }
+    {
         self.place.entry = 0;
         if let Some(section) = self.place.sections.last_mut() {
             *section = section.saturating_add(1);

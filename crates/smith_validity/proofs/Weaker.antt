@@ -67,7 +67,7 @@ module _ (d : Demands) where
   weaker_exports (r ∷ rs) outer b h = (kept d.names h.0, weaker_small h.1, weaker_exports rs outer (after_export outer b r) h.2)
 
   mutual
-    weaker_parts : (t : Tree) (s : Spaces) (outer : List FactScope) (b : Body) → ValidParts everything t s outer b → ValidParts d t s outer b
+    pub weaker_parts : (t : Tree) (s : Spaces) (outer : List FactScope) (b : Body) → ValidParts everything t s outer b → ValidParts d t s outer b
     weaker_parts ends s outer b h = tt
     weaker_parts (first p t) s outer b h =
         (weaker_part p s outer b h.0, weaker_parts t (spaces_after s p) outer (after_part p s outer b) h.1)

@@ -1,2 +1,3 @@
 pub mod Offsets
+pub mod ValidOffsets
 pub mod WellFormed

@@ -36,6 +36,16 @@ formed_more (x ∷ xs) q outer so_far =
     let s = formed_more xs q outer (add so_far x) in
     record { to = λ f. let g = s.to f.1 in ((f.0, g.0), g.1); from = λ f. (f.0.0, s.from (f.0.1, f.1)) }
 
+-- a list that is longer with one more entry
+pub list_grows : {A : Type 0} (ts : List A) (n : ℕ) → (take n ts ≡ take (n + 1) ts → ⊥) → n < length ts
+list_grows ts n grows = by_test (nat_lt n (length ts)) refl
+  where
+    by_test : (b : Bool) → nat_lt n (length ts) ≡ b → n < length ts
+    by_test true e = ltb-true n (length ts) e
+    by_test false e =
+        let l : length ts ≤ n = ltb-false n (length ts) e in
+        absurd (grows (take_all n ts l ∙ sym (take_all (n + 1) ts (omega (arith, l)))))
+
 module _ (xs : List Part) (outer : List Scope) where
   -- the sections before, and then these
   abbrev Holds : List Part → Type 0
@@ -49,17 +59,12 @@ module _ (xs : List Part) (outer : List Scope) where
 
   -- A list stops it before its end.
   list_stops : {A : Type 0} (of : List A → Part) (ts : List A) (n : ℕ) → IsFirst (λ m. Holds (of (take m ts) ∷ [])) n → n < length ts
-  list_stops of ts n h = by_test (nat_lt n (length ts)) refl
-    where
-      by_test : (b : Bool) → nat_lt n (length ts) ≡ b → n < length ts
-      by_test true e = ltb-true n (length ts) e
-      by_test false e =
-          let l : length ts ≤ n = ltb-false n (length ts) e in
-          absurd (h.1 (subst (λ ys. Holds (of ys ∷ [])) (take_all n ts l ∙ sym (take_all (n + 1) ts (omega (arith, l)))) h.0))
+  list_stops of ts n h = list_grows ts n (λ e. h.1 (subst (λ ys. Holds (of ys ∷ [])) e h.0))
 
 -- ---- what precedes an entry has bytes
 
-list_has : {A : Type 0} (f : A → Piece) (xs : List A) (n : ℕ) (b : List ℕ) → many f xs ≡ Some b → n < length xs → (x : List ℕ) × (list_before f xs n ≡ Some x)
+pub list_has : {A : Type 0} (f : A → Piece) (xs : List A) (n : ℕ) (b : List ℕ) → many f xs ≡ Some b → n < length xs
+    → (x : List ℕ) × (list_before f xs n ≡ Some x)
 list_has f xs n b e h =
     let s = split f n xs b e in (
       s.count ++ s.front,
@@ -78,7 +83,7 @@ contents_stop (canons fs) n xs outer c e h = list_has canon fs n c e (list_stops
 contents_stop (imports is) n xs outer c e h = list_has import_entry is n c e (list_stops xs outer imports is n h)
 contents_stop (exports es) n xs outer c e h = list_has export_entry es n c e (list_stops xs outer exports es n h)
 
-opened_some : (id : ℕ) (c front : Piece) (contents size x : List ℕ) → c ≡ Some contents → u (length contents) ≡ Some size → front ≡ Some x
+pub opened_some : (id : ℕ) (c front : Piece) (contents size x : List ℕ) → c ≡ Some contents → u (length contents) ≡ Some size → front ≡ Some x
     → opened id c front ≡ Some ((id ∷ []) ++ (size ++ x))
 opened_some id c front contents size x c_is size_is front_is =
     ap (λ q. byte id ⊕ (q >>= λ z. u (length z)) ⊕ front) c_is ∙ ap (λ q. byte id ⊕ q ⊕ front) size_is
@@ -87,13 +92,13 @@ opened_some id c front contents size x c_is size_is front_is =
 -- ---- in a component
 
 -- that section, behind the preamble
-section_is : (t : Tree) (b : List ℕ) (k : ℕ) (p : Part) → Spells t b → slice_get (parts_of t) k ≡ Some p → (r : List ℕ) × At (parts_of t) k r p
+pub section_is : (t : Tree) (b : List ℕ) (k : ℕ) (p : Part) → Spells t b → slice_get (parts_of t) k ≡ Some p → (r : List ℕ) × At (parts_of t) k r p
 section_is t b k p spells there =
     let q = parts_are (bytes preamble) (parts t) b spells in
     (q.right, at k (parts_of t) q.right p (sym (tree_each t) ∙ q.q_is) there)
 
 -- the sections before, and then that
-section_then : (t : Tree) (k : ℕ) (p : Part) (r : List ℕ) (of : Part → Piece) (x : List ℕ) → slice_get (parts_of t) k ≡ Some p → At (parts_of t) k r p
+pub section_then : (t : Tree) (k : ℕ) (p : Part) (r : List ℕ) (of : Part → Piece) (x : List ℕ) → slice_get (parts_of t) k ≡ Some p → At (parts_of t) k r p
     → of p ≡ Some x → (y : List ℕ) × (before_section k t ⊕ (slice_get (parts_of t) k >>= of) ≡ Some y)
 section_then t k p r of x there a e = (
   (preamble ++ a.front) ++ x,
@@ -102,7 +107,7 @@ section_then t k p r of x there a e = (
 )
 
 -- What there is up to a place, where that section is there.
-abbrev upto_where : List ℕ → ℕ → ℕ → Tree → Option Part → Tree
+abbrev pub upto_where : List ℕ → ℕ → ℕ → Tree → Option Part → Tree
 upto_where path k n t o = tree_of (take k (parts_of t) ++ flat_map (upto_in path n) (option_to_list o))
 
 entry_stops : (k n : ℕ) (t : Tree) (b : List ℕ) (outer : List Scope) (o : Option Part) → Spells t b → slice_get (parts_of t) k ≡ o

@@ -1,23 +1,27 @@
 -- What bytes are to a validator, of those that may spell a component.
-use Rattle.std.specs.Prelude.{◌≡◌, ℕ, List, IfSome, Some}
+use Rattle.std.specs.Prelude.{◌≡◌, ◌+◌, ℕ, List, None, Some}
 use Rattle.smith_tree.specs.Grammar.{Spells}
 use Rattle.smith_tree.specs.Tree.{Tree}
 use Rattle.smith_tree.specs.WellFormed.{WellFormed}
 use Rattle.smith_validity.specs.Validates.{Validates}
+use Rattle.smith_check.specs.Upto.{upto}
 use Rattle.smith_validate.specs.Outcome.{IsUnmet}
+use Rattle.smith_validate.specs.declared.error.Demand.{Demand}
 use Rattle.smith_places.specs.Places.{offset_in}
 use Rattle.smith_verdict.specs.Verdicts.{IsVerdict}
 use Rattle.smith_verdict.specs.declared.validity.Validity.{Validity}
 use Rattle.smith_verdict.specs.declared.validity.Validity.TheVariants as validity
 use Rattle.smith_verdict.specs.declared.verdict.Verdict.TheVariants.{WellFormed as found_well_formed}
 
--- an entry of the component begins at that offset
-abbrev pub IsOffset : Tree → ℕ → Type 0
-IsOffset t offset = (path : List ℕ) × (entry : ℕ) × (offset_in path entry t ≡ Some offset)
+-- An entry of the component begins at that offset. What precedes it meets all demands, and what ends with it does not meet that one.
+abbrev pub IsUnmetAt : Demand → Tree → ℕ → Type 0
+IsUnmetAt demand t offset = (path : List ℕ) × (entry : ℕ) × (offset_in path entry t ≡ Some offset) × Validates (upto path entry t)
+    × IsUnmet demand (upto path (entry + 1) t)
 
--- They spell a component that is well formed and validates; or one that is well formed and does not meet that demand, with the offset of an entry; or
--- else they are what they are found to be, no well formed component.
+-- They spell a component that is well formed and validates; or one that is well formed and does not meet that demand, with the offset of the entry
+-- from which on it does not; or else they are what they are found to be, no well formed component.
 abbrev pub IsValidity : List ℕ → Validity → Type 0
 IsValidity bytes validity.Valid = (t : Tree) × Spells t bytes × WellFormed t × Validates t
-IsValidity bytes (validity.Invalid demand offset) = (t : Tree) × Spells t bytes × WellFormed t × IsUnmet demand t × IfSome offset (IsOffset t)
+IsValidity bytes (validity.Invalid demand None) = ⊥
+IsValidity bytes (validity.Invalid demand (Some offset)) = (t : Tree) × Spells t bytes × WellFormed t × IsUnmet demand t × IsUnmetAt demand t offset
 IsValidity bytes (validity.Other verdict) = IsVerdict bytes verdict × (¬ (verdict ≡ found_well_formed))

@@ -22,7 +22,9 @@ use std::fmt;
 pub enum Validity {
     /// A component that is well formed and meets all demands.
     Valid,
-    /// A well formed component that does not: a demand that it does not meet, and the offset of that entry.
+    /// A well formed component that does not: a demand that it does not meet, and the offset of the entry from which on
+    /// it does not. What precedes that entry meets all demands, and what ends with it does not meet this one. The
+    /// offset is always there.
     Invalid {
         demand: Demand,
         offset: Option<usize>,

@@ -1,6 +1,7 @@
-use Rattle.std.proofs.Common.{◌+◌, ◌∷◌, ◌++◌, fold, length, map, ◌∙◌, refl, sym, ap, subst, true}
+use Rattle.std.proofs.Common.{◌+◌, ◌∷◌, ◌++◌, fold, length, map, take, ◌∙◌, refl, sym, ap, subst, true, arith}
 use Rattle.std.proofs.Math.ListN.{drop}
 use Rattle.smith_tree.specs.Spaces.{no_spaces}
+use Rattle.smith_tree.specs.Tree.{canons, component, core_types, ends, exports, imports, tree_of, types as types_part}
 use Rattle.smith_validity.specs.Bodies.{after_export, after_import, empty_body}
 use Rattle.smith_validity.specs.CoreModules.{HasFewMemories}
 use Rattle.smith_validity.specs.Counts.{ValidCounts, with_component, with_module}
@@ -12,11 +13,15 @@ use Rattle.smith_read.proofs.PartNodes.{shown_canons, shown_core_types, shown_cu
 use Rattle.smith_validate.specs.Instances.{IsTable}
 use Rattle.smith_validate.proofs.DeclSteps.{in_again, in_entered, last_same}
 use Rattle.smith_read_types.specs.Nodes.{shown_core_node}
+use Rattle.smith_read_types.specs.TypeNodes.{shown_type_node}
 use Rattle.smith_read.specs.PartNodes.{shown_canon_node, shown_export_node, shown_import_node}
 use Rattle.smith_validity.specs.Facts.{id_at}
 use Rattle.smith_validity.specs.Validates.{after_canon, after_cores, exported_references, imported_references}
 use Rattle.smith_validate.specs.Tables.{AreExact}
-use Rattle.smith_validate.proofs.Judging.{on_any, on_both, on_by, on_judged, passed_on, refused_on, refute_by}
+use Rattle.smith_validate.specs.Tracks.{path_of}
+use Rattle.smith_validate.proofs.PlaceSteps.{in_list, in_nested, in_one, in_sections, moved, one_judged, stop_by, stop_on}
+use Rattle.smith_validate.proofs.PlaceSteps.{unnamed_in_list, unnamed_in_nested, unnamed_in_sections}
+use Rattle.smith_validate.proofs.Judging.{err_by, judged_by, keeps_by, on_any, on_both, on_by, on_judged, passed_on, refused_on, refute_by}
 use Rattle.smith_validate.proofs.PartsExactly.{BothNow, after_more, after_none, body_after_component, canons_exports, canons_imports, canons_types}
 use Rattle.smith_validate.proofs.PartsExactly.{cores_exports, cores_imports, cores_types, entered_known, entered_long, now_after, open_exactly, usual_parts}
 use Rattle.smith_validate.proofs.RowsExactly.{exact_all, exact_at, exact_exit, exact_next}
@@ -142,6 +147,8 @@ add_part-returns-in-Exports-clause-added t c = λ s b outer names table h.
 
 pub add_parts-loop-part-init : goal.add_parts-loop-part-init
 add_parts-loop-part-init t c = record {
+  path = (c.in_ok-enter.ensures {u = tt}).path;
+  entry = (c.in_ok-enter.ensures {u = tt}).entry;
   outer = refl;
   left = λ outer names table s.
       row_all (parts_row outer) (no_spaces, empty_body) (map shown_part_node c.args.parts.now) (OpenNow outer names table c.args.known.now c.new-here.result)
@@ -163,6 +170,8 @@ add_parts-loop-part-preserved t c =
     let p = c.part-item.result in
     let done = c.in_ok-add_part.ensures {u = tt} in
     record {
+      path = c.next_section.ensures.path (path_of c.args.track.now) i (done.path ∙ c.loop-part.invariant.path) (omega (arith, c.loop-part-test.true));
+      entry = c.next_section.ensures.entry;
       outer = done.outer ∙ c.loop-part.invariant.outer;
       left = λ outer names table s.
           let T = OpenNow outer names table c.loop-part.known c.loop-part.here in
@@ -331,3 +340,157 @@ pub add_part-returns-in-Exports-clause-judged : goal.add_part-returns-in-Exports
 add_part-returns-in-Exports-clause-judged t c = λ s b outer names table h.
     rw (c.in-Exports.is, shown_exports c.in-Exports.exports)
     (rw c.deref-in-Exports.ensures.value at (c.add_exports.ensures.judged s b outer names table h))
+
+pub add_part-returns-in-CoreTypes-clause-place : goal.add_part-returns-in-CoreTypes-clause-place
+add_part-returns-in-CoreTypes-clause-place t c = λ s b outer names table h.
+    let xs = map shown_core_node c.in-CoreTypes.types.items in
+    rw (c.in-CoreTypes.is, shown_core_types c.in-CoreTypes.types)
+    (stop_by c.add_core_types.result _ _
+    (λ e k. in_list (path_of c.args.track.now) c.add_core_types.new.track (core_types xs) (λ n. core_types (take n xs))
+    s outer b (λ n. refl) c.add_core_types.ensures.path e k)
+    (rw c.deref.ensures.value at (c.add_core_types.ensures.place b outer names table h.body)))
+
+pub add_part-returns-in-Types-clause-place : goal.add_part-returns-in-Types-clause-place
+add_part-returns-in-Types-clause-place t c = λ s b outer names table h.
+    let xs = map shown_type_node c.in-Types.types.items in
+    rw (c.in-Types.is, shown_types c.in-Types.types)
+    (stop_by c.add_types.result _ _
+    (λ e k. in_list (path_of c.args.track.now) c.add_types.new.track (types_part xs) (λ n. types_part (take n xs))
+    s outer b (λ n. refl) c.add_types.ensures.path e k)
+    (rw c.deref-in-Types.ensures.value at (c.add_types.ensures.place b outer names table h.body)))
+
+pub add_part-returns-in-Canons-clause-place : goal.add_part-returns-in-Canons-clause-place
+add_part-returns-in-Canons-clause-place t c = λ s b outer names table h.
+    let xs = map shown_canon_node c.in-Canons.canons.items in
+    rw (c.in-Canons.is, shown_canons c.in-Canons.canons)
+    (stop_by c.add_canons.result _ _
+    (λ e k. in_list (path_of c.args.track.now) c.add_canons.new.track (canons xs) (λ n. canons (take n xs)) s outer b (λ n. refl) c.add_canons.ensures.path e k)
+    (rw c.deref-in-Canons.ensures.value at (c.add_canons.ensures.place c.args.known.now s b outer names table h)))
+
+pub add_part-returns-in-Imports-clause-place : goal.add_part-returns-in-Imports-clause-place
+add_part-returns-in-Imports-clause-place t c = λ s b outer names table h.
+    let xs = map shown_import_node c.in-Imports.imports.items in
+    rw (c.in-Imports.is, shown_imports c.in-Imports.imports)
+    (stop_by c.add_imports.result _ _
+    (λ e k. in_list (path_of c.args.track.now) c.add_imports.new.track (imports xs) (λ n. imports (take n xs))
+    s outer b (λ n. refl) c.add_imports.ensures.path e k)
+    (rw c.deref-in-Imports.ensures.value at (c.add_imports.ensures.place s b outer names table h)))
+
+pub add_part-returns-in-Exports-clause-place : goal.add_part-returns-in-Exports-clause-place
+add_part-returns-in-Exports-clause-place t c = λ s b outer names table h.
+    let xs = map shown_export_node c.in-Exports.exports.items in
+    rw (c.in-Exports.is, shown_exports c.in-Exports.exports)
+    (stop_by c.add_exports.result _ _
+    (λ e k. in_list (path_of c.args.track.now) c.add_exports.new.track (exports xs) (λ n. exports (take n xs))
+    s outer b (λ n. refl) c.add_exports.ensures.path e k)
+    (rw c.deref-in-Exports.ensures.value at (c.add_exports.ensures.place s b outer names table h)))
+
+pub add_part-returns-in-Types-clause-unnamed : goal.add_part-returns-in-Types-clause-unnamed
+add_part-returns-in-Types-clause-unnamed t c = λ s b outer names named covered table o h usual.
+    let xs = map shown_type_node c.in-Types.types.items in
+    let u = rw (c.in-Types.is, shown_types c.in-Types.types) at usual in
+    rw (c.in-Types.is, shown_types c.in-Types.types)
+    (err_by c.add_types.result
+    (λ e k n. unnamed_in_list (path_of c.args.track.now) c.add_types.new.track (types_part xs) (λ n. types_part (take n xs))
+    s outer b (λ n. refl) c.add_types.ensures.path
+    (k n))
+    ((rw c.deref-in-Types.ensures.value at (c.add_types.ensures.unnamed b outer named table h)) u))
+
+pub add_part-returns-in-Imports-clause-unnamed : goal.add_part-returns-in-Imports-clause-unnamed
+add_part-returns-in-Imports-clause-unnamed t c = λ s b outer names named covered table o h usual.
+    let xs = map shown_import_node c.in-Imports.imports.items in
+    let u = rw (c.in-Imports.is, shown_imports c.in-Imports.imports) at usual in
+    rw (c.in-Imports.is, shown_imports c.in-Imports.imports)
+    (err_by c.add_imports.result
+    (λ e k n. unnamed_in_list (path_of c.args.track.now) c.add_imports.new.track (imports xs) (λ n. imports (take n xs))
+    s outer b (λ n. refl) c.add_imports.ensures.path
+    (k n))
+    ((rw c.deref-in-Imports.ensures.value at (c.add_imports.ensures.unnamed b outer named table h)) u))
+
+pub add_part-returns-in-Exports-clause-unnamed : goal.add_part-returns-in-Exports-clause-unnamed
+add_part-returns-in-Exports-clause-unnamed t c = λ s b outer names named covered table o h usual.
+    let xs = map shown_export_node c.in-Exports.exports.items in
+    rw (c.in-Exports.is, shown_exports c.in-Exports.exports)
+    (err_by c.add_exports.result
+    (λ e k n. unnamed_in_list (path_of c.args.track.now) c.add_exports.new.track (exports xs) (λ n. exports (take n xs))
+    s outer b (λ n. refl) c.add_exports.ensures.path
+    (k n))
+    (rw c.deref-in-Exports.ensures.value at (c.add_exports.ensures.unnamed s b outer named table h o.functions_are)))
+
+pub add_part-returns-in-CoreModule-clause-place : goal.add_part-returns-in-CoreModule-clause-place
+add_part-returns-in-CoreModule-clause-place t c = λ s b outer names table h.
+    let counts = ap with_module h.body.counts_are in
+    rw (c.in-CoreModule.is, shown_module c.in-CoreModule.text)
+    (one_judged (path_of c.args.track.now) c.args.track.now _ _ s outer b refl refl refl c.requires c.add_module.result
+    (judged_by c.add_module.result (λ p. (subst ValidCounts counts p.0, p.1))
+    (λ d q. (keeps_by d.counts (λ k. subst ValidCounts (sym counts) k) q.0, q.1))
+    (rw c.deref.ensures.value at (c.add_module.ensures.judged (subst ValidCounts (sym h.body.counts_are) h.body.small.1)))))
+
+pub add_part-returns-in_err-add_component-in-Component-clause-place : goal.add_part-returns-in_err-add_component-in-Component-clause-place
+add_part-returns-in_err-add_component-in-Component-clause-place t c = λ s b outer names table h.
+    let counts = ap with_component h.body.counts_are in
+    let us = tree_of (map shown_part_node c.in-Component.parts.items) in
+    rw (c.in-Component.is, shown_nested c.in-Component.parts)
+    (stop_on _ _ _ c.from_residual.ensures.1
+    (λ other. in_one (path_of c.args.track.now) c.args.track.now (component us) (component ends) s outer b refl refl refl c.requires _
+    (refute_by (λ d q. keeps_by d.counts (λ k. subst ValidCounts (sym counts) k) q.0)
+    ((c.in_err-add_component-in-Component.ensures {u = tt}).judged (subst ValidCounts (sym h.body.counts_are) h.body.small.1)))))
+
+pub add_part-returns-in_err-add_parts-in-Component-clause-place : goal.add_part-returns-in_err-add_parts-in-Component-clause-place
+add_part-returns-in_err-add_parts-in-Component-clause-place t c = λ s b outer names table h.
+    let entered = c.in_ok-enter-in-Component.ensures {u = tt} in
+    let here = names_of b.exports in
+    let us = tree_of (map shown_part_node c.in-Component.parts.items) in
+    let inner = in_entered c.args.known.now _ b.own outer here names table h.body.scopes entered.own entered.types entered.outer entered.instances in
+    let valid = subst ValidCounts (ap with_component h.body.counts_are)
+    ((c.in_ok-add_component-in-Component.ensures {u = tt}).judged (subst ValidCounts (sym h.body.counts_are) h.body.small.1)) in
+    rw (c.in-Component.is, shown_nested c.in-Component.parts)
+    (stop_on _ _ _ c.from_residual-in_err-add_parts-in-Component.ensures.1
+    (λ other. in_nested (path_of c.args.track.now) c.add_parts.new.track us s outer b valid _
+    ((rw c.deref-in-Component.ensures.value at
+    ((c.in_err-add_parts-in-Component.ensures {u = tt}).place (b.own ∷ outer) (here ∷ names) table inner)) other)))
+
+pub add_part-returns-in_err-add_parts-in-Component-clause-unnamed : goal.add_part-returns-in_err-add_parts-in-Component-clause-unnamed
+add_part-returns-in_err-add_parts-in-Component-clause-unnamed t c = λ s b outer names named covered table o h usual.
+    let entered = c.in_ok-enter-in-Component.ensures {u = tt} in
+    let here = names_of b.exports in
+    let k = c.args.known.now in
+    let us = tree_of (map shown_part_node c.in-Component.parts.items) in
+    let inner = in_entered k c.enter.new.self b.own outer here names covered o.body.scopes entered.own entered.types entered.outer entered.instances in
+    let known = entered_known k c.enter.new.self b.own outer (here ++ named) table h.known entered.types entered.outer entered.instances in
+    let long = entered_long k c.enter.new.self b.own outer h.depth_is entered.outer in
+    let u = rw (c.in-Component.is, shown_nested c.in-Component.parts) at usual in
+    rw (c.in-Component.is, shown_nested c.in-Component.parts)
+    (refused_on _ _ c.from_residual-in_err-add_parts-in-Component.ensures.1
+    (λ n. unnamed_in_nested (path_of c.args.track.now) c.add_parts.new.track us s outer b
+    ((rw c.deref-in-Component.ensures.value at
+    ((c.in_err-add_parts-in-Component.ensures {u = tt}).unnamed (b.own ∷ outer) (here ∷ names) (here ++ named) covered table inner known long)) u n)))
+
+pub add_parts-returns-in_err-add_part-clause-place : goal.add_parts-returns-in_err-add_part-clause-place
+add_parts-returns-in_err-add_part-clause-place t c = λ outer names table s.
+    let ps = c.args.parts.now in
+    let i = c.loop-part.part-index in
+    let p = c.part-item.result in
+    let T = OpenNow outer names table c.loop-part.known c.loop-part.here in
+    let l = row_at (parts_row outer) shown_part_node (no_spaces, empty_body) ps T i p c.loop-part-test.true c.part-item.is
+    (c.loop-part.invariant.left outer names table s) in
+    stop_on _ _ _ c.from_residual-in_err-add_part.ensures.1
+    (λ other. in_sections ps i p c.loop-part-test.true c.part-item.is outer (path_of c.args.track.now) c.add_part.new.track T l _
+    (moved c.loop-part.invariant.path
+    ((c.in_err-add_part.ensures {u = tt}).place l.at.0 l.at.1 outer names (table ++ l.is.0) l.is.1 other)))
+
+pub add_parts-returns-in_err-add_part-clause-unnamed : goal.add_parts-returns-in_err-add_part-clause-unnamed
+add_parts-returns-in_err-add_part-clause-unnamed t c = λ outer names named covered table s h d u.
+    let ps = c.args.parts.now in
+    let i = c.loop-part.part-index in
+    let p = c.part-item.result in
+    let T = BothNow outer names named covered table c.loop-part.known c.loop-part.here in
+    let l = exact_at (parts_row outer) (usual_parts outer) shown_part_node (no_spaces, empty_body) ps T i p c.loop-part-test.true c.part-item.is
+    (c.loop-part.invariant.exact outer names named covered table s h d u) in
+    refused_on _ _ c.from_residual-in_err-add_part.ensures.1
+    (λ e. unnamed_in_sections ps i p c.loop-part-test.true c.part-item.is outer (path_of c.args.track.now) c.add_part.new.track (usual_parts outer) T l
+    (moved c.loop-part.invariant.path
+    ((c.in_err-add_part.ensures {u = tt}).unnamed l.at.0 l.at.1 outer names named (covered ++ l.is.0.0) (table ++ l.is.1.0) l.is.0.1 l.is.1.1 l.usual_is.0 e)))
+
+pub add_parts-returns-clause-path : goal.add_parts-returns-clause-path
+add_parts-returns-clause-path t c = c.leave.ensures (path_of c.args.track.now) c.loop-part.part-index c.loop-part.invariant.path

@@ -1,4 +1,4 @@
-use Rattle.std.proofs.Common.{◌≡◌, [], ◌∷◌, List, length, map}
+use Rattle.std.proofs.Common.{◌≡◌, [], ◌∷◌, ◌++◌, List, length, map}
 use Rattle.smith_syntax.specs.Scope.{empty_scope}
 use Rattle.smith_tree.specs.Spaces.{no_spaces}
 use Rattle.smith_validity.specs.Bodies.{empty_body}
@@ -9,6 +9,7 @@ use Rattle.smith_tree.specs.Tree.{tree_of}
 use Rattle.smith_validate.specs.Exact.{AreKnown}
 use Rattle.smith_validate.specs.Instances.{Exports}
 use Rattle.smith_validate.specs.Kept.{types_in}
+use Rattle.smith_validate.specs.Tracks.{path_of}
 use Rattle.smith_validate.specs.Usual.{AreUsualParts}
 use Rattle.smith_validate.proofs.PartsExactly.{BothNow, usual_parts}
 use Rattle.smith_validate.proofs.RowsExactly.{ExactFrom}
@@ -18,6 +19,8 @@ use Rattle.smith_validate.proofs.parts.+parts.Given as goal
 
 abbrev pub invariant-add_parts-loop-part : goal.invariant-add_parts-loop-part
 invariant-add_parts-loop-part l = record {
+  path : path_of l.track ≡ path_of l.fn.track ++ l.part-index ∷ [];
+  entry : l.track.place.entry ≡ 0;
   outer : l.known.outer.items ≡ l.fn.known.outer.items;
   left : (outer : List FactScope) (names : List (List Id)) (table : List Exports) → IsIn l.fn.known empty_scope outer [] names table
       → RowFrom (parts_row outer) shown_part_node (no_spaces, empty_body) l.parts (OpenNow outer names table l.known l.here) l.part-index;

@@ -1,8 +1,9 @@
-use Rattle.std.proofs.Common.{[], List, ap, length, sym}
+use Rattle.std.proofs.Common.{◌≡◌, [], List, ap, length, sym}
 use Rattle.smith_read.specs.PartNodes.{shown_tree}
 use Rattle.smith_validate.proofs.DeclSteps.{in_start}
 use Rattle.smith_validate.specs.declared.known.Scope.{Scope}
-use Rattle.smith_validate.proofs.PartRows.{unmet}
+use Rattle.smith_validate.specs.declared.error.Stop.TheVariants.{Invalid, OutOfMemory}
+use Rattle.smith_validate.proofs.PlaceSteps.{falls_short, moved}
 use Rattle.smith_validate.proofs.PartsExactly.{start_known}
 use Rattle.smith_validate.proofs.Usually.{formed_usual}
 use Rattle.smith_validate.proofs.parts.validated.Goals as goal
@@ -18,8 +19,16 @@ returns-in-Err-Invalid c =
     let start = in_start c.new-known.result k.own k.types k.outer k.instances in
     let known = start_known c.new-known.result k.types k.outer k.instances in
     let long = ap (λ (os : List Scope). length os) (sym k.outer) in
-    unmet c.in-Err-Invalid.demand (shown_tree c.args.component.now)
-    (rw c.deref.ensures.value at (rw c.in-Err-Invalid.field-0-is at c.in-Err-Invalid.ensures.judged [] [] [] start))
-    (λ e formed.
-    (rw c.deref.ensures.value at (rw c.in-Err-Invalid.field-0-is at c.in-Err-Invalid.ensures.refused [] [] [] [] [] start known long))
-    (formed_usual (shown_tree c.args.component.now) formed) e)
+    let e = c.in-Err-Invalid.ensures in
+    falls_short c.in-Err-Invalid.demand c.add_parts.new.track (shown_tree c.args.component.now)
+    (moved c.new-track.ensures
+    ((rw c.deref.ensures.value at (rw c.in-Err-Invalid.field-0-is at e.place [] [] [] start))
+    (λ m. let z : Invalid c.in-Err-Invalid.demand ≡ OutOfMemory = m in cc)))
+    (rw c.deref.ensures.value at (rw c.in-Err-Invalid.field-0-is at e.judged [] [] [] start))
+    (λ n formed.
+    (rw c.deref.ensures.value at (rw c.in-Err-Invalid.field-0-is at e.refused [] [] [] [] [] start known long))
+    (formed_usual (shown_tree c.args.component.now) formed) n)
+    (λ n formed.
+    moved c.new-track.ensures
+    ((rw c.deref.ensures.value at (rw c.in-Err-Invalid.field-0-is at e.unnamed [] [] [] [] [] start known long))
+    (formed_usual (shown_tree c.args.component.now) formed) n))
