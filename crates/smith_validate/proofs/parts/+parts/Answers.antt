@@ -348,7 +348,7 @@ add_part-returns-in-CoreTypes-clause-place t c = λ s b outer names table h.
     (stop_by c.add_core_types.result _ _
     (λ e k. in_list (path_of c.args.track.now) c.add_core_types.new.track (core_types xs) (λ n. core_types (take n xs))
     s outer b (λ n. refl) c.add_core_types.ensures.path e k)
-    (rw c.deref.ensures.value at (c.add_core_types.ensures.place b outer names table h.body)))
+    (rw c.deref-in-CoreTypes.ensures.value at (c.add_core_types.ensures.place b outer names table h.body)))
 
 pub add_part-returns-in-Types-clause-place : goal.add_part-returns-in-Types-clause-place
 add_part-returns-in-Types-clause-place t c = λ s b outer names table h.
