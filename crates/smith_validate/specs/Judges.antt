@@ -20,11 +20,11 @@ abbrev pub asked : Stop → Demands
 asked OutOfMemory = nothing
 asked (Invalid demand) = asking demand
 
--- The demand does not hold, if a bound is exceeded.
+-- If a bound is exceeded, the demand does not hold where it alone is asked.
 pub record Refutes (e : Stop) (P : Demands → Type 0) : Type 0 where
   pub is : IsPassed e → ¬ (P (asked e))
 
--- A judgement succeeds only where every demand holds. It stops at a bound only where that demand alone does not hold.
+-- A judgement succeeds only where all demands hold. It stops at a bound only where that one does not.
 abbrev pub Judges : {A : Type 0} → Result A Stop → (Demands → Type 0) → Type 0
 Judges (Ok x) P = P everything
 Judges (Err e) P = Refutes e P

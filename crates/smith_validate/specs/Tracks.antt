@@ -26,13 +26,13 @@ abbrev pub OnStop : {A : Type 0} → Result A Stop → (Stop → Type 0) → Typ
 OnStop (Ok x) P = Unit {0}
 OnStop (Err e) P = ¬ (e ≡ OutOfMemory) → P e
 
--- A track is at an entry of a section in the one of that path, of which that holds.
+-- The track is in that path or further in, and it holds of the indexes of the sections further in and of the entry.
 pub record IsAt (path : List ℕ) (track : Track) (P : List ℕ → ℕ → Type 0) : Type 0 where
   pub inner : List ℕ
   pub path_is : path_of track ≡ path ++ inner
   pub holds : P inner track.place.entry
 
--- what the demands ask of a section, and of a component, as far as that many entries of the section with these indexes
+-- What the demands ask of a section, and of a component, as far as that many entries of the section with these indexes.
 
 abbrev pub PartUpto : Part → Spaces → List FactScope → Body → List ℕ → Demands → ℕ → Type 0
 PartUpto p s outer b inner d n = ValidParts d (tree_of (upto_in inner n p)) s outer b
