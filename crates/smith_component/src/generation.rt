@@ -34,8 +34,8 @@ pub fn generate(alloc: Global, config: Config, u: &mut Unstructured) -> Result<G
     ensures generated { IfOk result (λ g. Generates config g.component g.bytes.items) }
 
     // The component is that of a run of turns over the input, which leaves what is left, and one of those that can be
-    // generated. By `reach` and `answers`, exactly those of them that have bytes are generated. Each component of it has
-    // at least `finish_after` sections, but for those that may be open when the input ends.
+    // generated. By `reach` and `answers`, exactly those of them that have bytes are generated. Each component of it
+    // has at least `finish_after` sections, but for those that may be open when the input ends.
     ensures made { IfOk result (λ g. IsMade config u.old g.component u.new) }
 
     // An input that begins with the script of a plan produces the plan's bytes, and leaves what is after it.

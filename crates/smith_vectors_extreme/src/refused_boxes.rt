@@ -5,29 +5,41 @@ use crate::modules::{ONE_FUNCTION, one_function};
 use crate::scarcity::{LOANS, Scarcity};
 use smith_component::Section;
 use smith_core::{CORE_PREAMBLE, Module};
+use std::alloc::{AllocError, Global};
 use std::process::Abort;
 use std::test::Fail;
 
-// The module has these bytes after the preamble.
-fn check_module<R: Abort>(rt: &R, module: &Module, out: &mut Vec<u8>) -> Result<(), Fail> {
+// The bytes of the module of one function.
+fn expected_bytes(alloc: Global) -> Result<Vec<u8>, AllocError> {
+    let mut bytes = Vec::from_slice(alloc, &CORE_PREAMBLE)?;
+    bytes.extend_from_slice(ONE_FUNCTION)?;
+    Ok(bytes)
+}
+
+// The module, for which there is memory after a refusal, has these bytes.
+fn check_module<R: Abort>(
+    rt: &R,
+    refused: usize,
+    module: &Module,
+    out: &mut Vec<u8>,
+    expected: &[u8],
+) -> Result<(), Fail> {
+    check_holds(rt, "a module", 0 < refused);
     module.write(out)?;
-    check_bytes(rt, "a preamble", &out[..8], &CORE_PREAMBLE);
-    check_bytes(rt, "a module", &out[8..], ONE_FUNCTION);
+    check_bytes(rt, "a module", out, expected);
     Ok(())
 }
 
 #[test]
 fn parts_while_memory_runs_out(rt: HostRuntime) -> Result<(), Fail> {
     let mut parts = one_function(rt.alloc())?;
+    let expected = expected_bytes(rt.alloc())?;
     let mut out = Vec::with_capacity(rt.alloc(), 100)?;
     let mut memory = Scarcity::new(rt.alloc())?;
     for refused in 0..LOANS {
         memory.lend();
         match Module::from_unboxed(rt.alloc(), parts) {
-            Ok(module) => {
-                check_holds(&rt, "a module", 0 < refused);
-                return check_module(&rt, &module, &mut out);
-            }
+            Ok(module) => return check_module(&rt, refused, &module, &mut out, &expected),
             Err((error, given)) => {
                 check_out_of_memory(&rt, "a module", error);
                 check_count(&rt, "functions", given.funcs.len(), 1);
@@ -43,14 +55,14 @@ fn a_section_while_memory_runs_out(rt: HostRuntime) -> Result<(), Fail> {
     let Ok(mut module) = Module::from_unboxed(rt.alloc(), one_function(rt.alloc())?) else {
         panic!(rt; "the parts disagree");
     };
+    let expected = expected_bytes(rt.alloc())?;
     let mut out = Vec::with_capacity(rt.alloc(), 100)?;
     let mut memory = Scarcity::new(rt.alloc())?;
     for refused in 0..LOANS {
         memory.lend();
         match Section::of_module(rt.alloc(), module) {
             Ok(Section::CoreModule(boxed)) => {
-                check_holds(&rt, "a section", 0 < refused);
-                return check_module(&rt, &boxed, &mut out);
+                return check_module(&rt, refused, &boxed, &mut out, &expected);
             }
             Ok(_) => panic!(rt; "another section"),
             Err((error, given)) => {

@@ -18,4 +18,5 @@ returns-in-Ok-clause-less c =
 
 pub returns-in-Err-Malformed-clause-first : goal.returns-in-Err-Malformed-clause-first
 returns-in-Err-Malformed-clause-first c =
-    subst HasNoSection (sym c.in-Some.ensures.cases.0) (no_section c.in-Some.id.now c.in-Some.rest.now (unread (frame_at c.in-Some.rest.now) c.in-Err-Malformed.field-0-is c.in-Err-Malformed.ensures))
+    let none = unread (frame_at c.in-Some.rest.now) c.in-Err-Malformed.field-0-is c.in-Err-Malformed.ensures in
+    subst HasNoSection (sym c.in-Some.ensures.cases.0) (no_section c.in-Some.id.now c.in-Some.rest.now none)

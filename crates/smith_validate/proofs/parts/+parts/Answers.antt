@@ -50,7 +50,8 @@ pub add_part-returns-in-CoreModule-clause-added : goal.add_part-returns-in-CoreM
 add_part-returns-in-CoreModule-clause-added t c = λ s b outer names table h.
     let counts = ap with_module h.body.counts_are in
     rw (c.in-CoreModule.is, shown_module c.in-CoreModule.text)
-    (on_judged c.add_module.result (λ d. Keeps d.counts (ValidCounts (with_module (counted c.args.here.now.body.counts))) × Keeps d.memories (HasFewMemories c.in-CoreModule.text.items))
+    (on_judged c.add_module.result (λ d. Keeps d.counts (ValidCounts (with_module (counted c.args.here.now.body.counts)))
+    × Keeps d.memories (HasFewMemories c.in-CoreModule.text.items))
     (λ n m j. open_now _ _ _ _ outer names table
     (record {
       body = record {
