@@ -37,6 +37,7 @@ pub mod Reproducible
 pub mod RunsSound
 pub mod RunsTo
 pub mod Script
+pub mod Reach
 pub mod ScriptBytes
 pub mod SectionValues
 pub mod Shown
@@ -56,4 +57,6 @@ pub mod Planned
 pub mod RunsOffered
 pub mod RunsReadable
 pub mod RunsFinishable
+pub mod RunsEnd
 pub mod RunsButLast
+pub mod Ended

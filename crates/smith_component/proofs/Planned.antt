@@ -13,10 +13,10 @@ use Rattle.smith_tree.specs.TypeNeeds.{declaring}
 use Rattle.smith_types.proofs.Exact.{lasts}
 use Rattle.smith_tree.proofs.TypeNeeds.{nests_within}
 use Rattle.smith_scopes.proofs.Plain.{all_back}
-use Rattle.smith_tree.specs.Grammar.{part, parts, preamble}
+use Rattle.smith_tree.specs.Grammar.{Spells, part, parts, preamble}
 use Rattle.smith_tree.specs.Limits.{Maxima, OwnSizes, Sized, SmallCoreTypes, SmallTypes}
 use Rattle.smith_tree.specs.Open.{scopes_in, tree_so_far}
-use Rattle.smith_tree.specs.Readable.{IsReadablePart, IsReadableRest}
+use Rattle.smith_tree.specs.Readable.{CanBeGenerated, IsReadablePart, IsReadableRest}
 use Rattle.smith_tree.specs.Script.{Within}
 use Rattle.smith_tree.specs.Spaces.{core_types_of, types_of}
 use Rattle.smith_tree.specs.Tree.{Tree, ends, first, Part, custom, core_module, core_types, component, types, canons, imports, exports, add}
@@ -91,8 +91,10 @@ mutual
   part_stands (imports is) config outer before r f m s e = tt
   part_stands (exports es) config outer before r f m s e = tt
 
-pub plan_stands : (config : Config) (t : Tree) → Within config t → Stands config 1 t
-plan_stands config t w =
-    let c = w.possible in
-    let z = parts_are (bytes preamble) (parts t) w.spelled.0 w.spelled.1 in
+pub tree_stands : (config : Config) (t : Tree) → CanBeGenerated config t → (b : List ℕ) × Spells t b → Stands config 1 t
+tree_stands config t c spelled =
+    let z = parts_are (bytes preamble) (parts t) spelled.0 spelled.1 in
     stands_from t config [] ends c.readable c.formed c.limits.maxima c.sized (z.right, z.q_is)
+
+pub plan_stands : (config : Config) (t : Tree) → Within config t → Stands config 1 t
+plan_stands config t w = tree_stands config t w.possible w.spelled

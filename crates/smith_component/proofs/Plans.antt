@@ -11,7 +11,7 @@ use Rattle.smith_component.specs.Runs.{RunsTo}
 use Rattle.smith_component.proofs.Decided.{runs_same, runs_lack_none, runs_refuse_no_module}
 use Rattle.smith_component.proofs.Planned.{plan_stands}
 use Rattle.smith_component.proofs.RunsTo.{runs_to}
-use Rattle.smith_component.proofs.Script.{reach}
+use Rattle.smith_component.proofs.Reach.{reach}
 
 -- The script of a plan, followed by any bytes, leads to that plan and leaves them.
 pub script_runs : (config : Config) (plan : Tree) (rest : List ℕ) → IsConsistent config → Within config plan

@@ -1,17 +1,15 @@
 -- Whatever is left after a run, each component has as many sections as it takes to be finished, but for those that may be open at the end.
-use Rattle.std.proofs.Common.{◌≡◌, ℕ, zero, suc, ◌≤◌, List, [], ◌∷◌, ◌++◌, length, arith, refl, ap, sym, ◌∙◌, subst, inl, inr, append-nil}
+use Rattle.std.proofs.Common.{◌≡◌, ℕ, List, [], ◌∷◌, ◌++◌, refl, ap, ◌∙◌, append-nil}
 use Rattle.std.specs.List.{AllByRecursion}
 use Rattle.smith_format.specs.declared.config.Config.{Config}
-use Rattle.smith_tree.specs.Open.{Open, root, with_inner}
 use Rattle.smith_tree.specs.Readable.{AreFinishable, IsFinishable}
-use Rattle.smith_tree.specs.Tree.{Part, Tree, add, anywhere_in, canons, component, components_in, core_module, core_types, custom, ends, exports, first}
+use Rattle.smith_tree.specs.Tree.{Part, Tree, anywhere_in, canons, component, components_in, core_module, core_types, custom, ends, exports, first}
 use Rattle.smith_tree.specs.Tree.{imports, inside, own, types}
 use Rattle.smith_component.specs.ButLast.{AreFinishableButLast, alone, around}
-use Rattle.smith_component.specs.Runs.{RunsTo, Turns}
-use Rattle.smith_component.specs.Turn.{Closes, Next, Turn, answered, building}
-use Rattle.smith_component.proofs.RunsFinishable.{DoneNext, Grows, IsDone, all_filled_keep, does_done, finishes, turn_shortens}
+use Rattle.smith_component.specs.Runs.{RunsTo}
+use Rattle.smith_component.proofs.RunsEnd.{IsKept, run_keeps}
+use Rattle.smith_component.proofs.RunsFinishable.{Grows, IsDone, all_filled_keep}
 use Rattle.smith_component.proofs.Tree.{own-add}
-use Rattle.smith_component.proofs.Turn.{does_finish, only_finish}
 use Rattle.smith_scopes.proofs.Plain.{all_back, all_both, all_front}
 
 module _ (config : Config) where
@@ -27,12 +25,29 @@ module _ (config : Config) where
   part_own (imports is) all = tt
   part_own (exports es) all = tt
 
-  own_done : (t : Tree) → IsDone config t → AllByRecursion (AreFinishable config) (own components_in t)
+  pub own_done : (t : Tree) → IsDone config t → AllByRecursion (AreFinishable config) (own components_in t)
   own_done ends done = tt
   own_done (first p t) done =
       all_both (AreFinishable config) (components_in p) (own components_in t)
       (part_own p (all_front (IsFinishable config) (anywhere_in components_in p) (inside t) done))
       (own_done t (all_back (IsFinishable config) (anywhere_in components_in p) (inside t) done))
+
+  part_inside : (p : Part) → AllByRecursion (AreFinishable config) (components_in p) → AllByRecursion (IsFinishable config) (anywhere_in components_in p)
+  part_inside (custom name contents) all = tt
+  part_inside (core_module text) all = tt
+  part_inside (core_types ts) all = tt
+  part_inside (component t) all = all.0
+  part_inside (types ts) all = tt
+  part_inside (canons fs) all = tt
+  part_inside (imports is) all = tt
+  part_inside (exports es) all = tt
+
+  pub done_own : (t : Tree) → AllByRecursion (AreFinishable config) (own components_in t) → IsDone config t
+  done_own ends all = tt
+  done_own (first p t) all =
+      all_both (IsFinishable config) (anywhere_in components_in p) (inside t)
+      (part_inside p (all_front (AreFinishable config) (components_in p) (own components_in t) all))
+      (done_own t (all_back (AreFinishable config) (components_in p) (own components_in t) all))
 
   same_own : {t u : Tree} → own components_in u ≡ own components_in t → AreFinishableButLast config t → AreFinishableButLast config u
   same_own e (alone none) = alone (e ∙ none)
@@ -58,7 +73,7 @@ module _ (config : Config) where
   in_front u t done _ (around before last is all late) = around (u ∷ before) last (ap (λ us. u ∷ us) is) (done, all) late
 
   -- What is finished is finished but for the last.
-  done_late : (t : Tree) → IsDone config t → AreFinishableButLast config t
+  pub done_late : (t : Tree) → IsDone config t → AreFinishableButLast config t
   done_late ends done = alone refl
   done_late (first (custom name contents) t) done = same_own refl (done_late t done)
   done_late (first (core_module text) t) done = same_own refl (done_late t done)
@@ -71,63 +86,14 @@ module _ (config : Config) where
   done_late (first (imports is) t) done = same_own refl (done_late t done)
   done_late (first (exports es) t) done = same_own refl (done_late t done)
 
-  -- after the end of the input
-  abbrev LateNext : Next → Type 0
-  LateNext (building stack) = AreFinishableButLast config stack.inner × AllByRecursion (IsDone config) stack.outer
-  LateNext (answered t) = AreFinishableButLast config t
-
-  late_next : (next : Next) → DoneNext config next → LateNext next
-  late_next (building stack) done = (done_late stack.inner done.0, done.1)
-  late_next (answered t) done = done_late t done.1
-
-  closes_late : (stack : Open) (next : Next) → Closes stack next → LateNext (building stack) → LateNext next
-  closes_late stack next (inl (bottom, is)) late = subst LateNext (sym is) late.0
-  closes_late stack next (inr (outers, parent, above, is)) late =
-      let all : AllByRecursion (IsDone config) (outers ++ parent ∷ []) = subst (AllByRecursion (IsDone config)) above late.1 in
-      let back : AllByRecursion (IsDone config) (parent ∷ []) = all_back (IsDone config) outers (parent ∷ []) all in
-      let in_it : AreFinishableButLast config (add parent (component stack.inner)) =
-      around (own components_in parent) stack.inner (own-add components_in parent (component stack.inner)) (own_done parent back.0) late.0 in
-      subst LateNext (sym is) (in_it, all_front (IsDone config) outers (parent ∷ []) all)
-
-  turn_late : (stack : Open) (next : Next) (left : List ℕ) → Turn config stack [] next left → LateNext (building stack) → LateNext next
-  turn_late stack next left t late =
-      let (full, fills, closes) =
-      does_finish config stack t.item t.after left next (only_finish t.chooses.place t.item t.chooses.named) t.does in
-      closes_late (with_inner stack full) next closes
-      (all_filled_keep config (AreFinishableButLast config) late_grows stack t.after full left fills late.0, late.1)
-
-  -- What holds while these bytes are left.
-  abbrev Holds : List ℕ → Next → Type 0
-  Holds [] next = LateNext next
-  Holds (x ∷ xs) next = DoneNext config next
-
-  holds_done : (left : List ℕ) (next : Next) → DoneNext config next → Holds left next
-  holds_done [] next done = late_next next done
-  holds_done (x ∷ xs) next done = done
-
-  holds_late : (left : List ℕ) (next : Next) → length left ≤ 0 → LateNext next → Holds left next
-  holds_late [] next none late = late
-  holds_late (x ∷ xs) next none late = absurd (omega (arith, none))
-
-  late_of : (left : List ℕ) (next : Next) → Holds left next → LateNext next
-  late_of [] next holds = holds
-  late_of (x ∷ xs) next holds = late_next next holds
-
-  turn_holds : (stack : Open) (left : List ℕ) (next : Next) (left2 : List ℕ) → Turn config stack left next left2 → Holds left (building stack)
-      → Holds left2 next
-  turn_holds stack [] next left2 t holds =
-      holds_late left2 next (turn_shortens config stack [] next left2 t) (turn_late stack next left2 t holds)
-  turn_holds stack (x ∷ xs) next left2 t holds =
-      holds_done left2 next
-      (does_done config t.item stack t.after next left2 (finishes config stack (x ∷ xs) t.after t.item (omega arith) t.chooses) t.does holds)
-
-  turns_hold : (k : ℕ) (now : Next) (left : List ℕ) (next : Next) (left2 : List ℕ) → Turns config now left next left2 k → Holds left now → LateNext next
-  turns_hold zero now left next left2 (is, same) holds = subst LateNext (sym is) (late_of left now holds)
-  turns_hold (suc k) (answered t) left next left2 none holds = absurd none
-  turns_hold (suc k) (building stack) left next left2 (mid, left1, t, later) holds =
-      turns_hold k mid left1 next left2 later (turn_holds stack left mid left1 t holds)
+  -- It stays so where it is closed or filled after the end of the input.
+  late_kept : IsKept config (AreFinishableButLast config)
+  late_kept = record {
+    of_done = done_late;
+    closed = λ t u done late. around (own components_in t) u (own-add components_in t (component u)) (own_done t done) late;
+    filled = all_filled_keep config (AreFinishableButLast config) late_grows;
+  }
 
 -- Whatever a run leaves, the components that can't be open when the input ends are finished.
 pub runs_end : (config : Config) (input : List ℕ) (tree : Tree) (left : List ℕ) → RunsTo config input tree left → AreFinishableButLast config tree
-runs_end config input tree left r =
-    turns_hold config r.turns (building root) input (answered tree) left r.run (holds_done config input (building root) (tt, tt))
+runs_end config input tree left r = run_keeps config (AreFinishableButLast config) (late_kept config) input tree left r

@@ -1,6 +1,6 @@
--- The script of a plan is read as that plan.
-use Rattle.std.proofs.Common.{◌≡◌, ℕ, zero, suc, ◌+◌, ◌<◌, List, [], ◌∷◌, ◌++◌, length, arith, ap, sym, subst, ◌∙◌, refl, true, inl, inr}
-use Rattle.std.proofs.Common.{append_assoc, length-append}
+-- The script of an item, of a part and of the choice to finish is read as a turn that does so.
+use Rattle.std.proofs.Common.{◌≡◌, ℕ, suc, ◌+◌, ◌<◌, List, [], ◌∷◌, ◌++◌, length, arith, sym, subst, refl, true}
+use Rattle.std.proofs.Common.{append_assoc}
 use Rattle.std.specs.Bool.{Decides}
 use Rattle.std.specs.List.{AllByRecursion}
 use Rattle.std.specs.Prelude.{slice_get, Some}
@@ -19,30 +19,27 @@ use Rattle.smith_tree.specs.TypeNeeds.{declaring}
 use Rattle.smith_tree.specs.Marking.{marked_in, marked_inner}
 use Rattle.smith_tree.specs.Offered.{OfferedPart}
 use Rattle.smith_tree.specs.Spaces.{spaces_of, types_of}
-use Rattle.smith_tree.specs.Tree.{Tree, ends, first, Part, custom, core_module, core_types, component, types, canons, imports, exports, add, inside}
+use Rattle.smith_tree.specs.Tree.{Tree, ends, first, Part, custom, core_module, core_types, component, types, canons, imports, exports, add}
 use Rattle.smith_tree.specs.Tree.{component_count, module_count, no_depth, most}
 use Rattle.smith_tree.specs.WellFormed.{Formed, FormedPart}
 use Rattle.smith_tree.specs.Limits.{OwnLimits, Maxima, Minima}
-use Rattle.smith_tree.specs.Open.{Open, root, item_offers, items, items_with_input, is_finish_offered, is_module_offered, is_component_offered}
+use Rattle.smith_tree.specs.Open.{Open, item_offers, items, items_with_input, is_finish_offered, is_module_offered, is_component_offered}
 use Rattle.smith_tree.specs.Open.{is_export_offered, scopes_in, tree_so_far}
-use Rattle.smith_component.specs.Turn.{Next, building, answered, Closes, Does, Turn, with_open, with_part}
-use Rattle.smith_component.specs.Runs.{Turns}
-use Rattle.smith_tree.specs.Script.{Continues, item_of, script_item, script_part, script_from, script}
-use Rattle.smith_tree.specs.Readable.{AreFinishable, CanBeGenerated, IsFinishable, IsReadablePart, IsReadableRest}
+use Rattle.smith_component.specs.Turn.{Next, Closes, Does, Turn, with_open, with_part}
+use Rattle.smith_tree.specs.Script.{Continues, item_of, script_item, script_part}
+use Rattle.smith_tree.specs.Readable.{IsFinishable, IsReadablePart, IsReadableRest}
 use Rattle.smith_tree.specs.contracts.choices.Item.{the_type}
 use Rattle.smith_tree.specs.contracts.choices.ItemPartialEq.TheImpl.{ghosts as equal}
 use Rattle.smith_tree.specs.declared.choices.Item.{Item}
 use Rattle.smith_tree.specs.declared.choices.Item.TheVariants.{Finish, Custom, CoreTypes, Types, Imports, Canonical, Module, Component, Exports}
-use Rattle.smith_component.proofs.Tree.{all_before, all_inner, depth-outer, depth-so_far, join-add, join-ends, tree_so_far-close, join}
-use Rattle.smith_scopes.proofs.Plain.{all_front, all_back}
+use Rattle.smith_component.proofs.Tree.{all_before, all_inner, depth-outer, depth-so_far, join-add, join-ends, join}
 use Rattle.smith_component.proofs.CanonsRead.{Spoken}
-use Rattle.smith_component.proofs.Marks.{OfferedRest, offered_inside, offered_past}
 use Rattle.smith_component.proofs.PartsRead.{fills_nothing, spoken_past, custom_part, core_types_part, types_part, imports_part}
 use Rattle.smith_component.proofs.PartsRead.{canons_part, exports_part, module_part}
-use Rattle.smith_component.proofs.Plan.{PartStands, Stands}
+use Rattle.smith_component.proofs.Plan.{PartStands}
 use Rattle.smith_component.proofs.Fits.{own_limits-front, own_limits_swap}
-use Rattle.smith_component.proofs.Sound.{module_count-so_far, component_count-so_far, instance_count-so_far, scopes_from-snoc}
-use Rattle.smith_component.proofs.Turn.{items_some, not_empty, last_same}
+use Rattle.smith_component.proofs.Sound.{module_count-so_far, component_count-so_far, instance_count-so_far}
+use Rattle.smith_component.proofs.Turn.{items_some}
 use Rattle.smith_component.proofs.WellFormed.{formed_front}
 
 item_Decides : (a b : Item) → Decides (equal.eq a b) (a ≡ b)
@@ -119,7 +116,7 @@ limits_front (first p t) config outer a l =
     }
 
 -- A component that the limits allow is offered.
-offered_from : (config : Config) (outer : List Tree) (inner u : Tree) → Maxima config (tree_so_far outer (add inner (component u)))
+pub offered_from : (config : Config) (outer : List Tree) (inner u : Tree) → Maxima config (tree_so_far outer (add inner (component u)))
     → is_component_offered config (record { outer = outer; inner = inner }) ≡ true
 offered_from config outer inner u l =
     let deep : length outer + 1 < config.max_nesting_depth =
@@ -136,218 +133,10 @@ module_offered config outer inner text l =
     omega (arith, l.modules, module_count-so_far outer inner (core_module text)) in
     grind (arith, nat_tests)
 
-split_last : (a : Tree) (rest : List Tree) → (o : List Tree) × (p : Tree) × (a ∷ rest ≡ o ++ p ∷ [])
-split_last a [] = ([], a, refl)
-split_last a (c ∷ rest) =
-    let r = split_last c rest in
-    (a ∷ r.0, r.1, ap (λ z. a ∷ z) r.2)
-
-closes_some : (outer : List Tree) (t : Tree) → (n : Next) × Closes (record { outer = outer; inner = t }) n
-closes_some [] t = (answered t, inl (refl, refl))
-closes_some (a ∷ rest) t =
-    let r = split_last a rest in
-    (building (record { outer = r.0; inner = add r.1 (component t) }), inr (r.0, r.1, r.2, refl))
-
--- One scripted turn that adds a part, and then the rest.
-module _ (config : Config) (outer : List Tree) (before : Tree) (next : Next) (left : List ℕ) where
-  -- scripted turns from here lead there
-  abbrev pub Leads : Tree → List ℕ → Type 0
-  Leads inner b = (j : ℕ) × Turns config (building (record { outer = outer; inner = inner })) b next left j
-
-  adds : (p : Part) (place : ℕ) (later rest : List ℕ)
-      → slice_get (items_with_input config (record { outer = outer; inner = before })) place ≡ Some (item_of p)
-      → Does config (item_of p) (record { outer = outer; inner = before }) (script_part p config outer before ++ (later ++ rest))
-      (with_part (record { outer = outer; inner = before }) p) (later ++ rest)
-      → Leads (add before p) (later ++ rest) → Leads before (((script_item config outer before (item_of p) ++ script_part p config outer before) ++ later)
-      ++ rest)
-  adds p place later rest named f m =
-      let choice : List ℕ = script_item config outer before (item_of p) in
-      let said : List ℕ = script_part p config outer before in
-      let now : Next = building (record { outer = outer; inner = before }) in
-      let R : List ℕ → Type 0 = λ z. Turns config now z next left (suc m.0) in
-      let whole : ((choice ++ said) ++ later) ++ rest ≡ choice ++ (said ++ (later ++ rest)) = append_assoc (choice ++ said) later rest
-      ∙ append_assoc choice said (later ++ rest) in (
-        suc m.0,
-        subst R (sym whole) (
-          building (record { outer = outer; inner = add before p }),
-          later ++ rest,
-          record { item = item_of p; after = said ++ (later ++ rest); chooses = item_read config outer before (item_of p) place _ named; does = f },
-          m.1,
-        ),
-      )
-
 -- what holds after one more part
 pub limits_past : (p : Part) (t : Tree) (config : Config) (outer : List Tree) (before : Tree) → Maxima config (tree_so_far outer (join before (first p t)))
     → Maxima config (tree_so_far outer (join (add before p) t))
 limits_past p t config outer before l = subst (λ x. Maxima config (tree_so_far outer x)) (sym (join-add before p t)) l
-
--- A component that is finished meets the minima, and input may be left then.
-record Ends (config : Config) (t : Tree) : Type 0 where
-  minima : Minima config t
-  finishable : IsFinishable config t
-
-all_end : (config : Config) (ts : List Tree) → AllByRecursion (Minima config) ts → AllByRecursion (IsFinishable config) ts → AllByRecursion (Ends config) ts
-all_end config [] m f = tt
-all_end config (t ∷ ts) m f = (record { minima = m.0; finishable = f.0 }, all_end config ts m.1 f.1)
-
-enough_past : (p : Part) (t : Tree) (config : Config) (before : Tree) → Ends config (join before (first p t)) → Ends config (join (add before p) t)
-enough_past p t config before m = subst (Ends config) (sym (join-add before p t)) m
-
-after_past : (p : Part) (t : Tree) (config : Config) (outer : List Tree) (before : Tree) (next : Next) (left : List ℕ) (k : ℕ) (rest : List ℕ)
-    → ((n : Next) → Closes (record { outer = outer; inner = join before (first p t) }) n → Turns config n rest next left k) → (n : Next)
-    → Closes (record { outer = outer; inner = join (add before p) t }) n → Turns config n rest next left k
-after_past p t config outer before next left k rest after n c = after n (subst (λ x. Closes (record { outer = outer; inner = x }) n) (join-add before p t) c)
-
--- the limits of a component that has one more part
-part_limits : (p : Part) (t : Tree) (config : Config) (outer : List Tree) (before : Tree) → Maxima config (tree_so_far outer (join before (first p t)))
-    → OwnLimits config (add before p)
-part_limits p t config outer before l = all_inner (OwnLimits config) outer (add before p)
-    (limits_front t config outer (add before p) (limits_past p t config outer before l)).each
-
-reach_from : (t : Tree) (config : Config) (consistent : IsConsistent config) (outer : List Tree) (before : Tree)
-    (spoken : AllByRecursion Spoken (types_of before)) (rest : List ℕ) (next : Next) (left : List ℕ) (k : ℕ) → IsReadableRest config t before
-    → Stands config (suc (length outer)) t
-    → Formed t (scopes_in outer) before → OfferedRest config outer before t → Maxima config (tree_so_far outer (join before t))
-    → AllByRecursion (Ends config) (inside t) → Ends config (join before t)
-    → ((n : Next) → Closes (record { outer = outer; inner = join before t }) n → Turns config n rest next left k)
-    → Leads config outer before next left before (script_from t config outer before ++ rest)
-reach_from ends config consistent outer before spoken rest next left k readable stands formed offered l each enough after =
-    let c = closes_some outer before in
-    let here : Ends config before = subst (Ends config) (join-ends before) enough in
-    let last = finish_item config (record { outer = outer; inner = before }) here.finishable in
-    let P : Tree → Type 0 = λ x. Closes (record { outer = outer; inner = x }) c.0 in (
-      suc k,
-      (
-        c.0,
-        rest,
-        record {
-          item = Finish;
-          after = rest;
-          chooses = item_read config outer before Finish last.0 rest last.1;
-          does = (before, fills_nothing config (record { outer = outer; inner = before }) rest here.minima, c.1);
-        },
-        after c.0 (subst P (sym (join-ends before)) c.1),
-      ),
-    )
-reach_from (first (custom name contents) t) config consistent outer before spoken rest next left k readable stands formed offered l each enough after =
-    let p : Part = custom name contents in
-    let last = custom_item config (record { outer = outer; inner = before }) in
-    adds config outer before next left p last.0 (script_from t config outer (add before p)) rest last.1
-    (custom_part config (record { outer = outer; inner = before }) (script_from t config outer (add before p) ++ rest) name contents
-    readable.0 stands.0 formed.0 offered.0 (part_limits p t config outer before l))
-    (reach_from t config consistent outer (add before p) (spoken_past config p (scopes_in outer) before readable.0 formed.0 spoken) rest next
-    left k readable.1 stands.1 formed.1 (offered_past p t config outer before offered) (limits_past p t config outer before l)
-    each (enough_past p t config before enough) (after_past p t config outer before next left k rest after))
-reach_from (first (core_types ts) t) config consistent outer before spoken rest next left k readable stands formed offered l each enough after =
-    let p : Part = core_types ts in
-    let last = core_types_item config (record { outer = outer; inner = before }) in
-    adds config outer before next left p last.0 (script_from t config outer (add before p)) rest last.1
-    (core_types_part config (record { outer = outer; inner = before }) (script_from t config outer (add before p) ++ rest) consistent ts
-    readable.0 stands.0 formed.0 offered.0 (part_limits p t config outer before l))
-    (reach_from t config consistent outer (add before p) (spoken_past config p (scopes_in outer) before readable.0 formed.0 spoken) rest next
-    left k readable.1 stands.1 formed.1 (offered_past p t config outer before offered) (limits_past p t config outer before l)
-    each (enough_past p t config before enough) (after_past p t config outer before next left k rest after))
-reach_from (first (types es) t) config consistent outer before spoken rest next left k readable stands formed offered l each enough after =
-    let p : Part = types es in
-    let last = types_item config (record { outer = outer; inner = before }) in
-    adds config outer before next left p last.0 (script_from t config outer (add before p)) rest last.1
-    (types_part config (record { outer = outer; inner = before }) (script_from t config outer (add before p) ++ rest) consistent es
-    (limits_front t config outer (add before p) (limits_past p t config outer before l))
-    readable.0 stands.0 formed.0 offered.0 (part_limits p t config outer before l))
-    (reach_from t config consistent outer (add before p) (spoken_past config p (scopes_in outer) before readable.0 formed.0 spoken) rest next
-    left k readable.1 stands.1 formed.1 (offered_past p t config outer before offered) (limits_past p t config outer before l)
-    each (enough_past p t config before enough) (after_past p t config outer before next left k rest after))
-reach_from (first (imports is) t) config consistent outer before spoken rest next left k readable stands formed offered l each enough after =
-    let p : Part = imports is in
-    let last = imports_item config (record { outer = outer; inner = before }) in
-    adds config outer before next left p last.0 (script_from t config outer (add before p)) rest last.1
-    (imports_part config (record { outer = outer; inner = before }) (script_from t config outer (add before p) ++ rest) consistent is
-    (limits_front t config outer (add before p) (limits_past p t config outer before l))
-    readable.0 stands.0 formed.0 offered.0 (part_limits p t config outer before l))
-    (reach_from t config consistent outer (add before p) (spoken_past config p (scopes_in outer) before readable.0 formed.0 spoken) rest next
-    left k readable.1 stands.1 formed.1 (offered_past p t config outer before offered) (limits_past p t config outer before l)
-    each (enough_past p t config before enough) (after_past p t config outer before next left k rest after))
-reach_from (first (canons fs) t) config consistent outer before spoken rest next left k readable stands formed offered l each enough after =
-    let p : Part = canons fs in
-    let last = canons_item config (record { outer = outer; inner = before }) in
-    adds config outer before next left p last.0 (script_from t config outer (add before p)) rest last.1
-    (canons_part config (record { outer = outer; inner = before }) (script_from t config outer (add before p) ++ rest) consistent spoken fs
-    readable.0 stands.0 formed.0 offered.0 (part_limits p t config outer before l))
-    (reach_from t config consistent outer (add before p) (spoken_past config p (scopes_in outer) before readable.0 formed.0 spoken) rest next
-    left k readable.1 stands.1 formed.1 (offered_past p t config outer before offered) (limits_past p t config outer before l)
-    each (enough_past p t config before enough) (after_past p t config outer before next left k rest after))
-reach_from (first (exports es) t) config consistent outer before spoken rest next left k readable stands formed offered l each enough after =
-    let p : Part = exports es in
-    let last = exports_item config (record { outer = outer; inner = before }) readable.0.0 in
-    adds config outer before next left p last.0 (script_from t config outer (add before p)) rest last.1
-    (exports_part config (record { outer = outer; inner = before }) (script_from t config outer (add before p) ++ rest) consistent es
-    readable.0 stands.0 formed.0 offered.0 (part_limits p t config outer before l))
-    (reach_from t config consistent outer (add before p) (spoken_past config p (scopes_in outer) before readable.0 formed.0 spoken) rest next
-    left k readable.1 stands.1 formed.1 (offered_past p t config outer before offered) (limits_past p t config outer before l)
-    each (enough_past p t config before enough) (after_past p t config outer before next left k rest after))
-reach_from (first (core_module text) t) config consistent outer before spoken rest next left k readable stands formed offered l each enough after =
-    let p : Part = core_module text in
-    let last = module_item config (record { outer = outer; inner = before }) (module_offered config outer before text
-    (limits_front t config outer (add before p) (limits_past p t config outer before l))) in
-    adds config outer before next left p last.0 (script_from t config outer (add before p)) rest last.1
-    (module_part config (record { outer = outer; inner = before }) (script_from t config outer (add before p) ++ rest) text
-    readable.0 stands.0 formed.0 offered.0 (part_limits p t config outer before l))
-    (reach_from t config consistent outer (add before p) (spoken_past config p (scopes_in outer) before readable.0 formed.0 spoken) rest next
-    left k readable.1 stands.1 formed.1 (offered_past p t config outer before offered) (limits_past p t config outer before l)
-    each (enough_past p t config before enough) (after_past p t config outer before next left k rest after))
-reach_from (first (component u) t) config consistent outer before spoken rest next left k readable stands formed offered l each enough after =
-    let p : Part = component u in
-    let minima : AllByRecursion (Ends config) ((u ∷ inside u) ++ inside t) = each in
-    let in_it : AllByRecursion (Ends config) (u ∷ inside u) = all_front (Ends config) (u ∷ inside u) (inside t) minima in
-    let st : List ℕ = script_from t config outer (add before p) in
-    let su : List ℕ = script_from u config (outer ++ before ∷ []) ends in
-    let choice : List ℕ = script_item config outer before Component in
-    let m = reach_from t config consistent outer (add before p) (spoken_past config p (scopes_in outer) before readable.0 formed.0 spoken) rest
-    next left k readable.1 stands.1 formed.1 (offered_past p t config outer before offered) (limits_past p t config outer before l)
-    (all_back (Ends config) (u ∷ inside u) (inside t) minima)
-    (enough_past p t config before enough) (after_past p t config outer before next left k rest after) in
-    let here : Maxima config (tree_so_far outer (add before p)) = limits_front t config outer (add before p) (limits_past p t config outer before l) in
-    let there : Maxima config (tree_so_far (outer ++ before ∷ []) u) = subst (Maxima config) (sym (tree_so_far-close outer before u)) here in
-    let F : List Scope → Type 0 = λ ss. Formed u ss ends in
-    let inner : Formed u (scopes_in (outer ++ before ∷ [])) ends = subst F (sym (scopes_from-snoc outer before [])) formed.0 in
-    let longer : length (outer ++ before ∷ []) ≡ suc (length outer) = omega (arith, length-append outer (before ∷ [])) in
-    let deeper : Stands config (suc (length (outer ++ before ∷ []))) u = subst (λ n. Stands config (suc n) u) (sym longer) stands.0 in
-    let back : (x : Next) → Closes (record { outer = outer ++ before ∷ []; inner = u }) x → Turns config x (st ++ rest) next left m.0 = λ x c.
-    elim c [
-      | inl (a, b) ↦ absurd (not_empty outer before a)
-      | inr (o, q, a, b) ↦
-          let s = last_same outer o before q a in
-          let T : Next → Type 0 = λ z. Turns config z (st ++ rest) next left m.0 in
-          subst T (ap (λ z. building (record { outer = z; inner = add before p })) s.0 ∙ ap (λ z. building (record { outer = o; inner = add z p })) s.1 ∙ sym b)
-          m.1
-    ] in
-    let i = reach_from u config consistent (outer ++ before ∷ []) ends tt (st ++ rest) next left m.0 readable.0 deeper inner
-    (offered_inside u config outer before offered.0) there in_it.1 in_it.0 back in
-    let last = component_item config (record { outer = outer; inner = before }) (offered_from config outer before u here) in
-    let now : Next = building (record { outer = outer; inner = before }) in
-    let R : List ℕ → Type 0 = λ z. Turns config now z next left (suc i.0) in
-    let whole : ((choice ++ su) ++ st) ++ rest ≡ choice ++ (su ++ (st ++ rest)) = append_assoc (choice ++ su) st rest ∙ append_assoc choice su (st ++ rest) in (
-      suc i.0,
-      subst R (sym whole) (
-        building (record { outer = outer ++ before ∷ []; inner = ends }),
-        su ++ (st ++ rest),
-        record {
-          item = Component;
-          after = su ++ (st ++ rest);
-          chooses = item_read config outer before Component last.0 _ last.1;
-          does = (refl, refl);
-        },
-        i.1,
-      ),
-    )
-
-pub reach : (config : Config) (plan : Tree) (rest : List ℕ) → IsConsistent config → CanBeGenerated config plan → AreFinishable config plan
-    → Stands config 1 plan
-    → (k : ℕ) × Turns config (building root) (script config plan ++ rest) (answered plan) rest k
-reach config plan rest consistent c finishable stands =
-    let all : AllByRecursion (Ends config) (plan ∷ inside plan) = all_end config (plan ∷ inside plan) c.limits.minima finishable in
-    reach_from plan config consistent [] ends tt rest (answered plan) rest zero c.readable stands c.formed c.offered c.limits.maxima all.1 all.0
-    (λ n d. elim d [ inl (x, y) ↦ (sym y, refl) | inr (o, p, x, y) ↦ absurd (not_empty o p (sym x)) ])
 
 -- Turns of a script by themselves.
 
@@ -369,6 +158,40 @@ spoken_in (first p t) config outer before readable formed spoken =
     (spoken_in t config outer (add before p) readable.1 formed.1 (spoken_past config p outer before readable.0 formed.0 spoken))
 
 module _ (config : Config) (consistent : IsConsistent config) (stack : Open) where
+  -- The script of a part other than a component is a turn that adds it.
+  pub flat_turn : (rest : List ℕ) (p : Part) → ¬ (item_of p ≡ Component) → Maxima config (tree_so_far stack.outer (add stack.inner p))
+      → IsReadablePart config p stack.inner → PartStands config (suc (length stack.outer)) p → FormedPart p (scopes_in stack.outer) stack.inner
+      → OfferedPart p config (spaces_of stack.inner) (marked_in config stack.outer) (marked_inner config stack.outer stack.inner)
+      → OwnLimits config (add stack.inner p)
+      → AllByRecursion Spoken (types_of stack.inner) → Turn config stack
+      ((script_item config stack.outer stack.inner (item_of p) ++ script_part p config stack.outer stack.inner) ++ rest) (with_part stack p) rest
+  flat_turn rest (custom name contents) flat m readable stands formed offered own spoken =
+      let last = custom_item config stack in
+      turn_of config stack Custom last.0 _ rest _ last.1 (custom_part config stack rest name contents readable stands formed offered own)
+  flat_turn rest (core_module text) flat m readable stands formed offered own spoken =
+      let last = module_item config stack (module_offered config stack.outer stack.inner text m) in
+      turn_of config stack Module last.0 _ rest _ last.1 (module_part config stack rest text readable stands formed offered own)
+  flat_turn rest (core_types ts) flat m readable stands formed offered own spoken =
+      let last = core_types_item config stack in
+      turn_of config stack CoreTypes last.0 _ rest _ last.1
+      (core_types_part config stack rest consistent ts readable stands formed offered own)
+  flat_turn rest (component t) flat m readable stands formed offered own spoken = absurd (flat refl)
+  flat_turn rest (types ts) flat m readable stands formed offered own spoken =
+      let last = types_item config stack in
+      turn_of config stack Types last.0 _ rest _ last.1
+      (types_part config stack rest consistent ts m readable stands formed offered own)
+  flat_turn rest (canons fs) flat m readable stands formed offered own spoken =
+      let last = canons_item config stack in
+      turn_of config stack Canonical last.0 _ rest _ last.1
+      (canons_part config stack rest consistent spoken fs readable stands formed offered own)
+  flat_turn rest (imports is) flat m readable stands formed offered own spoken =
+      let last = imports_item config stack in
+      turn_of config stack Imports last.0 _ rest _ last.1
+      (imports_part config stack rest consistent is m readable stands formed offered own)
+  flat_turn rest (exports es) flat m readable stands formed offered own spoken =
+      let last = exports_item config stack readable.0 in
+      turn_of config stack Exports last.0 _ rest _ last.1 (exports_part config stack rest consistent es readable stands formed offered own)
+
   pub part_turn : (p : Part) (rest : List ℕ) → ¬ (item_of p ≡ Component) → Continues config stack p
       → PartStands config (suc (length stack.outer)) p
       → Turn config stack ((script_item config stack.outer stack.inner (item_of p) ++ script_part p config stack.outer stack.inner) ++ rest) (with_part stack p)
@@ -377,40 +200,7 @@ module _ (config : Config) (consistent : IsConsistent config) (stack : Open) whe
       let formed = formed_front stack.inner p (scopes_in stack.outer) ends c.formed in
       let own : OwnLimits config (add stack.inner p) = all_inner (OwnLimits config) stack.outer (add stack.inner p) c.maxima.each in
       let spoken = spoken_in stack.inner config (scopes_in stack.outer) ends c.before formed.0 tt in
-      does p flat c.maxima c.readable stands formed.1 c.offered own spoken
-    where
-      does : (p : Part) → ¬ (item_of p ≡ Component) → Maxima config (tree_so_far stack.outer (add stack.inner p))
-          → IsReadablePart config p stack.inner → PartStands config (suc (length stack.outer)) p → FormedPart p (scopes_in stack.outer) stack.inner
-          → OfferedPart p config (spaces_of stack.inner) (marked_in config stack.outer) (marked_inner config stack.outer stack.inner)
-          → OwnLimits config (add stack.inner p)
-          → AllByRecursion Spoken (types_of stack.inner) → Turn config stack
-          ((script_item config stack.outer stack.inner (item_of p) ++ script_part p config stack.outer stack.inner) ++ rest) (with_part stack p) rest
-      does (custom name contents) flat m readable stands formed offered own spoken =
-          let last = custom_item config stack in
-          turn_of config stack Custom last.0 _ rest _ last.1 (custom_part config stack rest name contents readable stands formed offered own)
-      does (core_module text) flat m readable stands formed offered own spoken =
-          let last = module_item config stack (module_offered config stack.outer stack.inner text m) in
-          turn_of config stack Module last.0 _ rest _ last.1 (module_part config stack rest text readable stands formed offered own)
-      does (core_types ts) flat m readable stands formed offered own spoken =
-          let last = core_types_item config stack in
-          turn_of config stack CoreTypes last.0 _ rest _ last.1
-          (core_types_part config stack rest consistent ts readable stands formed offered own)
-      does (component t) flat m readable stands formed offered own spoken = absurd (flat refl)
-      does (types ts) flat m readable stands formed offered own spoken =
-          let last = types_item config stack in
-          turn_of config stack Types last.0 _ rest _ last.1
-          (types_part config stack rest consistent ts m readable stands formed offered own)
-      does (canons fs) flat m readable stands formed offered own spoken =
-          let last = canons_item config stack in
-          turn_of config stack Canonical last.0 _ rest _ last.1
-          (canons_part config stack rest consistent spoken fs readable stands formed offered own)
-      does (imports is) flat m readable stands formed offered own spoken =
-          let last = imports_item config stack in
-          turn_of config stack Imports last.0 _ rest _ last.1
-          (imports_part config stack rest consistent is m readable stands formed offered own)
-      does (exports es) flat m readable stands formed offered own spoken =
-          let last = exports_item config stack readable.0 in
-          turn_of config stack Exports last.0 _ rest _ last.1 (exports_part config stack rest consistent es readable stands formed offered own)
+      flat_turn rest p flat c.maxima c.readable stands formed.1 c.offered own spoken
 
 pub opening_turn : (config : Config) (stack : Open) (rest : List ℕ) → is_component_offered config stack ≡ true
     → Turn config stack (script_item config stack.outer stack.inner Component ++ rest) (with_open stack) rest

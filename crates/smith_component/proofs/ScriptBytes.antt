@@ -31,14 +31,14 @@ use Rattle.smith_tree.specs.TypeScript.{script_type}
 use Rattle.smith_types.proofs.ReferencesRead.{IsFew}
 use Rattle.smith_types.proofs.ScriptBytes.{small_extern, small_lifted, small_ref, type_bytes}
 use Rattle.smith_tree.specs.CanonScript.{canon_item_of, script_canon, script_lift}
-use Rattle.smith_tree.specs.Grammar.{part, parts, preamble}
+use Rattle.smith_tree.specs.Grammar.{Spells, part, parts, preamble}
 use Rattle.smith_tree.specs.Limits.{OwnLimits}
 use Rattle.smith_syntax.specs.WellFormed.{FormedRef}
 use Rattle.smith_tree.specs.Marking.{marked_in, marked_inner, with_core_entry, with_type_entry}
 use Rattle.smith_tree.specs.Offered.{OfferedImports}
 use Rattle.smith_tree.specs.Offers.{canon_items, canon_offers, is_scalar_entry, is_scalar_type, marked_with_imports, totals_of, with_exports, with_imports}
 use Rattle.smith_tree.specs.Open.{item_offers, items_with_input, Open, scopes_in}
-use Rattle.smith_tree.specs.Readable.{IsReadableRest}
+use Rattle.smith_tree.specs.Readable.{CanBeGenerated, IsReadableRest}
 use Rattle.smith_tree.specs.Script.{item_of, script, script_export, script_from, script_import, script_item}
 use Rattle.smith_tree.specs.Script.{script_part, Within}
 use Rattle.smith_tree.specs.Spaces.{after_canon, after_part, core_types_of, Spaces, spaces_of, types_of}
@@ -59,7 +59,7 @@ use Rattle.smith_component.proofs.Growth.{canon_keeps, functions_after, function
 use Rattle.smith_component.proofs.Encoded.{Encoded, component_encoded, contents_bytes}
 use Rattle.smith_component.proofs.Named.{named_behind}
 use Rattle.smith_component.proofs.Plan.{Stands}
-use Rattle.smith_component.proofs.Planned.{plan_stands}
+use Rattle.smith_component.proofs.Planned.{tree_stands}
 use Rattle.smith_component.proofs.Marks.{OfferedRest, formed_core_marked, formed_marked, marked_core_types, marked_few, marked_types}
 use Rattle.smith_component.proofs.Marks.{offered_inside, offered_past}
 use Rattle.smith_component.proofs.PartsRead.{spoken_past}
@@ -312,20 +312,24 @@ mutual
   small_part (imports is) t config outer before consistent said = small_import_part config consistent outer before is t said
   small_part (exports es) t config outer before consistent said = small_export_part config consistent outer before es t said
 
--- The script of a plan is bytes.
-pub plan_bytes : (config : Config) (plan : Tree) → IsConsistent config → Within config plan → AreBytes (script config plan)
-plan_bytes config plan consistent w =
-    let z = parts_are (bytes preamble) (parts plan) w.spelled.0 w.spelled.1 in
-    let m = w.possible.limits.maxima in
-    (small_from plan config [] ends consistent (record {
+-- The script of a component that can be generated is bytes.
+pub tree_bytes : (config : Config) (t : Tree) → IsConsistent config → CanBeGenerated config t → (b : List ℕ) × Spells t b → AreBytes (script config t)
+tree_bytes config t consistent c spelled =
+    let z = parts_are (bytes preamble) (parts t) spelled.0 spelled.1 in
+    let m = c.limits.maxima in
+    (small_from t config [] ends consistent (record {
       spoken = tt;
-      readable = w.possible.readable;
-      stands = plan_stands config plan w;
-      formed = w.possible.formed;
-      offered = w.possible.offered;
+      readable = c.readable;
+      stands = tree_stands config t c spelled;
+      formed = c.formed;
+      offered = c.offered;
       whole = m.each.0;
       each = m.each.1;
       around = tt;
       shallow = omega (arith, m.depth, consistent.nesting);
       spelled = (z.right, z.q_is);
     })).are
+
+-- The script of a plan is bytes.
+pub plan_bytes : (config : Config) (plan : Tree) → IsConsistent config → Within config plan → AreBytes (script config plan)
+plan_bytes config plan consistent w = tree_bytes config plan consistent w.possible w.spelled

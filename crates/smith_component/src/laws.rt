@@ -1,6 +1,6 @@
 //! Laws of components. Each function does nothing: its contract is the law.
 
-ghost use Rattle.std.specs.Prelude.{◌≡◌, ◌≤◌, ◌↔◌, ◌⊎◌, ◌++◌, ℕ, List, None, true};
+ghost use Rattle.std.specs.Prelude.{◌≡◌, ◌≤◌, ◌↔◌, ◌⊎◌, ◌++◌, ℕ, List, [], None, true};
 ghost use Rattle.smith_core.specs.Module.{module_text};
 ghost use Rattle.smith_core.specs.Parts.{Agree};
 ghost use Rattle.smith_core.specs.TooLong.{ModuleTooLong};
@@ -24,6 +24,7 @@ ghost use Rattle.smith_component.specs.Turn.{Closes, Next, Turn, with_open, with
 ghost use Rattle.smith_component.specs.Wider.{AreWider};
 ghost use Rattle.smith_tree.specs.Readable.{AreFinishable, CanBeGenerated, IsFinishable};
 ghost use Rattle.smith_component.specs.ButLast.{AreFinishableButLast};
+ghost use Rattle.smith_component.specs.Ended.{AreFinishedOrOpen};
 ghost use Rattle.smith_component.specs.Runs.{IsFollowed, RunsTo};
 ghost use Rattle.smith_tree.specs.declared.choices.Item.TheVariants.{Component as ItemComponent, Finish};
 
@@ -79,6 +80,23 @@ pub fn components_are_exact()
     ensures { (config : Config) (tree : Tree) (b : List ℕ) → IsConsistent config → Spells tree b
         → ((input left : List ℕ) × AreBytes input × IsFollowed config left × RunsTo config input tree left)
         ↔ (CanBeGenerated config tree × AreFinishable config tree) }
+{}
+
+/// Exactly those components that have bytes are produced by some input of which nothing is left, when no minimum is
+/// asked, that can be generated and in which only components that may have been open when the input ended have fewer
+/// sections than are asked of those that are finished: the root, the component that is its last section, the component
+/// that is the last section of that, and so on. Whatever the minima, each of these is produced so, and each component
+/// of it has as many sections as are asked but for the root, the last component in it, the last in that, and so on.
+pub fn components_of_inputs_that_end_are_exact()
+    ensures exact { (config : Config) (tree : Tree) (b : List ℕ) → IsConsistent config → config.min_types ≡ 0
+        → config.min_imports ≡ 0 → config.min_funcs ≡ 0 → Spells tree b
+        → ((input : List ℕ) × AreBytes input × RunsTo config input tree [])
+        ↔ (CanBeGenerated config tree × AreFinishedOrOpen config tree) }
+    ensures generated { (config : Config) (tree : Tree) (b : List ℕ) → IsConsistent config → Spells tree b
+        → CanBeGenerated config tree → AreFinishedOrOpen config tree
+        → (input : List ℕ) × AreBytes input × RunsTo config input tree [] }
+    ensures but_last { (config : Config) (tree : Tree) → AreFinishedOrOpen config tree
+        → AreFinishableButLast config tree }
 {}
 
 /// Wider limits generate no less: what can be generated within some limits can be within wider ones; and where no more
