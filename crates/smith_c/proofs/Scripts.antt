@@ -1,6 +1,5 @@
 -- Why there is no script.
-use Rattle.std.proofs.Common.{◌≡◌, ◌≢◌, ◌≤◌, ◌↔◌, ℕ, List, Option, Some, None, length, refl}
-use Rattle.std.specs.Prelude.{IfSome}
+use Rattle.std.proofs.Common.{◌≡◌, ◌↔◌, ℕ, List, Some, None, refl}
 use Rattle.smith_format.specs.Consistency.{IsConsistent}
 use Rattle.smith_format.specs.declared.config.Config.{Config}
 use Rattle.smith_tree.specs.Grammar.{Spells}
@@ -11,7 +10,6 @@ use Rattle.smith_script.specs.declared.error.ScriptError.{ScriptError}
 use Rattle.smith_script.specs.declared.error.ScriptError.TheVariants.{IllFormed, InconsistentLimits, NoScript, OutOfMemory, Unread}
 use Rattle.smith_c.specs.Limits.{limits_of}
 use Rattle.smith_c.specs.Scripts.{HasNoScript, Withholds, offset_of, status_of}
-use Rattle.smith_c.specs.Status.{no_offset}
 use Rattle.smith_c.specs.declared.limits.Limits.{Limits}
 
 module _ (limits : Limits) (bytes : List ℕ) (config : Config) (told : limits ≡ limits_of config) where
