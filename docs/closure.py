@@ -5,7 +5,7 @@ the imports of the definitions that they cite. It checks that the first three gr
 builder and no maker of types, except for the view itself, that these folders import nothing else, and that each definition that the
 contract cites is in a group. It prints which of them are left to a reader who leaves `must_validate` off, as by default: the laws of
 smith_marks say what the files of marks come to then. Then it prints what the clauses on runs and refusals add, which know the builder,
-and the files of the program whose types the definitions speak of. It exits with 1 where a check fails.
+and the files of the program whose types the definitions speak of. It exits with 1 if a check fails.
 
 Run it at the top of the repository: python3 docs/closure.py
 """
@@ -86,7 +86,7 @@ def print_files(title, files):
 
 
 def print_defaults():
-    """What is left where nothing is kept for a validator."""
+    """What is left if nothing is kept for a validator."""
     starts = [path for title, paths in HEADLINE[:2] for path in paths]
     left = closure(starts + [UNMARKED], MARKS)
     unread = closure([path for _, paths in HEADLINE for path in paths]) - left
