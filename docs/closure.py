@@ -4,7 +4,7 @@ It starts from the clauses of `generate` in crates/smith_component/src/generatio
 the imports of the definitions that they cite. It checks that the first three groups are in the specs/ folders of crates that have no
 builder and no maker of types, except for the view itself, that these folders import nothing else, and that each definition that the
 contract cites is in a group. It prints which of them are left to a reader who leaves `must_validate` off, as by default: the laws of
-smith_marks say what the files of marks come to then. Then it prints what the clauses on runs and refusals add, which know the builder,
+offers in smith_tree say what the files of marks come to then. Then it prints what the clauses on runs and refusals add, which know the builder,
 and the files of the program whose types the definitions speak of. It exits with 1 if a check fails.
 
 Run it at the top of the repository: python3 docs/closure.py
@@ -16,7 +16,7 @@ import sys
 
 CRATES = "crates"
 CONTRACT = "smith_component/src/generation.rt"
-BELOW_THE_MAKERS = {"smith_input", "smith_format", "smith_core", "smith_syntax", "smith_tree", "smith_validity", "smith_marks"}
+BELOW_THE_MAKERS = {"smith_input", "smith_format", "smith_core", "smith_syntax", "smith_tree"}
 VIEW = "smith_component/specs/Shown.antt"
 HEADLINE = [
     ("One reading, well formed, within the limits", ["smith_tree/specs/Generates.antt", VIEW]),
@@ -24,7 +24,7 @@ HEADLINE = [
         "Scripts, plans, and which components can be generated",
         ["smith_tree/specs/Script.antt", "smith_tree/specs/Readable.antt", "smith_input/specs/Reading.antt"],
     ),
-    ("What validates", ["smith_validity/specs/Validates.antt"]),
+    ("What validates", ["smith_tree/specs/Validates.antt"]),
 ]
 MARKS = {
     "smith_syntax/specs/Marked.antt",
@@ -35,7 +35,7 @@ MARKS = {
     "smith_tree/specs/Marking.antt",
     "smith_tree/specs/Offered.antt",
 }
-UNMARKED = "smith_marks/specs/Unmarked.antt"
+UNMARKED = "smith_tree/specs/Unmarked.antt"
 BUILDER = ("Runs and refusals", ["smith_component/specs/Runs.antt", "smith_component/specs/Refusals.antt"])
 IMPORT = re.compile(r"\s*(?:pub |ghost )?use Rattle\.(\w+)\.(specs|proofs)\.([\w.]+?)(?:\.\{.*| as .*)?;?$")
 
@@ -93,7 +93,7 @@ def print_defaults():
     print(f"By default, without must_validate: {sum(map(lines, left))} of these lines, without {sum(map(lines, unread))} of these files")
     for path in sorted(unread):
         print(f"  {lines(path):4} {path}")
-    print(f"and with {lines(UNMARKED)} {UNMARKED}, of which the laws of smith_marks speak")
+    print(f"and with {lines(UNMARKED)} {UNMARKED}, of which the laws of offers in smith_tree speak")
 
 
 def faults(files):

@@ -1,5 +1,5 @@
 /* bench PASSES LENGTH FILE [SECTIONS]: takes the file's bytes as inputs of that many bytes each, makes a component of each in
- * that many passes, and prints inputs a second, and bytes in and out. SECTIONS is finish_after, 0 where it is left out. */
+ * that many passes, and prints inputs a second, and bytes in and out. SECTIONS is finish_after, 0 if it is left out. */
 #include "measure.h"
 
 static struct Inputs inputs;

@@ -1,6 +1,6 @@
 /* calls PASSES LENGTH FILE [SECTIONS]: takes the file's bytes as inputs of that many bytes each, and calls generate, check
  * and script in that many passes over all of them. For each it prints how many components it does a second, and how many of
- * their bytes. SECTIONS is finish_after, 0 where it is left out. */
+ * their bytes. SECTIONS is finish_after, 0 if it is left out. */
 #include "measure.h"
 
 static struct Inputs inputs;

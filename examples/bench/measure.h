@@ -21,8 +21,8 @@ static double seconds(void) {
     return (double)now.tv_sec + (double)now.tv_nsec * 1e-9;
 }
 
-/* Reads PASSES LENGTH FILE [SECTIONS], the words after the program's name. Returns how many passes there are, or 0 where
- * the words are others. SECTIONS is finish_after, 0 where it is left out. */
+/* Reads PASSES LENGTH FILE [SECTIONS], the words after the program's name. Returns how many passes there are, or 0 if
+ * the words are others. SECTIONS is finish_after, 0 if it is left out. */
 static long read_words(int count, char **words, struct Inputs *inputs, LupinanonLimits *limits) {
     long passes;
     FILE *file;

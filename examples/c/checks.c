@@ -63,7 +63,7 @@ static int nothing_passes_the_room(void) {
     return 1;
 }
 
-/* The status of a call that is refused, or -1 where it counts or writes anything. */
+/* The status of a call that is refused, or -1 if it counts or writes anything. */
 static int32_t refusal(const LupinanonLimits *limits, const uint8_t *input, size_t input_len) {
     uint8_t output[ROOM];
     size_t len = 99, left = 99;
@@ -632,7 +632,7 @@ static const Entry entries[] = {
      0, 5},
 };
 
-/* The status of a call, or -1 where it is answered after a refusal, or other than the entry says. */
+/* The status of a call, or -1 if it is answered after a refusal, or other than the entry says. */
 static int32_t answer(const Entry *entry, const LupinanonLimits *limits) {
     uint8_t output[ROOM];
     size_t len = 99, left = 99;
@@ -757,7 +757,7 @@ static void set_no_flag(LupinanonLimits *limits) {
     BYTES(PREAMBLE, 0x07, 0x0c, 0x0b, 0x7f, 0x7f, 0x7f, 0x7f, 0x7f, 0x7f, 0x7f, 0x7f, 0x7f, 0x7f, 0x7f)
 
 /* The rows of crates/smith_rows with these names have the scripts. Eleven types differ from ten in the length of their
- * section, and where an import is missing no component is made. */
+ * section, and if an import is missing no component is made. */
 static const Scripted scripted[] = {
     {"nothing", set_default_limits, BYTES(PREAMBLE), SCRIPT(0x00)},
     {"one type", set_default_limits, BYTES(PREAMBLE, 0x07, 0x02, 0x01, 0x79),

@@ -60,7 +60,7 @@ static int is_written(const Bytes *bytes, const uint8_t output[ROOM], size_t len
     return len == bytes->len && (!len || !memcmp(output, bytes->at, len)) && is_untouched(output, len);
 }
 
-/* Whether what is written is as it is said, where there is room and where there is not, and, if its Nth
+/* Whether what is written is as it is said, with room and without it, and, if its Nth
  * allocation fails, out of memory. */
 static int is_right(const Smaller *it) {
     uint8_t output[ROOM];

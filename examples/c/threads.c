@@ -1,6 +1,6 @@
 /* Two threads make components at once, each in an output of its own, and produce the same bytes. Then the deepest
  * components are made and checked, and made again from their scripts, in a thread whose stack is as lupinanon.h says.
- * Built with -fsanitize=thread where the compiler has it. */
+ * Built with -fsanitize=thread if the compiler has it. */
 #include "lupinanon.h"
 #include <pthread.h>
 #include <stdio.h>
@@ -109,7 +109,7 @@ static int has_room(struct Deep *deep, size_t len) {
 }
 
 /* Types take 12 bytes before them, 3 each, and 4 more for the last; of 1000 deep, a length and a count have a byte
- * more. Components take 8 bytes for the root and 10 each, but 11 where the length passes 127: of all but the inner 12. */
+ * more. Components take 8 bytes for the root and 10 each, but 11 if the length passes 127: of all but the inner 12. */
 static int the_stack_is_enough(void) {
     static struct Deep deep[] = {{.depth = 10},         {.depth = 10},         {.depth = 10},
                                  {.depth = MOST_DEPTH}, {.depth = MOST_DEPTH}, {.depth = MOST_DEPTH}};

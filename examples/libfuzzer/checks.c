@@ -1,4 +1,4 @@
-/* What the target returns where it is out of memory or of room. To be linked with target.c and with
+/* What the target returns when it is out of memory or of room. To be linked with target.c and with
  * -Wl,--wrap=malloc,--wrap=realloc. */
 #include "lupinanon.h"
 #include <stdio.h>

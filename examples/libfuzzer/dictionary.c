@@ -1,5 +1,5 @@
 /* dictionary: prints words for inputs of the target, as libFuzzer and AFL++ read them. Each is what the input of a
- * component has more where there is one more section, or one more type, and is found by the scripts of both. */
+ * component has more if there is one more section, or one more type, and is found by the scripts of both. */
 #include "lupinanon.h"
 #include <stdio.h>
 #include <string.h>

@@ -1,6 +1,6 @@
 /* A custom mutator for libFuzzer and, with -DAFL, for AFL++: an input is read as the component that it produces, items of
  * it are removed, or it is joined with another, and the script of the outcome is the new input. Half of the inputs of
- * libFuzzer are mutated byte by byte, as without it, and so are those of which the outcome has no script within the
+ * libFuzzer are mutated byte by byte, as without it, and so are the ones whose outcome has no script within the
  * limits.
  *
  * For libFuzzer it is linked to the target; for AFL++ it is a shared library, which AFL_CUSTOM_MUTATOR_LIBRARY names. */
@@ -36,7 +36,7 @@ static int generated(Bytes *component, LupinanonLimits *limits, size_t *front, c
            LUPINANON_ANSWERED;
 }
 
-/* Writes the script of the component within the limits, and returns how long it is, or 0 where there is none or no room
+/* Writes the script of the component within the limits, and returns how long it is, or 0 if there is none or no room
  * for it. */
 static size_t write_script(const LupinanonLimits *limits, const Bytes *component, uint8_t *output, size_t room) {
     size_t len;
@@ -63,7 +63,7 @@ static void remove_items(Bytes *component, size_t count) {
     while (count--) remove_item(component);
 }
 
-/* Joins the component with another, where the outcome has room. */
+/* Joins the component with another, if the outcome has room. */
 static void join(Bytes *component, const Bytes *other) {
     static Bytes joined;
     if (lupinanon_join(component->at, component->len, other->at, other->len, joined.at, ROOM, &joined.len) ==
@@ -71,7 +71,7 @@ static void join(Bytes *component, const Bytes *other) {
         memcpy(component->at, joined.at, component->len = joined.len);
 }
 
-/* Writes an input of the component of the first input without some of its items, within the limits of that input; where
+/* Writes an input of the component of the first input without some of its items, within the limits of that input; if
  * there is a second one, some of the items of its component are joined to it. Returns how long the input is, or 0. */
 static size_t mix(const uint8_t *input, size_t len, const uint8_t *other, size_t other_len, uint8_t *output,
                   size_t room) {

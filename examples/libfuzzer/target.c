@@ -44,7 +44,7 @@ static void count_sections(const uint8_t *bytes, size_t len) {
     }
 }
 
-/* Returns -1, so that the input is not kept, where its component is too large for this target, or memory runs out. */
+/* Returns -1, so that the input is not kept, if its component is too large for this target, or memory runs out. */
 int LLVMFuzzerTestOneInput(const uint8_t *data, size_t size) {
     static uint8_t output[1 << 16];
     size_t len, left, front;

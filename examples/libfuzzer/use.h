@@ -1,4 +1,4 @@
-/* What is done with a component where USE names nothing else. An answer other than 0 is a finding. */
+/* What is done with a component if USE names nothing else. An answer other than 0 is a finding. */
 #include <stddef.h>
 #include <stdint.h>
 #include <string.h>

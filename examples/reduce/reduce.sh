@@ -4,7 +4,7 @@
 #     reduce.sh TEST FILE [OPTIONS]
 #
 # TEST is a command; the path of a component is put after it, and it must end with status 0 while the fault is there.
-# OPTIONS are those of `lupinanon smaller`: --limits, --limit or --any. LUPINANON names the program where it is not in PATH.
+# OPTIONS are as for `lupinanon smaller`: --limits, --limit or --any. LUPINANON names the program if it is not in PATH.
 # The smallest component that is found is FILE with `.min` before its ending; FILE is kept. It ends at a component of which
 # no single item can be removed or made simpler.
 set -u
@@ -76,7 +76,7 @@ step=0
 # A number that no step has.
 most=9223372036854775807
 echo "$(size "$file") bytes"
-# The steps before the last one that was taken come last, since those of a larger component have been tried.
+# The steps before the last one that was taken come last, since a larger component's have been tried.
 while finds_around "$@"; do :; done
 case $file in
 *.*) smallest=${file%.*}.min.${file##*.} ;;

@@ -1,42 +1,44 @@
-//! From a text of limits and a reader of a fuzzer's bytes to a writer of a component.
+//! From a table of limits and a reader of a fuzzer's bytes to a writer of a component.
 
 ghost use Rattle.std.specs.Prelude.{◌≡◌, ◌≢◌, IfOk, IfErr, IsErrOf};
+ghost use Rattle.toml.specs.View.{table_view};
 ghost use Rattle.smith_run.specs.Running.{GivesTooMuch};
 ghost use Rattle.lupinanon.specs.Converting.{IsOfLimits, IsWithinError, WritesWithin};
 
-use smith_limits::{TextFault, limits_of_text};
+use smith_limits::{Fault, limits_of};
 use smith_run::{Form, RunError};
 use std::alloc::Global;
 use std::io::{Read, Write};
+use toml::Table;
 
-/// Why no component is written within the limits that a text spells.
+/// Why no component is written within the limits that a table sets.
 #[derive(Debug, PartialEq, Eq, Drop)]
 pub enum WithinError {
-    /// The text spells no limits.
-    Limits(TextFault),
+    /// The table sets no limits.
+    Limits(Fault),
     /// The run within the limits fails.
     Run(RunError),
 }
 
-/// Reads the whole input, makes a component of it within the limits that the text spells, and writes it in the form, as
-/// `smith_run::convert` does. Returns how many bytes of the input are left. Where the text spells no limits, nothing is
+/// Reads the whole input, makes a component of it within the limits that the table sets, and writes it in the form, as
+/// `smith_run::convert` does. Returns how many bytes of the input are left. If the table sets no limits, nothing is
 /// read.
 pub fn convert_within<R: Read, W: Write>(
     alloc: Global,
-    text: &str,
+    table: &Table,
     reader: &mut R,
     writer: &mut W,
     form: Form,
 ) -> Result<usize, WithinError>
-    ensures written { IfOk result (WritesWithin text.now form (R.remaining reader.old) (R.remaining reader.new)
+    ensures written { IfOk result (WritesWithin (table_view table.now) form (R.remaining reader.old) (R.remaining reader.new)
         (W.contents writer.old) (W.contents writer.new)) }
-    ensures refused { IfErr result (IsWithinError text.now (R.remaining reader.old) (R.remaining reader.new)) }
+    ensures refused { IfErr result (IsWithinError (table_view table.now) (R.remaining reader.old) (R.remaining reader.new)) }
     ensures unread { IfErr result (λ e. IsOfLimits e → reader.new ≡ reader.old) }
     ensures unwritten { IfErr result (λ e. e ≢ WithinError.Run RunError.WriteFault → writer.new ≡ writer.old) }
     ensures too_long { IsErrOf result (WithinError.Run RunError.InputTooLong)
         → GivesTooMuch (R.remaining reader.old) (R.remaining reader.new) }
 {
-    let config = match limits_of_text(alloc, text) {
+    let config = match limits_of(alloc, table) {
         Ok(config) => config,
         Err(fault) => return Err(WithinError::Limits(fault)),
     };

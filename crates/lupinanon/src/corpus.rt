@@ -92,9 +92,8 @@ fn write_script(
             Ok(1)
         }
         Err(ScriptError::OutOfMemory) => Err(refuse(rt, Some(path), &"out of memory", REFUSED)),
-        // `check` says where.
-        Err(ScriptError::IllFormed(_)) => {
-            let _status = refuse_ill_formed(rt, Some(path), &bytes);
+        Err(ScriptError::IllFormed(fault)) => {
+            let _status = refuse_ill_formed(rt, Some(path), &bytes, &fault);
             Ok(0)
         }
         Err(error) => {

@@ -42,12 +42,12 @@ pub struct StatsOptions<'a> {
 }
 
 const AFTER_CORPUS: &str =
-    "Inputs are named by their numbers from 0, or as the components that they are of. No file is overwritten.
+    "Inputs are named by their numbers from 0, or after their components. No file is overwritten.
 
 Status:
   0  the inputs are written
   1  no input is found within the limits, or memory runs out
-  2  bad arguments, limits that are refused, or a failed read or write, as of a file that is there already";
+  2  bad arguments, limits that are refused, or a failed read or write, such as of a file that is already there";
 
 const AFTER_STATS: &str =
     "A shape is a sort of thing together with what it is in, such as u32 in records.
@@ -70,7 +70,7 @@ fn with_draw<'a>(alloc: Global, command: Command<'a>) -> Result<Command<'a>, All
         .long("bytes")
         .value_name("N")
         .value_parser(value_parser!(usize).range(..=1_048_576))
-        .help("How many bytes each has, those of its limits among them [default: 1024]");
+        .help("How many bytes each has, including its limits [default: 1024]");
     let seed = Arg::new(alloc, "seed")
         .long("seed")
         .value_name("SEED")
@@ -89,7 +89,7 @@ fn with_draw<'a>(alloc: Global, command: Command<'a>) -> Result<Command<'a>, All
 /// The command that writes inputs into a folder.
 pub fn corpus_command<'a>(alloc: Global) -> Result<Command<'a>, AllocError> {
     let plain = Command::new(alloc, "corpus")
-        .about("Write inputs into a folder of which each is read to its end")
+        .about("Write inputs that are read to their ends into a folder")
         .after_help(AFTER_CORPUS);
     let from = Arg::new(alloc, "from")
         .long("from")
@@ -104,7 +104,7 @@ pub fn corpus_command<'a>(alloc: Global) -> Result<Command<'a>, AllocError> {
         .short('o')
         .long("output")
         .value_name("OUT")
-        .help("The folder where they go, which is made where it is missing")
+        .help("The folder where they go, which is made if it is missing")
         .required(true);
     with_limits(alloc, with_draw(alloc, plain)?.arg(from)?.arg(output)?)
 }

@@ -36,7 +36,7 @@ pub fn components_in(rt: &HostRuntime, folder: &str) -> Result<Vec<String>, Exit
     }
 }
 
-/// Makes a folder where there is none, or returns the status after a message.
+/// Makes a folder if there is none, or returns the status after a message.
 pub fn make_folder(rt: &HostRuntime, folder: &str) -> Result<(), ExitCode> {
     match fs::create_dir_all(rt, folder) {
         Ok(()) => Ok(()),
@@ -62,7 +62,7 @@ pub fn path_in<N: fmt::Display + Drop>(
     }
 }
 
-/// Writes a file where there is none, or returns the status after a message.
+/// Writes a file if there is none, or returns the status after a message.
 pub fn write_new(rt: &HostRuntime, path: &str, bytes: &[u8]) -> Result<(), ExitCode> {
     match create_with(rt, path, bytes) {
         Ok(()) => Ok(()),

@@ -3,7 +3,7 @@
 use crate::FAULT;
 use crate::converting::{WithinError, convert_within};
 use crate::limits_fault::print_limits_fault;
-use crate::limits_file::{LimitsText, config_of, refuses_both, text_of};
+use crate::limits_file::{LimitsTable, config_of, refuses_both, table_of};
 use crate::options::Options;
 use crate::places::{STANDARD_INPUT, STANDARD_OUTPUT, Sink, Source, print_fault, refuses_terminal};
 use smith_run::{LONGEST_INPUT, RunError, convert_swarm};
@@ -42,7 +42,7 @@ fn opened(rt: &HostRuntime, options: &Options<'_>) -> Result<Source, ExitCode> {
     }
 }
 
-// The status of a run that leaves that many bytes, which are printed where that is asked for.
+// The status of a run that leaves that many bytes, which are printed if that is asked for.
 fn status_of_success(rt: &HostRuntime, options: &Options<'_>, left: usize) -> ExitCode {
     if options.prints_left {
         let _ = eprintln!(rt; "left {left}");
@@ -50,24 +50,24 @@ fn status_of_success(rt: &HostRuntime, options: &Options<'_>, left: usize) -> Ex
     ExitCode::SUCCESS
 }
 
-// Makes the component within the limits that the text spells.
+// Makes the component within the limits that the table sets.
 fn generate_within(
     rt: &HostRuntime,
     options: &Options<'_>,
-    text: &LimitsText,
+    limits: &LimitsTable,
 ) -> Result<ExitCode, ExitCode> {
     let mut source = opened(rt, options)?;
     let mut sink = Sink::new(rt, options.output);
     match convert_within(
         rt.alloc(),
-        text.whole(),
+        &limits.table,
         &mut source,
         &mut sink,
         options.form,
     ) {
         Ok(left) => Ok(status_of_success(rt, options, left)),
         Err(WithinError::Limits(fault)) => {
-            print_limits_fault(rt, &options.limits, &text.in_file, &fault);
+            print_limits_fault(rt, &options.limits, &limits.in_file, &fault);
             Err(ExitCode::from(FAULT))
         }
         Err(WithinError::Run(error)) => Err(status_of_run(rt, options, error, &source, &sink)),
@@ -89,8 +89,8 @@ fn generated(rt: &HostRuntime, options: &Options<'_>) -> Result<ExitCode, ExitCo
     if options.is_swarm {
         return generate_swarm(rt, options);
     }
-    let text = text_of(rt, &options.limits)?;
-    generate_within(rt, options, &text)
+    let limits = table_of(rt, &options.limits)?;
+    generate_within(rt, options, &limits)
 }
 
 /// Makes the component that is asked for.

@@ -3,14 +3,16 @@
 use crate::FAULT;
 use crate::places::{STANDARD_INPUT, Source, print_fault, status_of_print};
 use crate::show::Shown;
+use smith_places::offset_of;
 use smith_read::{ComponentTree, read};
+use smith_script::Fault;
 use smith_verdict::{Validity, Verdict, check as check_bytes, validate};
 use std::fmt;
 use std::io::{self, Read};
 use std::process::ExitCode;
 
 /// What bytes that are not a component end with, and a run that is out of memory; of `check`, a component that is not
-/// well formed, or does not validate where that is asked.
+/// well formed, or does not validate if that is asked.
 pub const REFUSED: u8 = 1;
 
 /// What `check` and `smaller` end with if the bytes are not in the grammar.
@@ -74,9 +76,16 @@ fn report(rt: &HostRuntime, path: Option<&str>, verdict: &Verdict) -> ExitCode {
 }
 
 /// Prints which rule a component breaks, and where, and returns the status.
-pub fn refuse_ill_formed(rt: &HostRuntime, path: Option<&str>, bytes: &[u8]) -> ExitCode {
-    match check_bytes(rt.alloc(), bytes) {
-        Ok(verdict) => refuse(rt, path, &verdict, REFUSED),
+pub fn refuse_ill_formed(
+    rt: &HostRuntime,
+    path: Option<&str>,
+    bytes: &[u8],
+    fault: &Fault,
+) -> ExitCode {
+    let rule = fault.rule;
+    let place = &fault.place;
+    match offset_of(rt.alloc(), bytes, &place.sections, place.entry) {
+        Ok(offset) => refuse(rt, path, &Verdict::IllFormed { rule, offset }, REFUSED),
         Err(_) => refuse(rt, path, &"out of memory", REFUSED),
     }
 }

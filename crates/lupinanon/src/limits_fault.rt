@@ -2,7 +2,7 @@
 
 use crate::options::{Limits, named};
 use crate::places::STANDARD_INPUT;
-use smith_limits::{Fault, TextFault};
+use smith_limits::Fault;
 use toml::de::Error;
 
 /// The line of a text, from 1, at which its first expression with a key begins: a line that begins with the key,
@@ -50,7 +50,7 @@ fn setting_of_fault<'a>(settings: &[&'a str], fault: &Fault) -> Option<&'a str> 
     last
 }
 
-/// What the limits are called in a message: their file, where there is one.
+/// What the limits are called in a message: their file, if there is one.
 pub fn name_of<'a>(limits: &Limits<'a>) -> &'a str {
     match limits.file {
         Some(path) => named(path).unwrap_or(STANDARD_INPUT),
@@ -64,8 +64,8 @@ pub fn print_not_toml(rt: &HostRuntime, name: &str, error: &Error) {
     let _ = eprint!(rt; "lupinanon: {name}: {error}");
 }
 
-// Prints what is wrong with a limit, and the setting or the line that has it, where one is known.
-fn print_fault_at(rt: &HostRuntime, limits: &Limits<'_>, text: &str, fault: &Fault) {
+/// Prints what is wrong with a limit, and the setting, or the line of the file's text, that has it, if one is known.
+pub fn print_limits_fault(rt: &HostRuntime, limits: &Limits<'_>, text: &str, fault: &Fault) {
     if let Some(setting) = setting_of_fault(&limits.settings, fault) {
         let _ = eprintln!(rt; "lupinanon: --limit {setting}: {fault}");
         return;
@@ -75,16 +75,4 @@ fn print_fault_at(rt: &HostRuntime, limits: &Limits<'_>, text: &str, fault: &Fau
         Some(line) => eprintln!(rt; "lupinanon: {name}: line {line}: {fault}"),
         None => eprintln!(rt; "lupinanon: {name}: {fault}"),
     };
-}
-
-/// Prints why limits are refused. The text is that of their file.
-pub fn print_limits_fault(rt: &HostRuntime, limits: &Limits<'_>, text: &str, fault: &TextFault) {
-    match fault {
-        TextFault::NotToml(error) => print_not_toml(rt, name_of(limits), error),
-        TextFault::Limits(wrong) => print_fault_at(rt, limits, text, wrong),
-        TextFault::OutOfMemory => {
-            let name = name_of(limits);
-            let _ = eprintln!(rt; "lupinanon: {name}: {fault}");
-        }
-    }
 }

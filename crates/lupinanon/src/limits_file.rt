@@ -5,28 +5,18 @@ use crate::options::{Limits, named};
 use crate::places::{STANDARD_INPUT, Source, print_fault};
 use crate::{FAULT, print_error};
 use smith_component::Config;
-use smith_limits::limits_of_text;
+use smith_limits::limits_of;
 use std::io;
 use std::process::ExitCode;
 use toml::Table;
 
-/// Limits as texts of TOML.
+/// Limits as a table of TOML, and the text of their file.
 #[derive(Drop)]
-pub struct LimitsText {
-    /// The text of the file, which is empty where there is none.
+pub struct LimitsTable {
+    /// The text of the file, which is empty if there is none.
     pub in_file: String,
-    // The same limits with the settings over them, where there are some.
-    with_settings: Option<String>,
-}
-
-impl LimitsText {
-    /// The text that spells the limits.
-    pub fn whole(&self) -> &str {
-        match &self.with_settings {
-            Some(text) => text,
-            None => &self.in_file,
-        }
-    }
+    /// The table of the file, with the settings over it.
+    pub table: Table,
 }
 
 fn read_file(rt: &HostRuntime, path: Option<&str>) -> io::Result<String> {
@@ -62,7 +52,7 @@ fn table_of_setting(rt: &HostRuntime, setting: &str) -> Result<Table, ExitCode> 
     Err(ExitCode::from(FAULT))
 }
 
-// The table of a text with those of the settings over it.
+// The table of a text with the settings' tables over it.
 fn table_with_settings(
     rt: &HostRuntime,
     table: Table,
@@ -78,52 +68,35 @@ fn table_with_settings(
     Ok(table)
 }
 
-// The text of the limits of a file with the settings over them, or the status after a message.
-fn text_with_settings(
-    rt: &HostRuntime,
-    limits: &Limits<'_>,
-    in_file: &str,
-) -> Result<String, ExitCode> {
-    let table = match toml::table_from_str(rt.alloc(), in_file) {
-        Ok(table) => table_with_settings(rt, table, &limits.settings)?,
+/// The table of the limits, or the status after a message.
+pub fn table_of(rt: &HostRuntime, limits: &Limits<'_>) -> Result<LimitsTable, ExitCode> {
+    let in_file = text_in_file(rt, limits.file)?;
+    match toml::table_from_str(rt.alloc(), &in_file) {
+        Ok(table) => {
+            let table = table_with_settings(rt, table, &limits.settings)?;
+            Ok(LimitsTable { in_file, table })
+        }
+        Err(error) if error.is_memory() => Err(print_error(rt, "out of memory")),
         Err(error) => {
             print_not_toml(rt, name_of(limits), &error);
-            return Err(ExitCode::from(FAULT));
-        }
-    };
-    match toml::table_to_string(rt.alloc(), &table) {
-        Ok(text) => Ok(text),
-        Err(_) => Err(print_error(rt, "out of memory")),
-    }
-}
-
-/// The texts of the limits, or the status after a message.
-pub fn text_of(rt: &HostRuntime, limits: &Limits<'_>) -> Result<LimitsText, ExitCode> {
-    let in_file = text_in_file(rt, limits.file)?;
-    let with_settings = if limits.settings.is_empty() {
-        None
-    } else {
-        Some(text_with_settings(rt, limits, &in_file)?)
-    };
-    Ok(LimitsText {
-        in_file,
-        with_settings,
-    })
-}
-
-/// The limits, or the status after a message.
-pub fn config_of(rt: &HostRuntime, limits: &Limits<'_>) -> Result<Config, ExitCode> {
-    let text = text_of(rt, limits)?;
-    match limits_of_text(rt.alloc(), text.whole()) {
-        Ok(config) => Ok(config),
-        Err(fault) => {
-            print_limits_fault(rt, limits, &text.in_file, &fault);
             Err(ExitCode::from(FAULT))
         }
     }
 }
 
-/// Says so where the limits are from standard input, and what is called `other` too, whose file is absent then.
+/// The limits, or the status after a message.
+pub fn config_of(rt: &HostRuntime, limits: &Limits<'_>) -> Result<Config, ExitCode> {
+    let set = table_of(rt, limits)?;
+    match limits_of(rt.alloc(), &set.table) {
+        Ok(config) => Ok(config),
+        Err(fault) => {
+            print_limits_fault(rt, limits, &set.in_file, &fault);
+            Err(ExitCode::from(FAULT))
+        }
+    }
+}
+
+/// Says so if the limits are from standard input, and what is called `other` too, whose file is absent then.
 pub fn refuses_both(
     rt: &HostRuntime,
     limits: &Limits<'_>,

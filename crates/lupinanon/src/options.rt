@@ -15,7 +15,7 @@ pub enum Task<'a> {
     PrintLimits,
     /// Make a component.
     Generate(Options<'a>),
-    /// Say whether a file is a well-formed component; standard input where it is absent.
+    /// Say whether a file is a well-formed component; standard input if it is absent.
     Check(Option<&'a str>),
     /// The same, and whether a validator accepts it.
     Validate(Option<&'a str>),
@@ -31,7 +31,7 @@ pub enum Task<'a> {
     Stats(StatsOptions<'a>),
 }
 
-/// Where limits are from: those of the file, or the default ones where there is none, and settings over them.
+/// Where limits are from: the file's, or the default ones if there is none, and settings over them.
 #[derive(Drop)]
 pub struct Limits<'a> {
     /// `-` is standard input.
@@ -74,7 +74,7 @@ pub struct ScriptOptions<'a> {
 /// Which smaller component is written.
 #[derive(Clone, Copy)]
 pub enum Choice {
-    /// That of this number, from 0, among those that are wanted.
+    /// The one with this number, from 0, among the wanted ones.
     Numbered(usize),
     /// The first one that is wanted from this step on. The number of its step is printed.
     From(usize),
@@ -87,7 +87,7 @@ pub struct SmallerOptions<'a> {
     pub choice: Choice,
     pub output: Option<&'a str>,
     pub limits: Limits<'a>,
-    /// Whether each that is well formed is wanted, regardless of the limits.
+    /// Whether each that is well formed is wanted, whatever the limits.
     pub is_any: bool,
 }
 
@@ -122,8 +122,8 @@ const AFTER_SCRIPT: &str = "Status:
   2  bad arguments, limits that are refused, or a failed read or write";
 
 const AFTER_SMALLER: &str =
-    "The smaller components are, in this order: those without one item, with all that refers to it, and
-those in which one item is simpler. They are counted from 0. So are the steps to them, of which some
+    "The smaller components are, in this order: the ones without one item and all that refers to it, and
+the ones with one item made simpler. They are counted from 0. So are the steps to them, some of which
 lead to none.
 
 Status:
@@ -140,13 +140,13 @@ pub fn with_limits<'a>(alloc: Global, command: Command<'a>) -> Result<Command<'a
         .long("limits")
         .value_name("FILE")
         .help(
-            "Limits in TOML; - is standard input. Those left out are as `lupinanon limits` prints",
+            "Limits in TOML; - is standard input. The rest are as `lupinanon limits` prints them",
         );
     let limit = Arg::new(alloc, "limit")
         .long("limit")
         .value_name("KEY=VALUE")
         .action(ArgAction::Append)
-        .help("One limit, over those of --limits, such as max_types=10; can be repeated");
+        .help("One limit, such as max_types=10, over --limits; can be repeated");
     command.arg(limits)?.arg(limit)
 }
 
@@ -182,7 +182,7 @@ fn generate_command<'a>(alloc: Global) -> Result<Command<'a>, AllocError> {
         .arg(input)?;
     let output =
         "Where the component goes; - is standard output [default: -, unless it is a terminal]";
-    let swarm = "Take limits from the first bytes of the input, over those that are given";
+    let swarm = "Take limits from the first bytes of the input, over the given ones";
     let hex = "Write the bytes as hexadecimal digits, and how many bytes are left";
     let left = "Print on standard error how many bytes of the input are left";
     with_files(alloc, plain, output)?
@@ -229,7 +229,7 @@ fn smaller_command<'a>(alloc: Global) -> Result<Command<'a>, AllocError> {
         .long("number")
         .value_name("K")
         .value_parser(value_parser!(usize))
-        .help("Which one of those that can be generated within the limits, from 0")
+        .help("Which of the components that can be generated within the limits, from 0")
         .required_unless_present("from")?;
     let from = Arg::new(alloc, "from")
         .long("from")
@@ -242,7 +242,7 @@ fn smaller_command<'a>(alloc: Global) -> Result<Command<'a>, AllocError> {
     let any = switch(
         alloc,
         "any",
-        "Count each that is well formed, whatever the limits",
+        "Count each well-formed component, whatever the limits",
     );
     let output =
         "Where the component goes; - is standard output [default: -, unless it is a terminal]";

@@ -8,10 +8,10 @@ use std::fs::File;
 use std::io::{self, IsTerminal, Read, Stdin, Stdout, Write};
 use std::process::ExitCode;
 
-/// What the input is called where it is not a file.
+/// What the input is called if it is not a file.
 pub const STANDARD_INPUT: &str = "standard input";
 
-/// What the output is called where it is not a file.
+/// What the output is called if it is not a file.
 pub const STANDARD_OUTPUT: &str = "standard output";
 
 /// Standard input, or a file.
@@ -29,7 +29,7 @@ pub struct Source {
 }
 
 impl Source {
-    /// Opens the file, or standard input where there is none.
+    /// Opens the file, or standard input if there is none.
     pub fn open(rt: &HostRuntime, path: Option<&str>) -> io::Result<Source> {
         let opened = match path {
             None => Opened::Standard(rt.stdin()),
@@ -80,7 +80,7 @@ pub struct Sink<'a> {
 }
 
 impl<'a> Sink<'a> {
-    /// The file of this path, which is not made yet, or standard output where there is none.
+    /// The file of this path, which is not made yet, or standard output if there is none.
     pub fn new(rt: &'a HostRuntime, path: Option<&'a str>) -> Sink<'a> {
         let made = match path {
             None => Made::Standard(rt.stdout()),
@@ -172,7 +172,7 @@ pub fn is_terminal(rt: &HostRuntime, path: Option<&str>) -> bool {
     path.is_none() && rt.stdout().is_terminal()
 }
 
-/// Says so where raw bytes would go to a terminal.
+/// Says so if raw bytes would go to a terminal.
 pub fn refuses_terminal(rt: &HostRuntime, path: Option<&str>, form: Form) -> bool {
     if is_terminal(rt, path) && form == Form::Raw {
         let _status = print_error(rt, "standard output is a terminal: use --output or --hex");

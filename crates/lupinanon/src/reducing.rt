@@ -63,7 +63,7 @@ fn write_next(
     }
 }
 
-// Writes the one of those that are wanted.
+// Writes the chosen one of the wanted components.
 fn write_smaller(rt: &HostRuntime, options: &SmallerOptions<'_>, wanted: Wanted<'_>) -> ExitCode {
     let bytes = match bytes_in(rt, options.component) {
         Ok(bytes) => bytes,

@@ -34,7 +34,7 @@ fn script_text(
     }
 }
 
-/// Writes bytes to the file, or to standard output where there is none, and returns the status.
+/// Writes bytes to the file, or to standard output if there is none, and returns the status.
 pub fn write_bytes(rt: &HostRuntime, path: Option<&str>, bytes: &[u8]) -> ExitCode {
     let mut sink = Sink::new(rt, path);
     if sink.write_all(bytes).is_err() || sink.flush().is_err() {
@@ -52,8 +52,9 @@ fn script_within(rt: &HostRuntime, options: &ScriptOptions<'_>, config: &Config)
     };
     match script_text(rt.alloc(), config, &bytes, options.form) {
         Ok(text) => write_bytes(rt, options.output, &text),
-        // `check` says where.
-        Err(ScriptError::IllFormed(_)) => refuse_ill_formed(rt, options.component, &bytes),
+        Err(ScriptError::IllFormed(fault)) => {
+            refuse_ill_formed(rt, options.component, &bytes, &fault)
+        }
         Err(error) => refuse(rt, options.component, &error, status_of(&error)),
     }
 }

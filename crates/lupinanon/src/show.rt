@@ -1,5 +1,5 @@
 //! A component as a text for people: a line for each section and for each entry, with its offset, and with its index in
-//! its index space where it has one.
+//! its index space if it has one.
 
 mod core_types;
 mod lengths;
@@ -7,11 +7,11 @@ mod types;
 mod walk;
 
 use core_types::show_core_type;
-use lengths::{extern_len, indexes_len};
+use lengths::extern_len;
 use smith_core::COMPONENT_PREAMBLE;
-use smith_format::{count_len, raw_len, text_len};
+use smith_format::{Spelled, count_len, raw_len};
 use smith_read::{
-    CanonNode, ComponentTree, CoreNode, ExportNode, ImportNode, MOST_DEPTH, PartNode, TypeNode,
+    ComponentTree, CoreNode, Export, Func, ImportNode, MOST_DEPTH, PartNode, TypeNode,
 };
 use smith_syntax::ComponentTypeRef;
 use std::fmt;
@@ -83,14 +83,12 @@ impl Entry for ImportNode {
     }
 }
 
-impl Entry for ExportNode {
+impl Entry for Export {
     fn show<W: fmt::Write>(&self, f: &mut fmt::Formatter<W>, walk: &mut Walk) -> fmt::Result {
-        // 00 precedes the name, 01 the index, and 00 follows it.
-        walk.pass(text_len(&self.name));
-        walk.pass(indexes_len(3, &[self.func]));
+        walk.pass(self.spelled_len());
         let index = next(&mut walk.spaces.functions);
         let name = self.name.as_str();
-        let func = self.func;
+        let func = self.func_index;
         writeln!(
             f,
             "export {name:?}: function {index}, which is function {func}"
@@ -98,21 +96,23 @@ impl Entry for ExportNode {
     }
 }
 
-impl Entry for CanonNode {
+impl Entry for Func {
     fn show<W: fmt::Write>(&self, f: &mut fmt::Formatter<W>, walk: &mut Walk) -> fmt::Result {
+        walk.pass(self.spelled_len());
         match self {
-            CanonNode::Lift { core_func, ty } => {
-                walk.pass(indexes_len(3, &[*core_func, *ty]));
+            Func::CanonLift {
+                func_ty,
+                core_func_index,
+            } => {
                 let index = next(&mut walk.spaces.functions);
                 writeln!(
                     f,
-                    "function {index}: lift of core function {core_func} to type {ty}"
+                    "function {index}: lift of core function {core_func_index} to type {func_ty}"
                 )
             }
-            CanonNode::Lower { func } => {
-                walk.pass(indexes_len(3, &[*func]));
+            Func::CanonLower { func_index } => {
                 let index = next(&mut walk.spaces.core_functions);
-                writeln!(f, "core function {index}: lower of function {func}")
+                writeln!(f, "core function {index}: lower of function {func_index}")
             }
         }
     }
@@ -144,10 +144,10 @@ fn show_section<W: fmt::Write>(
     part: &PartNode,
 ) -> fmt::Result {
     match part {
-        PartNode::Custom { name, contents } => {
-            walk.pass(text_len(name));
-            walk.pass(raw_len(contents));
-            let count = contents.len();
+        PartNode::Custom(section) => {
+            walk.pass(section.spelled_len());
+            let name = section.name.as_str();
+            let count = section.bytes.len();
             writeln!(f, "custom {name:?} of {count} bytes")
         }
         PartNode::CoreModule(bytes) => {

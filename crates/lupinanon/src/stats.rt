@@ -8,7 +8,7 @@ use smith_read::{ReadError, read};
 use smith_stats::{Json, Tally};
 use std::process::ExitCode;
 
-// Adds what is in a file, or names what is wrong with it. Returns the status after a message where it stops.
+// Adds what is in a file, or names what is wrong with it. Returns the status after a message if it stops.
 fn add_file(rt: &HostRuntime, tally: &mut Tally, path: &str) -> Result<(), ExitCode> {
     let bytes = bytes_in(rt, Some(path))?;
     match read(rt.alloc(), &bytes) {

@@ -4,7 +4,7 @@
 #include <string.h>
 
 /* The proved functions. No pointer is NULL, no memory that is written overlaps any other that is passed, and no length
- * is more than PTRDIFF_MAX. Their limits are those of a whole LupinanonLimits, without the size before them. */
+ * is more than PTRDIFF_MAX. Their limits are a whole LupinanonLimits without the size before them. */
 void lupinanon_proved_default_limits(void *limits);
 int32_t lupinanon_proved_swarm_limits(void *limits, const uint8_t *input, size_t input_len, size_t *taken);
 int32_t lupinanon_proved_generate_into(const void *limits, const uint8_t *input, size_t input_len, uint8_t *output,
@@ -98,7 +98,7 @@ static int is_limits_size(size_t size) {
     return 0;
 }
 
-/* As many bytes as the limits say, or memory that is not there where no limits have that size. */
+/* As many bytes as the limits say, or memory that is not there if no limits have that size. */
 static Memory memory_of_limits(const LupinanonLimits *limits) {
     Memory it = {limits, limits->size}, none = {NULL, 1};
     return is_limits_size(it.len) ? it : none;
@@ -128,8 +128,8 @@ static int complete(LupinanonLimits *limits, Memory given) {
     return is_zero((const uint8_t *)given.at + known, given.len - known);
 }
 
-/* The limits to pass on: the caller's own where they are whole, so that nothing is copied then, and else those in the
- * room. NULL where they, what else is read or what is written, an output and numbers, may not be passed on. */
+/* The limits to pass on: the caller's own if they are whole, so that nothing is copied then, and else the ones in the
+ * room. NULL if they, what else is read or what is written, an output and numbers, may not be passed on. */
 static const LupinanonLimits *good_limits(LupinanonLimits *room, const LupinanonLimits *limits, Memory input,
                                           const Memory *written, size_t written_count) {
     Memory read[2];

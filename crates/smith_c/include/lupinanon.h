@@ -1,6 +1,6 @@
 /* WebAssembly components from a fuzzer's bytes.
  *
- * Eleven functions are proved: those that lupinanon_default_limits, lupinanon_swarm_limits, lupinanon_generate_into,
+ * Eleven functions are proved: the ones that lupinanon_default_limits, lupinanon_swarm_limits, lupinanon_generate_into,
  * lupinanon_check, lupinanon_script_into, lupinanon_smaller, lupinanon_next_smaller, lupinanon_without and
  * lupinanon_join call after a check of their arguments. That check, and all else, is the plain C of lupinanon.c.
  *
@@ -13,7 +13,7 @@
  *  - No call is made from a signal handler, or in the forked child of a process with threads.
  *  - The stack has room for LUPINANON_STACK, which is measured and not proved.
  *
- * The library keeps no state, so calls in several threads at once are fine where each has its own output.
+ * The library keeps no state, so calls in several threads at once are fine if each has its own output.
  * It is built for 64 bits.
  */
 #ifndef LUPINANON_H
@@ -32,7 +32,7 @@ extern "C" {
 #define LUPINANON_VERSION_NUMBER 100 /* 10000 * major + 100 * minor + patch */
 
 /* The limits of what is made. A minimum is met by every component of the tree, and components nest at most 1000 deep. A
- * feature is on where it is 1, and off where it is 0. lupinanon_default_limits writes the values in brackets.
+ * feature is on if it is 1, and off if it is 0. lupinanon_default_limits writes the values in brackets.
  *
  * Later versions may add limits at the end, or in place of reserved bytes. A program that is built with the header of
  * one version may be linked with the library of another: a limit that only the library has is at its default, and one
@@ -42,10 +42,9 @@ typedef struct LupinanonLimits {
     size_t size;
     /* The fewest types of a component. They can always be added. [0] */
     size_t min_types;
-    /* The fewest imports of a component. Where they can not be added, it is refused with
-     * LUPINANON_MINIMUM_NOT_MET. [0] */
+    /* The fewest imports of a component. If they cannot be added, it is refused with LUPINANON_MINIMUM_NOT_MET. [0] */
     size_t min_imports;
-    /* The fewest functions of a component: imported ones, lifts and lowers together. Where they can not be added, it is
+    /* The fewest functions of a component: imported ones, lifts and lowers together. If they cannot be added, it is
      * refused with LUPINANON_MINIMUM_NOT_MET. [0] */
     size_t min_funcs;
     /* The fewest memories of a core module. [0] */
@@ -64,7 +63,7 @@ typedef struct LupinanonLimits {
     size_t max_tables;
     /* The most tags that a module type imports and exports. [100] */
     size_t max_tags;
-    /* The most memories of a core module, and those that a module type imports and exports. [1] */
+    /* The most memories of a core module, and the most that a module type imports and exports. [1] */
     size_t max_memories;
     /* The most core modules of the whole tree, embedded and imported. [10] */
     size_t max_modules;
@@ -74,7 +73,7 @@ typedef struct LupinanonLimits {
     size_t max_instances;
     /* How deep components nest, the root at 1. A limit of 0 counts as 1. [10] */
     size_t max_nesting_depth;
-    /* The fuel of a type: its members and declarations at all depths are at most so many. [1000] */
+    /* The fuel of a type: the most members and declarations that it has at all depths. [1000] */
     uint32_t max_type_size;
     /* Whether a core function may have several results. [1] */
     uint8_t multi_value_enabled;
@@ -93,8 +92,8 @@ typedef struct LupinanonLimits {
     uint8_t must_validate;
     /* Reserved, and 0. */
     uint8_t reserved[5];
-    /* How many sections a component has at least when the input finishes it. Where no input is left, it is finished
-     * whatever it has. [0] */
+    /* The fewest sections that a component has when the input finishes it. If no input is left, it is finished whatever
+     * it has. [0] */
     size_t finish_after;
 } LupinanonLimits;
 
@@ -113,7 +112,7 @@ enum LupinanonStatus {
     LUPINANON_BAD_FLAG = 8,            /* a feature is neither 0 nor 1 */
     LUPINANON_BAD_ARGUMENT = 9,        /* NULL where there has to be memory, a length of half the memory or more, memory
                                         * to write that overlaps what else is passed, limits of a wrong size, or limits
-                                        * with anything but 0 where the library has none */
+                                        * with anything but 0 where the library has no limit */
     LUPINANON_ILL_FORMED = 10,         /* the bytes are a component that is not well formed */
     LUPINANON_UNREAD = 11,             /* the bytes are no component, or it nests too deep */
     LUPINANON_NO_SCRIPT = 12,          /* the bytes are a component that is well formed, but no input produces it
@@ -126,10 +125,10 @@ enum LupinanonStatus {
  * the limits. At 1000, the greatest depth, that is 2 MiB. */
 #define LUPINANON_STACK(max_nesting_depth) (49152 + 2048 * (size_t)(max_nesting_depth))
 
-/* What lupinanon_check and lupinanon_script_into write where they know no offset. */
+/* What lupinanon_check and lupinanon_script_into write if they know no offset. */
 #define LUPINANON_NO_OFFSET SIZE_MAX
 
-/* LUPINANON_VERSION of the library, which is another than that of this header where the two do not belong together. */
+/* LUPINANON_VERSION of the library, which differs from this header's if the two do not belong together. */
 const char *lupinanon_version(void);
 
 /* A status in words, as "out of memory"; "unknown status" of any other number. Neither string is ever freed. */
@@ -143,21 +142,21 @@ const char *lupinanon_status_name(int32_t status);
  * after 4096 bytes. Nothing is written. */
 int32_t lupinanon_default_limits(LupinanonLimits *limits, size_t size);
 
-/* Replaces limits by those that the first bytes of the input say, so that one run tries many limits (swarm testing).
- * Twenty limits are said by one byte each, in this order, and a byte after the end of the input counts as 0:
+/* Replaces limits by the ones that the first bytes of the input say, so that one run tries many limits (swarm testing).
+ * Twenty limits take one byte each, in this order, and a byte after the end of the input counts as 0:
  *  - max_types, max_imports, max_funcs, max_exports, max_globals, max_tables, max_tags: that byte,
  *  - max_memories modulo 16; max_modules, max_components and max_instances modulo 32; max_nesting_depth modulo 16;
  *    max_type_size: that byte,
  *  - multi_value_enabled, exceptions_enabled, reference_types_enabled, simd_enabled, allow_floats and
  *    bulk_memory_enabled modulo 2; finish_after modulo 16.
- * The minima and must_validate stay as they are, so that the limits may no longer fit together. Of limits by an older
- * header those that it does not have are dropped.
+ * The minima and must_validate stay as they are, so that the limits may no longer fit together. Limits that an older
+ * header does not have are dropped.
  *
  * LUPINANON_ANSWERED: the limits are written, and *taken bytes of the input are theirs: 20, or all of a shorter one. What
  * follows them is the input of a component.
  * LUPINANON_BAD_FLAG, LUPINANON_BAD_ARGUMENT: the limits are as they were, and *taken is 0.
  *
- * The input may be NULL where its length is 0. */
+ * The input may be NULL if its length is 0. */
 int32_t lupinanon_swarm_limits(LupinanonLimits *limits, const uint8_t *input, size_t input_len, size_t *taken);
 
 /* Makes the component that the input produces within the limits, and writes its bytes to the front of the output.
@@ -166,13 +165,13 @@ int32_t lupinanon_swarm_limits(LupinanonLimits *limits, const uint8_t *input, si
  * LUPINANON_NO_ROOM: both counts are returned, and no other byte is written. Otherwise both are 0, and no other byte is
  * written.
  *
- * `input_len` and `output_len` are in bytes. Input and output may be NULL where their length is 0, and `left` where it
+ * `input_len` and `output_len` are in bytes. Input and output may be NULL if their length is 0, and `left` if it
  * is not needed. Equal limits and equal input produce equal bytes, always. */
 int32_t lupinanon_generate_into(const LupinanonLimits *limits, const uint8_t *input, size_t input_len, uint8_t *output,
                                 size_t output_len, size_t *bytes_len, size_t *left);
 
 /* Makes the component in a block of its own, which the caller frees with free. NULL as limits are the default
- * limits, and `left` may be NULL. Where the status is not LUPINANON_ANSWERED, *bytes is NULL, and *bytes_len and *left
+ * limits, and `left` may be NULL. If the status is not LUPINANON_ANSWERED, *bytes is NULL, and *bytes_len and *left
  * are 0. */
 int32_t lupinanon_generate(const LupinanonLimits *limits, const uint8_t *input, size_t input_len, uint8_t **bytes,
                            size_t *bytes_len, size_t *left);
@@ -187,11 +186,11 @@ int32_t lupinanon_generate(const LupinanonLimits *limits, const uint8_t *input, 
  * LUPINANON_OUT_OF_MEMORY, LUPINANON_BAD_ARGUMENT: nothing is known. *offset is then LUPINANON_NO_OFFSET, as of a
  * component that is well formed.
  *
- * Bytes may be NULL where their length is 0, and `offset` where it is not needed. */
+ * Bytes may be NULL if their length is 0, and `offset` if it is not needed. */
 int32_t lupinanon_check(const uint8_t *bytes, size_t bytes_len, size_t *offset);
 
 /* Writes the script of the component that bytes are to the front of the output: an input from which
- * lupinanon_generate_into produces these bytes, within the same limits, and of which nothing is left. Each component
+ * lupinanon_generate_into produces these bytes, within the same limits, with nothing left. Each component
  * that can be generated has one. docs/SCRIPTS.md says more.
  *
  * LUPINANON_ANSWERED: *script_len bytes are written.
@@ -200,32 +199,32 @@ int32_t lupinanon_check(const uint8_t *bytes, size_t bytes_len, size_t *offset);
  * ends in it. *offset is where what its script produces first differs, so far as there is one, or LUPINANON_NO_OFFSET.
  * LUPINANON_UNREAD: as of lupinanon_check, with its *offset.
  * LUPINANON_ILL_FORMED: as of lupinanon_check, which also knows the entry.
- * *offset is LUPINANON_NO_OFFSET where the status is another.
+ * *offset is LUPINANON_NO_OFFSET if the status is another.
  *
- * `bytes_len` and `output_len` are in bytes. Bytes and output may be NULL where their length is 0, and `offset` where
+ * `bytes_len` and `output_len` are in bytes. Bytes and output may be NULL if their length is 0, and `offset` if
  * it is not needed. */
 int32_t lupinanon_script_into(const LupinanonLimits *limits, const uint8_t *bytes, size_t bytes_len, uint8_t *output,
                               size_t output_len, size_t *script_len, size_t *offset);
 
-/* Writes the k-th, from 0, of the components that are smaller than that of the bytes by a step and can be generated
- * within the limits to the front of the output. NULL as limits: that are well formed, whatever the limits. The steps
- * are, in this order: without each item, as lupinanon_without has it, and with each item made simpler, where it can be:
- * a custom section without contents, the empty core module, a nested component in place of the whole, the type bool in
- * place of a value type, a shorter name. docs/REDUCING.md says more.
+/* Writes the k-th, from 0, of the components that are smaller by a step than the component of the bytes and can be
+ * generated within the limits to the front of the output. NULL as limits: that are well formed, whatever the limits. The
+ * steps are, in this order: without each item, as lupinanon_without has it, and with each item made simpler, if it can
+ * be: a custom section without contents, the empty core module, a nested component in place of the whole, the type bool
+ * in place of a value type, a shorter name. docs/REDUCING.md says more.
  *
  * LUPINANON_ANSWERED: *smaller_len bytes are written.
  * LUPINANON_NO_ROOM: *smaller_len is how long the component is, and otherwise it is 0. Nothing is written to the output.
  * LUPINANON_NO_SMALLER: there are no more than k such components.
  * LUPINANON_UNREAD: as of lupinanon_check.
  *
- * Bytes and output may be NULL where their length is 0. It takes the time of a script, or of a check, for each step up
+ * Bytes and output may be NULL if their length is 0. It takes the time of a script, or of a check, for each step up
  * to the k-th. A loop over k repeats these; one over lupinanon_next_smaller does not. */
 int32_t lupinanon_smaller(const LupinanonLimits *limits, const uint8_t *bytes, size_t bytes_len, size_t k,
                           uint8_t *output, size_t output_len, size_t *smaller_len);
 
 /* Finds the first step, from number *step on, that leads to a component that can be generated within the limits; or,
  * with NULL as limits, to one that is well formed. Writes that component to the front of the output, and the step's
- * number to *step. The steps are those of lupinanon_smaller. All of them are numbered, from 0, also those that lead to no
+ * number to *step. The steps are lupinanon_smaller's. All of them are numbered, from 0, also the ones that lead to no
  * such component.
  *
  * LUPINANON_ANSWERED: *smaller_len bytes are written, and *step.
@@ -234,7 +233,7 @@ int32_t lupinanon_smaller(const LupinanonLimits *limits, const uint8_t *bytes, s
  * LUPINANON_NO_SMALLER: no step from *step on leads to such a component.
  * LUPINANON_UNREAD: as of lupinanon_check.
  *
- * Bytes and output may be NULL where their length is 0. It takes the time of a script, or of a check, for each step
+ * Bytes and output may be NULL if their length is 0. It takes the time of a script, or of a check, for each step
  * from *step to the one that is found. So a loop that goes on from there tries each step once:
  *
  *     while (lupinanon_next_smaller(limits, best, best_len, &step, next, sizeof next, &len) == LUPINANON_ANSWERED) {
@@ -250,24 +249,24 @@ int32_t lupinanon_next_smaller(const LupinanonLimits *limits, const uint8_t *byt
  * is removed is removed too, and other indexes are renumbered. Items are sections, their entries, the declarations of
  * types, and the members of types, counted in the order of their bytes.
  *
- * LUPINANON_ANSWERED: *less_len bytes are written. They are well formed where the component is, and no more.
+ * LUPINANON_ANSWERED: *less_len bytes are written. They are well formed if the component is, and no more.
  * LUPINANON_NO_ROOM: *less_len is how long the component is, and otherwise it is 0. Nothing is written to the output.
  * LUPINANON_NO_SMALLER: there are no more than k items.
  * LUPINANON_UNREAD: as of lupinanon_check.
  *
- * Bytes and output may be NULL where their length is 0. */
+ * Bytes and output may be NULL if their length is 0. */
 int32_t lupinanon_without(const uint8_t *bytes, size_t bytes_len, size_t k, uint8_t *output, size_t output_len,
                           size_t *less_len);
 
-/* Writes a component with the sections of the first and then those of the second to the front of the output. Indexes of
+/* Writes a component with the sections of the first and then of the second to the front of the output. Indexes of
  * the second are renumbered, and its imports and exports get names that are new.
  *
- * LUPINANON_ANSWERED: *joined_len bytes are written. They are well formed where both components are.
+ * LUPINANON_ANSWERED: *joined_len bytes are written. They are well formed if both components are.
  * LUPINANON_NO_ROOM: *joined_len is how long the component is, and otherwise it is 0. Nothing is written to the output.
  * LUPINANON_TOO_LONG: a length or a count in it would pass 4,294,967,295.
  * LUPINANON_UNREAD: as of lupinanon_check, of the first or the second.
  *
- * The first, the second and the output may be NULL where their length is 0. The first and the second may overlap. */
+ * The first, the second and the output may be NULL if their length is 0. The first and the second may overlap. */
 int32_t lupinanon_join(const uint8_t *first, size_t first_len, const uint8_t *second, size_t second_len,
                        uint8_t *output, size_t output_len, size_t *joined_len);
 

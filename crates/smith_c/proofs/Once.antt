@@ -1,4 +1,4 @@
--- Limits are those of one configuration.
+-- Limits are one configuration's.
 use Rattle.std.proofs.Common.{◌≡◌, Bool, true, false, refl, ap, arith}
 use Rattle.smith_format.specs.declared.config.Config.{Config}
 use Rattle.smith_c.specs.Limits.{byte_of, limits_of}

@@ -10,7 +10,7 @@ use Rattle.smith_c.specs.Limits.{limits_of}
 use Rattle.smith_c.specs.Reduces.{Lacks, LacksWithin, found, status_of}
 use Rattle.smith_c.specs.declared.limits.Limits.{Limits}
 
--- what a refusal says where limits are not the reason
+-- what a refusal says if limits are not the reason
 abbrev pub Refuses : List ℕ → ReduceError → Type 0
 Refuses bytes e = IsReduceRefusal bytes e × (e ≢ InconsistentLimits)
 
@@ -36,7 +36,7 @@ module _ {V W : Type 0} (shown : V → W) (P : Option W → Type 0) where
   found_none bytes (Ok None) is refused = is
   found_none bytes (Err e) is refused = lacks bytes e refused
 
--- The limits are those of a configuration that fits together, and it has the property.
+-- The limits are a configuration's that fits together, and it has the property.
 abbrev pub Within : Limits → (Config → Type 0) → Type 0
 Within limits P = (config : Config) × (limits ≡ limits_of config) × IsConsistent config × P config
 

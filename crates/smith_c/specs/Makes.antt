@@ -23,7 +23,7 @@ pub record Makes (limits : Limits) (input bytes : List ℕ) (left : ℕ) : Type 
   pub made : IsMade config input component rest
   pub left_is : left ≡ length rest
 
--- No component is made: as the limits and the input refuse it, or since the limits are those of no configuration.
+-- No component is made: as the limits and the input refuse it, or since the limits are no configuration's.
 abbrev pub Stops : Limits → List ℕ → Status → Type 0
 Stops limits input Answered = ⊥
 Stops limits input (Refused error) =

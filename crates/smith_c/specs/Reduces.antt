@@ -17,16 +17,17 @@ use Rattle.smith_c.specs.declared.limits.Limits.{Limits}
 use Rattle.smith_c.specs.declared.status.Status.{Status}
 use Rattle.smith_c.specs.declared.status.Status.TheVariants.{Answered, Refused, NoRoom, BadFlag, IllFormed, Unread, NoScript, NoSmaller}
 
--- This is the k-th of the components smaller than that of the bytes by a step that have the property; none, where there is no k-th.
+-- This is the k-th of the components that have the property and are smaller by a step than the component of the bytes; none
+-- if there is no k-th.
 abbrev pub IsSmaller : (Tree → Type 0) → List ℕ → ℕ → Option (List ℕ) → Type 0
 IsSmaller P bytes k smaller = (t : Tree) × Spells t bytes × IsKth P t k smaller
 
--- This is the k-th of those that can be generated within the limits.
+-- This is the k-th of the ones that can be generated within the limits.
 abbrev pub Reduces : Limits → List ℕ → ℕ → Option (List ℕ) → Type 0
 Reduces limits bytes k smaller = (config : Config) × (limits ≡ limits_of config) × IsConsistent config × IsSmaller (HasScript config) bytes k smaller
 
--- This is the first step from that number on to a component smaller than that of the bytes that has the property, and that component; none,
--- where no step from there on leads to one.
+-- This is the first step from that number on to a component that has the property and is smaller than the component of the bytes, and that
+-- component; none if no step from there on leads to one.
 abbrev pub IsNextSmaller : (Tree → Type 0) → List ℕ → ℕ → Option (ℕ × List ℕ) → Type 0
 IsNextSmaller P bytes from step = (t : Tree) × Spells t bytes × IsNext P t from step
 
@@ -35,7 +36,7 @@ abbrev pub ReducesNext : Limits → List ℕ → ℕ → Option (ℕ × List ℕ
 ReducesNext limits bytes from step =
     (config : Config) × (limits ≡ limits_of config) × IsConsistent config × IsNextSmaller (HasScript config) bytes from step
 
--- This is the component of the bytes without its k-th item; none, where there is no k-th.
+-- This is the component of the bytes without its k-th item; none if there is no k-th.
 abbrev pub Removes : List ℕ → ℕ → Option (List ℕ) → Type 0
 Removes bytes k less = (t : Tree) × Spells t bytes × IsWithout k t less
 
@@ -45,7 +46,7 @@ status_of refusal.OutOfMemory = Refused OutOfMemory
 status_of refusal.InconsistentLimits = Refused InconsistentLimits
 status_of (refusal.Unread reason offset) = Unread
 
--- what is found, or the status where there is none
+-- what is found, or the status if there is none
 abbrev pub found : {V : Type 0} → Result (Option V) ReduceError → Result V Status
 found (Ok (Some x)) = Ok x
 found (Ok None) = Err NoSmaller
@@ -62,7 +63,7 @@ status_of_join (join_error.SecondUnread reason offset) = Unread
 abbrev pub IsUnread : List ℕ → Type 0
 IsUnread bytes = (offset : ℕ) × AreUnread bytes offset
 
--- No component within the limits is returned: there is none, or the bytes are not read, or no memory is left, or the limits are those of no
+-- No component within the limits is returned: there is none, or the bytes are not read, or no memory is left, or the limits are of no
 -- configuration that fits together.
 abbrev pub LacksWithin : Type 0 → Limits → List ℕ → Status → Type 0
 LacksWithin none limits bytes Answered = ⊥

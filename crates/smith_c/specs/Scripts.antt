@@ -31,7 +31,7 @@ pub record HasNoScript (limits : Limits) (bytes : List ℕ) : Type 0 where
   pub none : IsConsistent config → (component : Tree) → Spells component bytes → CannotBeGenerated config component
 
 -- No script is returned: the bytes are not read, or are a component that is not well formed, or one that is and has none; or there is no
--- memory for it, or the limits are those of no configuration that fits together. The offset is written with it.
+-- memory for it, or the limits are of no configuration that fits together. The offset is written with it.
 abbrev pub Withholds : Limits → List ℕ → Status → ℕ → Type 0
 Withholds limits bytes Answered offset = ⊥
 Withholds limits bytes (Refused InconsistentLimits) offset = (config : Config) × (limits ≡ limits_of config) × (¬ IsConsistent config)

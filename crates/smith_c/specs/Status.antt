@@ -20,6 +20,6 @@ code_of Unread = pos 11
 code_of NoScript = pos 12
 code_of NoSmaller = pos 13
 
--- what is written where no offset is known: 2^64 - 1
+-- what is written if no offset is known: 2^64 - 1
 abbrev pub no_offset : ℕ
 no_offset = 18446744073709551615

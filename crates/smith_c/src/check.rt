@@ -18,9 +18,9 @@ use std::alloc::Global;
 
 /// Whether the bytes are a component that is well formed, as `check` of `smith_verdict` says.
 ///
-/// Returns the code of a `Status`: `Answered`, `IllFormed`, `Unread` or that of `OutOfMemory`. `offset` is that of the
-/// entry that breaks a rule, or that at which the bytes were found not to be a component, which is always known, and
-/// otherwise 2^64 - 1.
+/// Returns the code of a `Status`: `Answered`, `IllFormed`, `Unread` or `OutOfMemory`. `offset` is where the entry that
+/// breaks a rule begins, or where the bytes were found not to be a component, which is always known. Otherwise it is
+/// 2^64 - 1.
 #[unsafe(no_mangle)]
 pub extern "C" fn lupinanon_proved_check(alloc: Global, bytes: &[u8], offset: &mut usize) -> i32
     ensures well_formed { result ≡ code_of Answered

@@ -21,7 +21,7 @@ use std::alloc::Global;
 /// Makes a component of the input within the limits, as `generate` does, and writes its bytes to the front of the
 /// output.
 ///
-/// Returns the code of a `Status`. Where the output has no room, `bytes_len` is how long the bytes are, and `left` how
+/// Returns the code of a `Status`. If the output has no room, `bytes_len` is how long the bytes are, and `left` how
 /// many bytes of the input are not used, as when the bytes are written. Otherwise both are 0. The output is unchanged
 /// unless the bytes are written, and always unchanged after them.
 #[unsafe(no_mangle)]

@@ -7,7 +7,7 @@ ghost use Rattle.smith_c.specs.Limits.{byte_of, limits_of};
 
 use smith_format::Config;
 
-/// The limits as C lays them out, each as in `Config`. A feature is on where its byte is 1, and off where it is 0.
+/// The limits as C lays them out, each as in `Config`. A feature is on if its byte is 1, and off if it is 0.
 #[repr(C)]
 #[derive(Clone, Copy)]
 pub struct Limits {
@@ -84,7 +84,7 @@ impl Limits {
         }
     }
 
-    /// The configuration that has these limits. There is none where a feature's byte is neither 0 nor 1.
+    /// The configuration that has these limits. There is none if a feature's byte is neither 0 nor 1.
     pub fn config(&self) -> Option<Config>
         ensures told { IfSome result (λ config. self.now ≡ limits_of config) }
         ensures untold { result ≡ None → (config : Config) → self.now ≢ limits_of config }

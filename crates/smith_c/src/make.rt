@@ -23,8 +23,7 @@ pub struct Made {
     pub left: usize,
 }
 
-/// What `generate` returns for the input within the limits. It fails as `generate` does, and where a byte is not a
-/// flag.
+/// What `generate` returns for the input within the limits. It fails as `generate` does, and if a byte is not a flag.
 pub fn make(alloc: Global, limits: &Limits, input: &[u8]) -> Result<Made, Status>
     ensures made { IfOk result (λ m. Makes limits.now input.now m.bytes.items m.left) }
     ensures stops { IfErr result (Stops limits.now input.now) }

@@ -6,8 +6,8 @@ ghost use Rattle.smith_c.specs.declared.status.Status.TheVariants.{Answered, NoR
 
 use crate::status::Status;
 
-/// Writes the bytes to the front of the output, where it has room, and how many there are. Returns the code of
-/// `Answered`, or of `NoRoom` where it has none.
+/// Writes the bytes to the front of the output, if it has room, and how many there are. Returns the code of `Answered`,
+/// or of `NoRoom` if it has none.
 pub(crate) fn put(bytes: &[u8], output: &mut [u8], len: &mut usize) -> i32
     ensures either { (result ≡ code_of Answered) ⊎ (result ≡ code_of NoRoom) }
     ensures len { len.new ≡ length bytes.now }

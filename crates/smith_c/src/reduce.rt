@@ -29,7 +29,7 @@ fn status_of(error: &ReduceError) -> Status
     }
 }
 
-// What is found, or the status where there is none.
+// What is found, or the status if there is none.
 fn found<T>(made: Result<Option<T>, ReduceError>) -> Result<T, Status>
     ensures { result ≡ found made }
 {
@@ -90,9 +90,9 @@ fn removed(alloc: Global, bytes: &[u8], k: usize) -> Result<Vec<u8>, Status>
 /// Writes the `k`-th, from 0, of the components that are smaller by a step and can be generated within the limits to
 /// the front of the output, as `smaller` of `smith_reduce` counts them.
 ///
-/// Returns the code of a `Status`: `NoSmaller` where there is no `k`-th. Where the output has no room, `smaller_len` is
-/// how long the component is, as when it is written, and otherwise it is 0. The output is unchanged unless the
-/// component is written, and always unchanged after it.
+/// Returns the code of a `Status`: `NoSmaller` if there is no `k`-th. If the output has no room, `smaller_len` is how
+/// long the component is, as when it is written, and otherwise it is 0. The output is unchanged unless the component is
+/// written, and always unchanged after it.
 #[unsafe(no_mangle)]
 pub extern "C" fn lupinanon_proved_smaller(
     alloc: Global,
@@ -149,8 +149,8 @@ pub extern "C" fn lupinanon_proved_smaller_formed(
 /// Finds the first step, from number `step` on, that leads to a component that can be generated within the limits, as
 /// `next_smaller` of `smith_reduce` does. It writes that component to the front of the output, and the step's number.
 ///
-/// Returns the code of a `Status`: `NoSmaller` where there is no such step. Where the output has no room, `smaller_len`
-/// is how long the component is and `step` the number of its step, as when it is written. Otherwise `smaller_len` is 0,
+/// Returns the code of a `Status`: `NoSmaller` if there is no such step. If the output has no room, `smaller_len` is
+/// how long the component is and `step` the number of its step, as when it is written. Otherwise `smaller_len` is 0,
 /// and `step` is as it was. The output is unchanged unless the component is written, and always unchanged after it.
 #[unsafe(no_mangle)]
 pub extern "C" fn lupinanon_proved_next_smaller(
@@ -216,9 +216,9 @@ pub extern "C" fn lupinanon_proved_next_smaller_formed(
 /// Writes the component without its `k`-th item, from 0, and without all that refers to it, to the front of the output,
 /// as `without` of `smith_edit` defines.
 ///
-/// Returns the code of a `Status`: `NoSmaller` where there is no `k`-th item. Where the output has no room, `less_len`
-/// is how long the component is, as when it is written, and otherwise it is 0. The output is unchanged unless the
-/// component is written, and always unchanged after it.
+/// Returns the code of a `Status`: `NoSmaller` if there is no `k`-th item. If the output has no room, `less_len` is how
+/// long the component is, as when it is written, and otherwise it is 0. The output is unchanged unless the component is
+/// written, and always unchanged after it.
 #[unsafe(no_mangle)]
 pub extern "C" fn lupinanon_proved_without(
     alloc: Global,
@@ -256,9 +256,9 @@ fn status_of_join(error: &JoinError) -> Status
 
 /// Writes the two components, joined as `joined` of `smith_edit` does, to the front of the output.
 ///
-/// Returns the code of a `Status`. Where the output has no room, `joined_len` is how long the component is, as when it
-/// is written, and otherwise it is 0. The output is unchanged unless the component is written, and always unchanged
-/// after it.
+/// Returns the code of a `Status`. If the output has no room, `joined_len` is how long the component is, as when it is
+/// written, and otherwise it is 0. The output is unchanged unless the component is written, and always unchanged after
+/// it.
 #[unsafe(no_mangle)]
 pub extern "C" fn lupinanon_proved_join(
     alloc: Global,

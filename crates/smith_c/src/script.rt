@@ -66,13 +66,13 @@ fn scripted(alloc: Global, limits: &Limits, bytes: &[u8]) -> Result<Vec<u8>, Ref
     }
 }
 
-/// Writes the script, within the limits, of the component that the bytes are to the front of the output: the input
-/// from which `generate` produces these bytes, and of which nothing is left.
+/// Writes the script, within the limits, of the component that the bytes are to the front of the output: the input from
+/// which `generate` produces these bytes, with nothing left.
 ///
-/// Returns the code of a `Status`. Where the output has no room, `script_len` is how long the script is, as when it is
+/// Returns the code of a `Status`. If the output has no room, `script_len` is how long the script is, as when it is
 /// written, and otherwise it is 0. The output is unchanged unless the script is written, and always unchanged after it.
-/// `offset` is that at which the bytes were found not to be a component, or that of the first byte in which what their
-/// script produces differs, if there is one, and otherwise 2^64 - 1.
+/// `offset` is where the bytes were found not to be a component, or where what their script produces first differs, if
+/// it does, and otherwise 2^64 - 1.
 #[unsafe(no_mangle)]
 pub extern "C" fn lupinanon_proved_script_into(
     alloc: Global,

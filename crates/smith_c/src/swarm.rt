@@ -1,4 +1,4 @@
-//! Limits from the first bytes of an input, over those in memory of the caller's.
+//! Limits from the first bytes of an input, over the ones in memory of the caller's.
 
 ghost use Rattle.std.specs.Prelude.{◌≡◌, ◌≢◌};
 ghost use Rattle.smith_format.specs.declared.config.Config.{Config};
@@ -11,10 +11,10 @@ use crate::limits::Limits;
 use crate::status::Status;
 use smith_swarm::swarm_limits;
 
-/// Replaces those of the limits that the first bytes of the input encode, as `swarm_limits` of `smith_swarm` does.
+/// Replaces the limits that the first bytes of the input encode, as `swarm_limits` of `smith_swarm` does.
 ///
-/// Returns the code of a `Status`. `taken` is how many bytes of the input encode limits. Where a byte of the limits is
-/// not a flag they are left as they were, and `taken` is 0.
+/// Returns the code of a `Status`. `taken` is how many bytes of the input encode limits. If a byte of the limits is not
+/// a flag they are left as they were, and `taken` is 0.
 #[unsafe(no_mangle)]
 pub extern "C" fn lupinanon_proved_swarm_limits(
     limits: &mut Limits,

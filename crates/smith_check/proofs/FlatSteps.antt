@@ -8,7 +8,7 @@ use Rattle.smith_syntax.specs.Flat.{Flat, flat_value}
 use Rattle.smith_syntax.specs.Signature.{named, signature}
 use Rattle.smith_syntax.specs.declared.types.ComponentValType.{ComponentValType}
 use Rattle.smith_check.proofs.Judging.{Same}
-use Rattle.smith_read_scopes.proofs.Lists.{head_same, tail_same}
+use Rattle.smith_scopes.proofs.Lists.{head_same, tail_same}
 
 abbrev pub Params : Type 0
 Params = List (String Global × ComponentValType)
@@ -71,7 +71,7 @@ results_types None s f = absurd f
 results_types (Some a) None f = absurd f
 results_types (Some a) (Some b) f = (f.0 ∷ [], ap (λ o. o ∷ []) f.1, ap (λ o. o ∷ []) f.2, refl)
 
--- Signatures flatten alike where their parameters do, one by one, and their results.
+-- Signatures flatten alike if their parameters do, one by one, and their results.
 pub flat_same : (ps qs : Params) (r s : Option ComponentValType) → Same (Flat (signature ps r) (signature qs s)) (FlatParams ps qs × FlatResults r s)
 flat_same ps qs r s = record {
   to = λ f. (params_flat ps qs f.0.0 f.1.params f.2.params, results_flat r s f.0.1 f.1.one f.1.result f.2.result);

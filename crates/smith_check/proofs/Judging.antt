@@ -16,7 +16,7 @@ pub passed_on : {A : Type 0} (r : Result A Stop) (e : Stop) {P : Type 0} → IsE
 passed_on (Ok x) e {P} is d = absurd is
 passed_on (Err y) e {P} is d = subst (λ (z : Stop). Refutes z P) (sym is) d
 
--- Two facts that hold together: all, and what is left of it.
+-- Two facts that hold together: all, and the rest of it.
 pub record Same (P Q : Type 0) : Type 0 where
   pub to : P → Q
   pub from : Q → P
@@ -24,7 +24,7 @@ pub record Same (P Q : Type 0) : Type 0 where
 pub same_all : {P : Type 0} → Same P P
 same_all = record { to = λ p. p; from = λ p. p }
 
--- what is left begins with this, which holds
+-- the rest begins with this, which holds
 pub same_step : {P Q R T : Type 0} → Same P Q → Same Q (R × T) → R → Same P T
 same_step s t r = record { to = λ p. (t.to (s.to p)).1; from = λ q. s.from (t.from (r, q)) }
 

@@ -4,7 +4,6 @@ pub mod Judging
 pub mod KebabSteps
 pub mod ModuleSteps
 pub mod NameSteps
-pub mod NewNames
 pub mod PartSteps
 pub mod SectionSteps
 pub mod TypeSteps

@@ -26,7 +26,7 @@ use Rattle.smith_check.specs.declared.error.Stop.TheVariants.{OutOfMemory}
 use Rattle.smith_check.specs.declared.modules.ModuleNames.{ModuleNames}
 use Rattle.smith_check.proofs.Judging.{Same, judged_by, on_by, same_by}
 use Rattle.smith_check.proofs.NameSteps.{distinct_last, distinct_push}
-use Rattle.smith_check.proofs.NewNames.{distinct_new, new_distinct, new_front, none_before}
+use Rattle.smith_input.proofs.DistinctNames.{distinct_new, new_distinct, new_front, none_before}
 
 -- one more declaration
 
@@ -190,7 +190,7 @@ module _ (before : List ModuleDecl) (d : ModuleDecl) (no_import : module_import_
     exports = subst (Holds s.exports) (sym quiet_exports) h.exports;
   }
 
--- what is left of declarations begins with one
+-- the rest of the declarations begins with one
 pub decls_at : {A : Type 0} (around : List CoreEntry) (shown : A → ModuleDecl) (xs : List A) (i : ℕ) (x : A) (own more : List Function) → i < length xs
     → x ≡ get_or xs i x → more ≡ own ++ adds around own (shown x)
     → Same (FormedDecls around own (map shown (drop i xs))) (FormedDecl around own (shown x) × FormedDecls around more (map shown (drop (i + 1) xs)))

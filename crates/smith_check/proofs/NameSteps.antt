@@ -10,7 +10,7 @@ use Rattle.std.specs.declared.cmp.Ordering.TheVariants.{Equal, Greater, Less}
 use Rattle.std.proofs.lemmas.Map.Text.{is_eq-slice_cmp}
 use Rattle.smith_input.specs.NewNames.{is_among}
 use Rattle.smith_input.proofs.NewNames.{among_more}
-use Rattle.smith_check.proofs.NewNames.{distinct_new, new_back, new_distinct, new_more, none_before}
+use Rattle.smith_input.proofs.DistinctNames.{distinct_new, new_back, new_distinct, new_more, none_before}
 use Rattle.smith_check.specs.Taken.{Holds, has_pair}
 use Rattle.smith_check.specs.declared.modules.ModuleNames.{ModuleNames}
 

@@ -3,21 +3,21 @@ use Rattle.std.proofs.Common.{◌≡◌, ℕ, ◌+◌, ◌<◌, ◌≤◌, List,
 use Rattle.std.proofs.Math.ListN.{drop}
 use Rattle.std.proofs.lemmas.List.{drop_more, map-append, take-append-drop, take_all}
 use Rattle.smith_input.proofs.Rests.{drop_past, rest_at}
-use Rattle.smith_read.specs.PartNodes.{shown_export_node}
-use Rattle.smith_read.specs.declared.nodes.ExportNode.{ExportNode}
+use Rattle.smith_tree.specs.Shown.{shown_export}
+use Rattle.smith_tree.specs.declared.entries.Export.{Export}
 use Rattle.smith_tree.specs.Spaces.{Spaces, after_export}
 use Rattle.smith_tree.specs.WellFormed.{FormedExports}
 use Rattle.smith_syntax.specs.WellFormed.{Named}
 use Rattle.smith_check.proofs.Judging.{Same, same_by}
-use Rattle.smith_read_scopes.proofs.Lists.{head_same}
+use Rattle.smith_scopes.proofs.Lists.{head_same}
 use Rattle.smith_check.proofs.TypeSteps.{named_front, names_more}
 
--- the item at an index, whatever is used where there is none
+-- the item at an index, whatever is used if there is none
 pub some_item : {A : Type 0} (xs : List A) (i : ℕ) (x y : A) → i < length xs → get_or xs i x ≡ get_or xs i y
 some_item xs i x y h = head_same _ _ _ _ (sym (drop_more xs i x h) ∙ drop_more xs i y h)
 
 module _ {A B : Type 0} (shown : A → B) (xs : List A) (i : ℕ) where
-  -- a fact of what is left of a list, by its first item
+  -- a fact of the rest of a list, by its first item
   pub left_from : (F : List B → Type 0) (x : A) → i < length xs → x ≡ get_or xs i x
       → Same (F (map shown (drop i xs))) (F (shown x ∷ map shown (drop (i + 1) xs)))
   left_from F x h e = same_by (λ ys. F (map shown ys)) (drop i xs) (x ∷ drop (i + 1) xs) (rest_at xs i x h e)
@@ -28,14 +28,14 @@ module _ {A B : Type 0} (shown : A → B) (xs : List A) (i : ℕ) where
 
 -- exports one by one
 
-module _ (xs : List ExportNode) (i : ℕ) where
-  pub exports_at : (x : ExportNode) → i < length xs → x ≡ get_or xs i x → (s : Spaces)
-      → Same (FormedExports (map shown_export_node (drop i xs)) s)
-      ((x.func < length s.functions) × FormedExports (map shown_export_node (drop (i + 1) xs)) (after_export s (shown_export_node x)))
-  exports_at x h e s = left_from shown_export_node xs i (λ es. FormedExports es s) x h e
+module _ (xs : List Export) (i : ℕ) where
+  pub exports_at : (x : Export) → i < length xs → x ≡ get_or xs i x → (s : Spaces)
+      → Same (FormedExports (map shown_export (drop i xs)) s)
+      ((x.func_index < length s.functions) × FormedExports (map shown_export (drop (i + 1) xs)) (after_export s (shown_export x)))
+  exports_at x h e s = left_from shown_export xs i (λ es. FormedExports es s) x h e
 
-  pub exports_done : length xs ≤ i → (s : Spaces) → FormedExports (map shown_export_node (drop i xs)) s
-  exports_done h s = subst (λ (ys : List ExportNode). FormedExports (map shown_export_node ys) s) (sym (drop_past xs i h)) tt
+  pub exports_done : length xs ≤ i → (s : Spaces) → FormedExports (map shown_export (drop i xs)) s
+  exports_done h s = subst (λ (ys : List Export). FormedExports (map shown_export ys) s) (sym (drop_past xs i h)) tt
 
 -- names after others, one by one
 

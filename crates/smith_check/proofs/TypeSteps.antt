@@ -10,7 +10,7 @@ use Rattle.smith_syntax.specs.Signature.{named, signature}
 use Rattle.smith_input.proofs.Rests.{drop_past, rest_at}
 use Rattle.smith_input.specs.Kebab.{Kebab}
 use Rattle.smith_input.proofs.Lists.{all_front}
-use Rattle.smith_check.proofs.NewNames.{distinct_new, new_distinct, new_front, none_before}
+use Rattle.smith_input.proofs.DistinctNames.{distinct_new, new_distinct, new_front, none_before}
 use Rattle.smith_syntax.specs.Entries.{Decl, in_order}
 use Rattle.smith_syntax.specs.Entries.{function, record_type, variant_type}
 use Rattle.smith_syntax.specs.Entries.{import_decl, export_decl}
@@ -19,11 +19,11 @@ use Rattle.smith_check.specs.declared.types.DeclaredNames.{DeclaredNames}
 use Rattle.smith_syntax.specs.Scope.{Scope}
 use Rattle.smith_syntax.specs.WellFormed.{FormedDefined, FormedEntry, FormedMaybe, FormedVal, Named, decl_exports, decl_imports, export_of, import_of, names}
 use Rattle.smith_syntax.specs.declared.types.ComponentValType.{ComponentValType}
-use Rattle.smith_read_types.specs.TypeNodes.{shown_decl_node}
-use Rattle.smith_read_types.specs.declared.nodes.DeclNode.{DeclNode}
+use Rattle.smith_read.specs.TypeNodes.{shown_decl_node}
+use Rattle.smith_read.specs.declared.type_nodes.DeclNode.{DeclNode}
 use Rattle.smith_syntax.specs.declared.deftype.ComponentTypeRef.{ComponentTypeRef}
-use Rattle.smith_read_types.specs.declared.nodes.DeclNode.TheVariants as declared
-use Rattle.smith_read_types.proofs.ShownNodes.{shown_export, shown_import}
+use Rattle.smith_read.specs.declared.type_nodes.DeclNode.TheVariants as declared
+use Rattle.smith_read.proofs.ShownNodes.{shown_export, shown_import}
 use Rattle.smith_check.proofs.Judging.{Same}
 
 pub imports_at : (ds : List DeclNode) (i : ℕ) (d : DeclNode) → i < length ds → d ≡ get_or ds i d

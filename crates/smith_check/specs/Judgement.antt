@@ -5,8 +5,8 @@ use Rattle.smith_check.specs.Upto.{StopsAt}
 use Rattle.smith_check.specs.declared.error.Judgement.{Judgement}
 use Rattle.smith_check.specs.declared.error.Judgement.TheVariants as judgement
 
--- It is `WellFormed` exactly where the component is well formed, and `IllFormed` exactly where it is not, with the place of an entry: what
--- precedes it is well formed, and what ends with it is not.
+-- It is `WellFormed` exactly if the component is well formed, and `IllFormed` exactly if it is not, with the place of
+-- an entry: what precedes it is well formed, and what ends with it is not.
 abbrev pub Agrees : Tree → Judgement → Type 0
 Agrees t judgement.WellFormed = WellFormed t
 Agrees t (judgement.IllFormed fault) = (¬ WellFormed t) × StopsAt WellFormed fault.place.sections.items fault.place.entry t

@@ -7,7 +7,7 @@ use Rattle.smith_check.specs.declared.error.Stop.TheVariants.{OutOfMemory}
 pub record Refutes (e : Stop) (P : Type 0) : Type 0 where
   pub is : ¬ (e ≡ OutOfMemory) → ¬ P
 
--- A check succeeds only where the fact holds. It fails only where the fact does not hold or memory ran out.
+-- A check succeeds only if the fact holds. It fails only if the fact does not hold or memory ran out.
 abbrev pub Judges : {A : Type 0} → Result A Stop → Type 0 → Type 0
 Judges (Ok x) P = P
 Judges (Err e) P = Refutes e P

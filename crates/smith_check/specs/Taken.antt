@@ -9,8 +9,8 @@ use Rattle.smith_input.specs.NewNames.{is_among}
 use Rattle.smith_syntax.specs.Entries.{Decls, ModuleDecl, in_order}
 use Rattle.smith_syntax.specs.ModuleTypes.{module_export_names, module_import_of}
 use Rattle.smith_syntax.specs.WellFormed.{Named, decl_exports, decl_imports, names}
-use Rattle.smith_read_types.specs.TypeNodes.{shown_decl_node}
-use Rattle.smith_read_types.specs.declared.nodes.DeclNode.{DeclNode}
+use Rattle.smith_read.specs.TypeNodes.{shown_decl_node}
+use Rattle.smith_read.specs.declared.type_nodes.DeclNode.{DeclNode}
 use Rattle.smith_check.specs.declared.modules.ModuleNames.{ModuleNames}
 use Rattle.smith_check.specs.declared.names.Names.{Names}
 use Rattle.smith_check.specs.declared.types.DeclaredNames.{DeclaredNames}

@@ -8,17 +8,17 @@ ghost use Rattle.smith_format.specs.declared.types.ValType.{ValType};
 ghost use Rattle.smith_tree.specs.Spaces.{after_canon};
 ghost use Rattle.smith_tree.specs.Tree.{lift, lower};
 ghost use Rattle.smith_tree.specs.WellFormed.{FormedCanon, HasSignature};
-ghost use Rattle.smith_read.specs.PartNodes.{shown_canon_node};
+ghost use Rattle.smith_tree.specs.Shown.{shown_canon};
 ghost use Rattle.smith_check.specs.Judges.{Decides, Finds, Judges};
-ghost use Rattle.smith_read_scopes.specs.Scopes.{own_in};
+ghost use Rattle.smith_scopes.specs.NodeScopes.{own_in};
 ghost use Rattle.smith_check.specs.Preceding.{spaces_in};
 ghost use Rattle.smith_check.specs.declared.error.Stop.TheVariants.{OutOfMemory};
 
 use crate::error::{Checked, Rule, Stop};
 use crate::open::Open;
 use smith_format::ValType;
-use smith_read::{CanonNode, TypeNode};
-use smith_read_scopes::Scopes;
+use smith_read::{Func, TypeNode};
+use smith_scopes::NodeScopes;
 use smith_syntax::{ComponentValType, FuncType};
 use smith_tree::flat_primitive;
 
@@ -61,7 +61,7 @@ fn flatten_alike(first: &FuncType, second: &FuncType) -> bool
 }
 
 // The function type of that index.
-fn signature_at<'a>(scopes: &Scopes<'a>, ty: u32) -> Result<&'a FuncType, Stop>
+fn signature_at<'a>(scopes: &NodeScopes<'a>, ty: u32) -> Result<&'a FuncType, Stop>
     ensures { Finds (λ f. f.now) result (λ s. slice_get (own_in scopes.now).types ty ≡ Some (function s)) }
 {
     match scopes.type_at(ty) {
@@ -72,7 +72,11 @@ fn signature_at<'a>(scopes: &Scopes<'a>, ty: u32) -> Result<&'a FuncType, Stop>
 }
 
 // The type of the component function with that index.
-fn signature_of<'a>(scopes: &Scopes<'a>, here: &Open<'_>, func: u32) -> Result<&'a FuncType, Stop>
+fn signature_of<'a>(
+    scopes: &NodeScopes<'a>,
+    here: &Open<'_>,
+    func: u32,
+) -> Result<&'a FuncType, Stop>
     ensures { Finds (λ f. f.now) result (HasSignature (spaces_in (own_in scopes.now) here.now) func) }
 {
     match here.functions.get(func as usize) {
@@ -81,7 +85,7 @@ fn signature_of<'a>(scopes: &Scopes<'a>, here: &Open<'_>, func: u32) -> Result<&
     }
 }
 
-fn check_lower(scopes: &Scopes<'_>, here: &Open<'_>, func: u32) -> Checked
+fn check_lower(scopes: &NodeScopes<'_>, here: &Open<'_>, func: u32) -> Checked
     ensures { Judges result (FormedCanon (spaces_in (own_in scopes.now) here.now) (lower func)) }
 {
     if signature_of(scopes, here, func)?.is_scalar() {
@@ -91,7 +95,7 @@ fn check_lower(scopes: &Scopes<'_>, here: &Open<'_>, func: u32) -> Checked
     }
 }
 
-fn check_lift(scopes: &Scopes<'_>, here: &Open<'_>, core_func: u32, ty: u32) -> Checked
+fn check_lift(scopes: &NodeScopes<'_>, here: &Open<'_>, core_func: u32, ty: u32) -> Checked
     ensures { Judges result (FormedCanon (spaces_in (own_in scopes.now) here.now) (lift core_func ty)) }
 {
     let lifted = signature_at(scopes, ty)?;
@@ -106,26 +110,29 @@ fn check_lift(scopes: &Scopes<'_>, here: &Open<'_>, core_func: u32, ty: u32) -> 
 }
 
 /// Checks a canonical function.
-pub(crate) fn check_canon(scopes: &Scopes<'_>, here: &Open<'_>, canon: &CanonNode) -> Checked
-    ensures { Judges result (FormedCanon (spaces_in (own_in scopes.now) here.now) (shown_canon_node canon.now)) }
+pub(crate) fn check_canon(scopes: &NodeScopes<'_>, here: &Open<'_>, canon: &Func) -> Checked
+    ensures { Judges result (FormedCanon (spaces_in (own_in scopes.now) here.now) (shown_canon canon.now)) }
 {
     match *canon {
-        CanonNode::Lift { core_func, ty } => check_lift(scopes, here, core_func, ty),
-        CanonNode::Lower { func } => check_lower(scopes, here, func),
+        Func::CanonLift {
+            func_ty,
+            core_func_index,
+        } => check_lift(scopes, here, core_func_index, func_ty),
+        Func::CanonLower { func_index } => check_lower(scopes, here, func_index),
     }
 }
 
 impl<'a> Open<'a> {
     /// Adds the function that a canonical function defines.
-    pub(crate) fn add_canon(&mut self, canon: &CanonNode) -> Checked
+    pub(crate) fn add_canon(&mut self, canon: &Func) -> Checked
         ensures added { (own : PlainScope) → OnOk result
-            (spaces_in own self.new ≡ after_canon (spaces_in own self.old) (shown_canon_node canon.now)) }
+            (spaces_in own self.new ≡ after_canon (spaces_in own self.old) (shown_canon canon.now)) }
         ensures names { (self.new.imports ≡ self.old.imports) × (self.new.exports ≡ self.old.exports) }
         ensures memory { IfErr result (λ e. e ≡ OutOfMemory) }
     {
         match *canon {
-            CanonNode::Lift { ty, .. } => self.functions.push(ty)?,
-            CanonNode::Lower { func } => self.core_functions.push(func)?,
+            Func::CanonLift { func_ty, .. } => self.functions.push(func_ty)?,
+            Func::CanonLower { func_index } => self.core_functions.push(func_index)?,
         }
         Ok(())
     }

@@ -5,8 +5,8 @@ ghost use Rattle.smith_check.specs.declared.error.Stop.TheVariants.{OutOfMemory}
 
 use std::alloc::{AllocError, AllocFailed};
 
-/// A rule that a component breaks; each says what has to hold. Sections are those of Explainer.md, Binary.md and
-/// CanonicalABI.md of the component model.
+/// A rule that a component breaks; each says what has to hold. Sections are from the component model's Explainer.md,
+/// Binary.md and CanonicalABI.md.
 #[derive(Clone, Copy, Debug, PartialEq, Eq, thiserror::Error)]
 pub enum Rule {
     /// An index of a type or a core type is less than the number of those before it in its index space

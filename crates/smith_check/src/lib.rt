@@ -15,3 +15,4 @@ mod values;
 
 pub use error::{Fault, Judgement, Place, Rule};
 pub use parts::judged;
+pub use track::Track;

@@ -10,9 +10,9 @@ ghost use Rattle.smith_format.specs.declared.types.RefType.TheVariants.{ExternRe
 ghost use Rattle.smith_syntax.specs.Entries.{ModuleDecl};
 ghost use Rattle.smith_syntax.specs.ModuleTypes.{HasNewNames, adds, aliased};
 ghost use Rattle.smith_syntax.specs.WellFormed.{FormedCore, FormedDecl, FormedDecls, FormedEntity};
-ghost use Rattle.smith_read_types.specs.Nodes.{shown_core_node, shown_module_node};
+ghost use Rattle.smith_read.specs.Nodes.{shown_core_node, shown_module_node};
 ghost use Rattle.smith_check.specs.Judges.{Decides, Judges};
-ghost use Rattle.smith_read_scopes.specs.Scopes.{own_in};
+ghost use Rattle.smith_scopes.specs.NodeScopes.{own_in};
 ghost use Rattle.smith_check.specs.Preceding.{functions_in};
 ghost use Rattle.smith_check.specs.Taken.{HoldsModule, has_pair};
 ghost use Rattle.smith_check.specs.declared.error.Stop.TheVariants.{OutOfMemory};
@@ -21,11 +21,11 @@ use crate::error::{Checked, Rule, Stop};
 use crate::names::Names;
 use smith_format::{EntityType, FuncType, MemoryType, RefType, TableType};
 use smith_read::{CoreNode, ModuleNode};
-use smith_read_scopes::Scopes;
+use smith_scopes::NodeScopes;
 use std::alloc::Global;
 use std::collections::BTreeSet;
 
-// Are the minimum and the maximum, where there is one, within bounds?
+// Are the minimum and the maximum, if there is one, within bounds?
 fn are_limits(minimum: u64, maximum: Option<u64>) -> bool
     ensures { Decides result (FormedLimits minimum maximum) }
 {
@@ -65,14 +65,14 @@ fn check_table(table: TableType) -> Checked
     }
 }
 
-// The function type of that index among those of a module type.
+// The function type with that index in a module type.
 fn function_at<'a>(own: &[&'a FuncType], index: u32) -> Option<&'a FuncType>
     ensures { option_map (λ f. shown_func f.now) result ≡ slice_get (functions_in own.now) index }
 {
     own.get(index as usize).copied()
 }
 
-// Checks what a module type imports or exports, where these are its function types so far.
+// Checks what a module type imports or exports, given its function types so far.
 fn check_entity(own: &[&FuncType], entity: EntityType) -> Checked
     ensures { Judges result (FormedEntity (functions_in own.now) entity) }
 {
@@ -97,7 +97,7 @@ fn check_entity(own: &[&FuncType], entity: EntityType) -> Checked
 
 // The function type that an outer alias in a module type names.
 fn aliased<'a>(
-    scopes: &Scopes<'a>,
+    scopes: &NodeScopes<'a>,
     own: &[&'a FuncType],
     count: u32,
     index: u32,
@@ -115,8 +115,12 @@ fn aliased<'a>(
     }
 }
 
-// Checks a declaration of a module type, where these are its function types so far.
-fn check_module_decl<'a>(scopes: &Scopes<'a>, own: &[&'a FuncType], decl: &ModuleNode) -> Checked
+// Checks a declaration of a module type, given its function types so far.
+fn check_module_decl<'a>(
+    scopes: &NodeScopes<'a>,
+    own: &[&'a FuncType],
+    decl: &ModuleNode,
+) -> Checked
     ensures { Judges result
         (FormedDecl (own_in scopes.now).core_types (functions_in own.now) (shown_module_node decl.now)) }
 {
@@ -132,9 +136,9 @@ fn check_module_decl<'a>(scopes: &Scopes<'a>, own: &[&'a FuncType], decl: &Modul
     }
 }
 
-// The function type that a declaration adds to those of its module type, if any.
+// The function type that a declaration adds to its module type, if any.
 fn added<'a>(
-    scopes: &Scopes<'a>,
+    scopes: &NodeScopes<'a>,
     own: &[&'a FuncType],
     decl: &'a ModuleNode,
 ) -> Option<&'a FuncType>
@@ -220,7 +224,7 @@ impl<'a> ModuleNames<'a> {
 }
 
 // Checks the declarations of a module type.
-fn check_module<'a>(alloc: Global, scopes: &Scopes<'a>, decls: &'a [ModuleNode]) -> Checked
+fn check_module<'a>(alloc: Global, scopes: &NodeScopes<'a>, decls: &'a [ModuleNode]) -> Checked
     ensures { Judges result (FormedDecls (own_in scopes.now).core_types [] (map shown_module_node decls.now)
         × HasNewNames (map shown_module_node decls.now)) }
 {
@@ -236,7 +240,7 @@ fn check_module<'a>(alloc: Global, scopes: &Scopes<'a>, decls: &'a [ModuleNode])
 }
 
 /// Checks a core type.
-pub(crate) fn check_core<'a>(alloc: Global, scopes: &Scopes<'a>, ty: &'a CoreNode) -> Checked
+pub(crate) fn check_core<'a>(alloc: Global, scopes: &NodeScopes<'a>, ty: &'a CoreNode) -> Checked
     ensures { Judges result (FormedCore (shown_core_node ty.now) (own_in scopes.now).core_types) }
 {
     match ty {

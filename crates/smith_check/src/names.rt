@@ -31,7 +31,7 @@ fn is_inside(byte: u8) -> bool
     is_letter(byte) || is_digit(byte) || byte == b'-'
 }
 
-// May that byte be next, where a word begins, or where it may go on?
+// May that byte be next, at the beginning of a word or within it?
 fn fits(begins: bool, byte: u8) -> bool
     ensures begun { begins ≡ true → Decides result (IsLetter byte) }
     ensures inside { begins ≡ false → Decides result ((IsLetter byte ⊎ IsDigit byte) ⊎ (byte ≡ 45)) }

@@ -7,7 +7,7 @@ ghost use Rattle.smith_tree.specs.WellFormed.{Formed, FormedPart};
 ghost use Rattle.smith_read.specs.PartNodes.{shown_part_node, shown_tree};
 ghost use Rattle.smith_check.specs.Judgement.{Agrees};
 ghost use Rattle.smith_check.specs.Judges.{Judges};
-ghost use Rattle.smith_read_scopes.specs.Scopes.{outer_in, own_in};
+ghost use Rattle.smith_scopes.specs.NodeScopes.{outer_in, own_in};
 ghost use Rattle.smith_check.specs.Preceding.{IsAfter};
 ghost use Rattle.smith_check.specs.Tracks.{IsIn, IsWithin, OnStop, path_of};
 
@@ -16,7 +16,7 @@ use crate::open::Open;
 use crate::sections::{check_canons, check_core_types, check_exports, check_imports, check_types};
 use crate::track::Track;
 use smith_read::{ComponentTree, PartNode};
-use smith_read_scopes::Scopes;
+use smith_scopes::NodeScopes;
 use std::alloc::{AllocError, Global};
 
 // Checks a section, after those before it.
@@ -24,7 +24,7 @@ use std::alloc::{AllocError, Global};
 fn check_part<'a>(
     alloc: Global,
     track: &mut Track,
-    scopes: &mut Scopes<'a>,
+    scopes: &mut NodeScopes<'a>,
     here: &mut Open<'a>,
     part: &'a PartNode,
 ) -> Checked
@@ -39,10 +39,7 @@ fn check_part<'a>(
         (IsIn (path_of track.old) track.new (shown_part_node part.now) (outer_in scopes.old) before) }
 {
     match part {
-        PartNode::Custom {
-            name: _name,
-            contents: _contents,
-        } => Ok(()),
+        PartNode::Custom(_section) => Ok(()),
         PartNode::CoreModule(_text) => Ok(()),
         PartNode::CoreTypes(types) => check_core_types(alloc, track, scopes, types),
         PartNode::Component(parts) => {
@@ -63,7 +60,7 @@ fn check_part<'a>(
 fn check_parts<'a>(
     alloc: Global,
     track: &mut Track,
-    scopes: &mut Scopes<'a>,
+    scopes: &mut NodeScopes<'a>,
     parts: &'a [PartNode],
 ) -> Checked
     requires { own_in scopes.old ≡ empty_scope }
@@ -83,17 +80,17 @@ fn check_parts<'a>(
     Ok(())
 }
 
-/// Judges whether a component is well formed: `WellFormed` exactly where it is, and `IllFormed` exactly where it is
-/// not, with the first rule that it breaks and the place of the entry that breaks it: what precedes that entry is well
-/// formed, and what ends with it is not. Which rule it is, no contract says. An error is returned only where an
-/// allocation failed, and says nothing about the component.
+/// Judges whether a component is well formed: `WellFormed` exactly if it is, and `IllFormed` exactly if it is not, with
+/// the first rule that it breaks and the place of the entry that breaks it: what precedes that entry is well formed,
+/// and what ends with it is not. No contract says which rule it is. An error is returned only if an allocation failed,
+/// and says nothing about the component.
 ///
 /// Each entry is looked at once. The stack is bounded by how deep components and types nest.
 pub fn judged(alloc: Global, component: &ComponentTree) -> Result<Judgement, AllocError>
     ensures { IfOk result (Agrees (shown_tree component.now)) }
 {
     let mut track = Track::new(alloc);
-    let mut scopes = Scopes::new(alloc);
+    let mut scopes = NodeScopes::new(alloc);
     match check_parts(alloc, &mut track, &mut scopes, &component.parts) {
         Ok(()) => Ok(Judgement::WellFormed),
         Err(Stop::OutOfMemory) => Err(AllocError),

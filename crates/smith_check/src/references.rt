@@ -3,15 +3,15 @@
 ghost use Rattle.std.specs.Prelude.{◌≡◌, false};
 ghost use Rattle.smith_syntax.specs.WellFormed.{FormedRef, is_type_eq};
 ghost use Rattle.smith_check.specs.Judges.{Judges};
-ghost use Rattle.smith_read_scopes.specs.Scopes.{own_in};
+ghost use Rattle.smith_scopes.specs.NodeScopes.{own_in};
 
 use crate::error::{Checked, Rule, Stop};
 use smith_read::{CoreNode, TypeNode};
-use smith_read_scopes::Scopes;
+use smith_scopes::NodeScopes;
 use smith_syntax::ComponentTypeRef;
 
 /// Checks what an import or an export is of.
-pub(crate) fn check_reference(scopes: &Scopes<'_>, to: ComponentTypeRef) -> Checked
+pub(crate) fn check_reference(scopes: &NodeScopes<'_>, to: ComponentTypeRef) -> Checked
     ensures { Judges result (FormedRef (own_in scopes.now) to) }
 {
     match to {
@@ -43,7 +43,7 @@ pub(crate) fn check_reference(scopes: &Scopes<'_>, to: ComponentTypeRef) -> Chec
 }
 
 /// Checks what an import is of, which is not a type that is equal to another.
-pub(crate) fn check_imported(scopes: &Scopes<'_>, to: ComponentTypeRef) -> Checked
+pub(crate) fn check_imported(scopes: &NodeScopes<'_>, to: ComponentTypeRef) -> Checked
     ensures { Judges result (FormedRef (own_in scopes.now) to × (is_type_eq to ≡ false)) }
 {
     match to {

@@ -4,13 +4,14 @@ ghost use Rattle.std.specs.Prelude.{◌≡◌, ◌<◌, ◌++◌, ◌∷◌, [],
 ghost use Rattle.std.specs.List.{AllByRecursion};
 ghost use Rattle.smith_syntax.specs.Scope.{Scope as PlainScope, with_core_types, with_types};
 ghost use Rattle.smith_syntax.specs.WellFormed.{FormedCores, FormedTypes, Named};
-ghost use Rattle.smith_read_types.specs.Nodes.{shown_core_node};
-ghost use Rattle.smith_read_types.specs.TypeNodes.{shown_type_node};
-ghost use Rattle.smith_read.specs.PartNodes.{shown_canon_node, shown_export_node, shown_import_node};
+ghost use Rattle.smith_read.specs.Nodes.{shown_core_node};
+ghost use Rattle.smith_read.specs.TypeNodes.{shown_type_node};
+ghost use Rattle.smith_read.specs.PartNodes.{shown_import_node};
+ghost use Rattle.smith_tree.specs.Shown.{shown_canon, shown_export};
 ghost use Rattle.smith_tree.specs.Spaces.{after_canon, after_export, after_import};
 ghost use Rattle.smith_tree.specs.WellFormed.{FormedCanons, FormedExports, FormedImport, export_names, import_names};
 ghost use Rattle.smith_check.specs.Judges.{Judges};
-ghost use Rattle.smith_read_scopes.specs.Scopes.{outer_in, own_in};
+ghost use Rattle.smith_scopes.specs.NodeScopes.{outer_in, own_in};
 ghost use Rattle.smith_check.specs.Preceding.{spaces_in};
 ghost use Rattle.smith_check.specs.Taken.{Knows};
 ghost use Rattle.smith_check.specs.Tracks.{StopsFirst, path_of};
@@ -22,8 +23,8 @@ use crate::open::Open;
 use crate::references::check_imported;
 use crate::track::Track;
 use crate::types::check_type;
-use smith_read::{CanonNode, CoreNode, ExportNode, ImportNode, TypeNode};
-use smith_read_scopes::Scopes;
+use smith_read::{CoreNode, Export, Func, ImportNode, TypeNode};
+use smith_scopes::NodeScopes;
 use smith_syntax::ComponentTypeRef;
 use std::alloc::Global;
 
@@ -31,7 +32,7 @@ use std::alloc::Global;
 pub(crate) fn check_core_types<'a>(
     alloc: Global,
     track: &mut Track,
-    scopes: &mut Scopes<'a>,
+    scopes: &mut NodeScopes<'a>,
     types: &'a [CoreNode],
 ) -> Checked
     requires { track.old.place.entry ≡ 0 }
@@ -55,7 +56,7 @@ pub(crate) fn check_core_types<'a>(
 pub(crate) fn check_types<'a>(
     alloc: Global,
     track: &mut Track,
-    scopes: &mut Scopes<'a>,
+    scopes: &mut NodeScopes<'a>,
     types: &'a [TypeNode],
 ) -> Checked
     requires { track.old.place.entry ≡ 0 }
@@ -79,19 +80,19 @@ pub(crate) fn check_types<'a>(
 /// Checks canonical functions.
 pub(crate) fn check_canons(
     track: &mut Track,
-    scopes: &Scopes<'_>,
+    scopes: &NodeScopes<'_>,
     here: &mut Open<'_>,
-    canons: &[CanonNode],
+    canons: &[Func],
 ) -> Checked
     requires { track.old.place.entry ≡ 0 }
     ensures judged { Judges result
-        (FormedCanons (map shown_canon_node canons.now) (spaces_in (own_in scopes.now) here.old)) }
+        (FormedCanons (map shown_canon canons.now) (spaces_in (own_in scopes.now) here.old)) }
     ensures added { OnOk result (spaces_in (own_in scopes.now) here.new
-        ≡ fold after_canon (spaces_in (own_in scopes.now) here.old) (map shown_canon_node canons.now)) }
+        ≡ fold after_canon (spaces_in (own_in scopes.now) here.old) (map shown_canon canons.now)) }
     ensures names { OnOk result ((here.new.imports ≡ here.old.imports) × (here.new.exports ≡ here.old.exports)) }
     ensures path { path_of track.new ≡ path_of track.old }
     ensures place { StopsFirst result
-        (λ n. FormedCanons (take n (map shown_canon_node canons.now)) (spaces_in (own_in scopes.now) here.old))
+        (λ n. FormedCanons (take n (map shown_canon canons.now)) (spaces_in (own_in scopes.now) here.old))
         track.new.place.entry }
 {
     for canon in canons {
@@ -102,7 +103,7 @@ pub(crate) fn check_canons(
     Ok(())
 }
 
-fn check_import<'a>(scopes: &Scopes<'_>, here: &mut Open<'a>, import: &'a ImportNode) -> Checked
+fn check_import<'a>(scopes: &NodeScopes<'_>, here: &mut Open<'a>, import: &'a ImportNode) -> Checked
     ensures judged { (before : List (List ℕ)) → Knows here.old.imports before → Judges result
         (FormedImport (own_in scopes.now) (shown_import_node import.now)
         × Named (before ++ string_bytes import.now.name ∷ [])) }
@@ -123,7 +124,7 @@ fn check_import<'a>(scopes: &Scopes<'_>, here: &mut Open<'a>, import: &'a Import
 /// Checks imports.
 pub(crate) fn check_imports<'a>(
     track: &mut Track,
-    scopes: &Scopes<'_>,
+    scopes: &NodeScopes<'_>,
     here: &mut Open<'a>,
     imports: &'a [ImportNode],
 ) -> Checked
@@ -148,16 +149,16 @@ pub(crate) fn check_imports<'a>(
     Ok(())
 }
 
-fn check_export<'a>(here: &mut Open<'a>, export: &'a ExportNode) -> Checked
+fn check_export<'a>(here: &mut Open<'a>, export: &'a Export) -> Checked
     ensures judged { (before : List (List ℕ)) → Knows here.old.exports before → Judges result
-        ((export.now.func < length here.old.functions.items) × Named (before ++ string_bytes export.now.name ∷ [])) }
+        ((export.now.func_index < length here.old.functions.items) × Named (before ++ string_bytes export.now.name ∷ [])) }
     ensures known { (before : List (List ℕ)) → Knows here.old.exports before
         → OnOk result (Knows here.new.exports (before ++ string_bytes export.now.name ∷ [])) }
     ensures added { (own : PlainScope) → OnOk result
-        (spaces_in own here.new ≡ after_export (spaces_in own here.old) (shown_export_node export.now)) }
+        (spaces_in own here.new ≡ after_export (spaces_in own here.old) (shown_export export.now)) }
     ensures imports { here.new.imports ≡ here.old.imports }
 {
-    let Some(ty) = here.functions.get(export.func as usize).copied() else {
+    let Some(ty) = here.functions.get(export.func_index as usize).copied() else {
         return Err(Stop::IllFormed(Rule::NoFunction));
     };
     here.exports.add(&export.name)?;
@@ -169,21 +170,21 @@ fn check_export<'a>(here: &mut Open<'a>, export: &'a ExportNode) -> Checked
 pub(crate) fn check_exports<'a>(
     track: &mut Track,
     here: &mut Open<'a>,
-    exports: &'a [ExportNode],
+    exports: &'a [Export],
 ) -> Checked
     requires { track.old.place.entry ≡ 0 }
     ensures judged { (own : PlainScope) (before : List (List ℕ)) → Knows here.old.exports before → Judges result
-        (FormedExports (map shown_export_node exports.now) (spaces_in own here.old)
-        × Named (before ++ export_names (map shown_export_node exports.now))) }
+        (FormedExports (map shown_export exports.now) (spaces_in own here.old)
+        × Named (before ++ export_names (map shown_export exports.now))) }
     ensures known { (before : List (List ℕ)) → Knows here.old.exports before
-        → OnOk result (Knows here.new.exports (before ++ export_names (map shown_export_node exports.now))) }
+        → OnOk result (Knows here.new.exports (before ++ export_names (map shown_export exports.now))) }
     ensures added { (own : PlainScope) → OnOk result (spaces_in own here.new
-        ≡ fold after_export (spaces_in own here.old) (map shown_export_node exports.now)) }
+        ≡ fold after_export (spaces_in own here.old) (map shown_export exports.now)) }
     ensures imports { here.new.imports ≡ here.old.imports }
     ensures path { path_of track.new ≡ path_of track.old }
     ensures place { (own : PlainScope) (before : List (List ℕ)) → Knows here.old.exports before → StopsFirst result
-        (λ n. FormedExports (take n (map shown_export_node exports.now)) (spaces_in own here.old)
-        × Named (before ++ export_names (take n (map shown_export_node exports.now)))) track.new.place.entry }
+        (λ n. FormedExports (take n (map shown_export exports.now)) (spaces_in own here.old)
+        × Named (before ++ export_names (take n (map shown_export exports.now)))) track.new.place.entry }
 {
     for export in exports {
         check_export(here, export)?;

@@ -1,21 +1,21 @@
-//! Where a check is.
+//! Where a walk over the sections of a component is.
 
-ghost use Rattle.std.specs.Prelude.{◌≡◌, ◌<◌, ◌+◌, ◌-◌, ◌^◌, ◌++◌, ◌∷◌, [], ℕ, List, IfErr, OnOk};
+ghost use Rattle.std.specs.Prelude.{◌≡◌, ◌<◌, ◌+◌, ◌-◌, ◌^◌, ◌++◌, ◌∷◌, [], ℕ, List, OnOk};
 ghost use Rattle.smith_check.specs.Tracks.{path_of};
-ghost use Rattle.smith_check.specs.declared.error.Stop.TheVariants.{OutOfMemory};
 
-use crate::error::{Checked, Place};
-use std::alloc::Global;
+use crate::error::Place;
+use std::alloc::{AllocError, Global};
 
-/// Where a check is: at the end of these sections, one within another.
+/// Where a walk over the sections of a component is: in these sections, one within another, at an entry of the last
+/// of them. Public only for the crates above.
 #[derive(Drop)]
-pub(crate) struct Track {
-    pub(crate) place: Place,
+pub struct Track {
+    pub place: Place,
 }
 
 impl Track {
     /// Before a component.
-    pub(crate) fn new(alloc: Global) -> Track
+    pub fn new(alloc: Global) -> Track
         ensures { path_of result ≡ [] }
     {
         let sections = Vec::new(alloc);
@@ -25,8 +25,7 @@ impl Track {
     }
 
     /// At the first section of a component.
-    pub(crate) fn enter(&mut self) -> Checked
-        ensures memory { IfErr result (λ e. e ≡ OutOfMemory) }
+    pub fn enter(&mut self) -> Result<(), AllocError>
         ensures path { OnOk result (path_of self.new ≡ path_of self.old ++ 0 ∷ []) }
         ensures entry { OnOk result (self.new.place.entry ≡ 0) }
     {
@@ -36,7 +35,7 @@ impl Track {
     }
 
     /// After the last section of a component.
-    pub(crate) fn leave(&mut self)
+    pub fn leave(&mut self)
         ensures { (path : List ℕ) (section : ℕ) → path_of self.old ≡ path ++ section ∷ [] → path_of self.new ≡ path }
     {
         self.place.sections.pop();
@@ -44,7 +43,7 @@ impl Track {
     }
 
     /// At the next entry.
-    pub(crate) fn next_entry(&mut self)
+    pub fn next_entry(&mut self)
         ensures path { path_of self.new ≡ path_of self.old }
         ensures entry { self.old.place.entry < 2 ^ 64 - 1 → self.new.place.entry ≡ self.old.place.entry + 1 }
     {
@@ -52,7 +51,7 @@ impl Track {
     }
 
     /// At the next section.
-    pub(crate) fn next_section(&mut self)
+    pub fn next_section(&mut self)
         ensures path { (path : List ℕ) (section : ℕ) → path_of self.old ≡ path ++ section ∷ [] → section < 2 ^ 64 - 1
             → path_of self.new ≡ path ++ (section + 1) ∷ [] }
         ensures entry { self.new.place.entry ≡ 0 }

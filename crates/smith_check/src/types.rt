@@ -1,4 +1,4 @@
-//! Types of all sorts, those of components and of instances among them.
+//! Types of all sorts, component and instance types among them.
 
 ghost use Rattle.std.specs.Prelude.{◌≡◌, ◌<◌, length, ◌∷◌, ◌++◌, [], List, map, option_map, IfErr, OnOk};
 ghost use Rattle.std.specs.Option.{option_to_list};
@@ -6,11 +6,11 @@ ghost use Rattle.smith_syntax.specs.Entries.{in_order};
 ghost use Rattle.smith_syntax.specs.Scope.{after_decl, empty_scope, with_core_types, with_types};
 ghost use Rattle.smith_syntax.specs.WellFormed.{FormedDeclaration, FormedDeclarations, FormedEntry};
 ghost use Rattle.smith_syntax.specs.WellFormed.{decl_imports, import_of};
-ghost use Rattle.smith_read_types.specs.Nodes.{shown_core_node};
-ghost use Rattle.smith_read_types.specs.declared.nodes.DeclNode.{DeclNode};
-ghost use Rattle.smith_read_types.specs.TypeNodes.{shown_decl_node, shown_type_node};
+ghost use Rattle.smith_read.specs.Nodes.{shown_core_node};
+ghost use Rattle.smith_read.specs.declared.type_nodes.DeclNode.{DeclNode};
+ghost use Rattle.smith_read.specs.TypeNodes.{shown_decl_node, shown_type_node};
 ghost use Rattle.smith_check.specs.Judges.{Decides, Judges};
-ghost use Rattle.smith_read_scopes.specs.Scopes.{outer_in, own_in};
+ghost use Rattle.smith_scopes.specs.NodeScopes.{outer_in, own_in};
 ghost use Rattle.smith_check.specs.Taken.{KnowsDeclared, NamedDeclared};
 ghost use Rattle.smith_check.specs.declared.error.Stop.TheVariants.{OutOfMemory};
 
@@ -20,7 +20,7 @@ use crate::names::Names;
 use crate::references::{check_imported, check_reference};
 use crate::values::{check_defined, check_signature};
 use smith_read::{DeclNode, TypeNode};
-use smith_read_scopes::Scopes;
+use smith_scopes::NodeScopes;
 use std::alloc::Global;
 
 // The names that a component type or an instance type imports, and those that it exports.
@@ -41,7 +41,7 @@ impl<'a> DeclaredNames<'a> {
     }
 
     // Adds the name of a declaration, if it has one, which has to be in kebab case and new.
-    #[tactic(auto, using(smith_read_types::proofs::ShownNodes::shown_nodes))]
+    #[tactic(auto, using(smith_read::proofs::ShownNodes::shown_nodes))]
     fn add(&mut self, decl: &'a DeclNode) -> Checked
         ensures judged { (before : List DeclNode) → KnowsDeclared self.old before
             → Judges result (NamedDeclared (before ++ decl.now ∷ [])) }
@@ -66,7 +66,7 @@ impl<'a> DeclaredNames<'a> {
 }
 
 // Does it import something?
-#[tactic(auto, using(smith_read_types::proofs::ShownNodes::shown_nodes))]
+#[tactic(auto, using(smith_read::proofs::ShownNodes::shown_nodes))]
 fn is_import(decl: &DeclNode) -> bool
     ensures { Decides result (0 < length (import_of (shown_decl_node decl.now))) }
 {
@@ -94,8 +94,12 @@ fn check_no_imports(decls: &[DeclNode]) -> Checked
 
 /// Checks a type.
 #[cycle(types)]
-#[tactic(auto, using(smith_read_types::proofs::ShownNodes::shown_nodes))]
-pub(crate) fn check_type<'a>(alloc: Global, scopes: &mut Scopes<'a>, ty: &'a TypeNode) -> Checked
+#[tactic(auto, using(smith_read::proofs::ShownNodes::shown_nodes))]
+pub(crate) fn check_type<'a>(
+    alloc: Global,
+    scopes: &mut NodeScopes<'a>,
+    ty: &'a TypeNode,
+) -> Checked
     ensures judged { Judges result (FormedEntry (shown_type_node ty.now) (own_in scopes.old) (outer_in scopes.old)) }
     ensures own { OnOk result (own_in scopes.new ≡ own_in scopes.old) }
     ensures outer { OnOk result (outer_in scopes.new ≡ outer_in scopes.old) }
@@ -113,8 +117,8 @@ pub(crate) fn check_type<'a>(alloc: Global, scopes: &mut Scopes<'a>, ty: &'a Typ
 
 // Checks a declaration of a component type or an instance type.
 #[cycle(types)]
-#[tactic(auto, using(smith_read_types::proofs::ShownNodes::shown_nodes))]
-fn check_decl<'a>(alloc: Global, scopes: &mut Scopes<'a>, decl: &'a DeclNode) -> Checked
+#[tactic(auto, using(smith_read::proofs::ShownNodes::shown_nodes))]
+fn check_decl<'a>(alloc: Global, scopes: &mut NodeScopes<'a>, decl: &'a DeclNode) -> Checked
     ensures judged { Judges result
         (FormedDeclaration (shown_decl_node decl.now) (own_in scopes.old) (outer_in scopes.old)) }
     ensures own { OnOk result (own_in scopes.new ≡ own_in scopes.old) }
@@ -138,8 +142,8 @@ fn check_decl<'a>(alloc: Global, scopes: &mut Scopes<'a>, decl: &'a DeclNode) ->
 
 // Checks the declarations of a component type or an instance type, in a scope of their own.
 #[cycle(types)]
-#[tactic(auto, using(smith_read_types::proofs::ShownNodes::shown_nodes))]
-fn check_decls<'a>(alloc: Global, scopes: &mut Scopes<'a>, decls: &'a [DeclNode]) -> Checked
+#[tactic(auto, using(smith_read::proofs::ShownNodes::shown_nodes))]
+fn check_decls<'a>(alloc: Global, scopes: &mut NodeScopes<'a>, decls: &'a [DeclNode]) -> Checked
     ensures judged { Judges result
         (FormedDeclarations (in_order (map shown_decl_node decls.now)) empty_scope
         (own_in scopes.old ∷ outer_in scopes.old) × NamedDeclared decls.now) }

@@ -7,51 +7,18 @@ ghost use Rattle.smith_syntax.specs.Shown.{shown_defined};
 ghost use Rattle.smith_syntax.specs.WellFormed.{FormedDefined, FormedEntry, FormedMaybe, FormedVal, Named};
 ghost use Rattle.smith_syntax.specs.declared.types.ComponentValType.{ComponentValType};
 ghost use Rattle.smith_check.specs.Judges.{Judges};
-ghost use Rattle.smith_read_scopes.specs.Scopes.{outer_in, own_in};
+ghost use Rattle.smith_scopes.specs.NodeScopes.{outer_in, own_in};
 
 use crate::error::{Checked, Rule, Stop};
 use crate::names::check_names;
 use smith_input::Labelled;
 use smith_read::TypeNode;
-use smith_read_scopes::Scopes;
-use smith_syntax::{ComponentValType, DefinedType, FuncType};
+use smith_scopes::NodeScopes;
+use smith_syntax::{ComponentValType, DefinedType, FuncType, Valued};
 use std::alloc::Global;
 
-/// A member, which has a value type or none.
-pub(crate) trait Valued {
-    ghost value: { Self → Option ComponentValType };
-
-    /// Its value type.
-    fn value(&self) -> Option<ComponentValType>
-        ensures { result ≡ value self.now };
-}
-
-impl Valued for ComponentValType {
-    ghost value = { λ v. Some v };
-
-    fn value(&self) -> Option<ComponentValType> {
-        Some(*self)
-    }
-}
-
-impl Valued for (String, ComponentValType) {
-    ghost value = { λ p. Some p.1 };
-
-    fn value(&self) -> Option<ComponentValType> {
-        Some(self.1)
-    }
-}
-
-impl Valued for (String, Option<ComponentValType>) {
-    ghost value = { λ p. p.1 };
-
-    fn value(&self) -> Option<ComponentValType> {
-        self.1
-    }
-}
-
 // Checks a value type in use.
-fn check_value(scopes: &Scopes<'_>, ty: ComponentValType) -> Checked
+fn check_value(scopes: &NodeScopes<'_>, ty: ComponentValType) -> Checked
     ensures { Judges result (FormedVal (own_in scopes.now) ty) }
 {
     match ty {
@@ -65,7 +32,7 @@ fn check_value(scopes: &Scopes<'_>, ty: ComponentValType) -> Checked
 }
 
 // Checks a value type in use, if there is one.
-fn check_maybe(scopes: &Scopes<'_>, ty: Option<ComponentValType>) -> Checked
+fn check_maybe(scopes: &NodeScopes<'_>, ty: Option<ComponentValType>) -> Checked
     ensures { Judges result (FormedMaybe (own_in scopes.now) ty) }
 {
     match ty {
@@ -75,7 +42,7 @@ fn check_maybe(scopes: &Scopes<'_>, ty: Option<ComponentValType>) -> Checked
 }
 
 // Checks the value types of members.
-fn check_values<T: Valued>(scopes: &Scopes<'_>, items: &[T]) -> Checked
+fn check_values<T: Valued>(scopes: &NodeScopes<'_>, items: &[T]) -> Checked
     ensures { Judges result (AllByRecursion (FormedMaybe (own_in scopes.now)) (map T.value items.now)) }
 {
     for item in items {
@@ -104,7 +71,11 @@ fn check_labels(alloc: Global, items: &[String], most: usize) -> Checked
 }
 
 // Checks members with names and value types, from 1 to 100.
-fn check_members<T: Labelled + Valued>(alloc: Global, scopes: &Scopes<'_>, items: &[T]) -> Checked
+fn check_members<T: Labelled + Valued>(
+    alloc: Global,
+    scopes: &NodeScopes<'_>,
+    items: &[T],
+) -> Checked
     ensures { Judges result (Named (map T.text items.now)
         × AllByRecursion (FormedMaybe (own_in scopes.now)) (map T.value items.now)
         × (1 ≤ length items.now) × (length items.now ≤ 100)) }
@@ -115,7 +86,7 @@ fn check_members<T: Labelled + Valued>(alloc: Global, scopes: &Scopes<'_>, items
 }
 
 // Checks members without names, from 1 to 100.
-fn check_tuple(scopes: &Scopes<'_>, items: &[ComponentValType]) -> Checked
+fn check_tuple(scopes: &NodeScopes<'_>, items: &[ComponentValType]) -> Checked
     ensures { Judges result (AllByRecursion (FormedVal (own_in scopes.now)) items.now
         × (1 ≤ length items.now) × (length items.now ≤ 100)) }
 {
@@ -125,7 +96,7 @@ fn check_tuple(scopes: &Scopes<'_>, items: &[ComponentValType]) -> Checked
 
 // Checks the two types of a result.
 fn check_both(
-    scopes: &Scopes<'_>,
+    scopes: &NodeScopes<'_>,
     ok: Option<ComponentValType>,
     err: Option<ComponentValType>,
 ) -> Checked
@@ -136,7 +107,7 @@ fn check_both(
 }
 
 /// Checks a type of values.
-pub(crate) fn check_defined(alloc: Global, scopes: &Scopes<'_>, ty: &DefinedType) -> Checked
+pub(crate) fn check_defined(alloc: Global, scopes: &NodeScopes<'_>, ty: &DefinedType) -> Checked
     ensures { Judges result (FormedDefined (shown_defined ty.now) (own_in scopes.now)) }
 {
     match ty {
@@ -153,7 +124,7 @@ pub(crate) fn check_defined(alloc: Global, scopes: &Scopes<'_>, ty: &DefinedType
 }
 
 /// Checks a type of functions.
-pub(crate) fn check_signature(alloc: Global, scopes: &Scopes<'_>, ty: &FuncType) -> Checked
+pub(crate) fn check_signature(alloc: Global, scopes: &NodeScopes<'_>, ty: &FuncType) -> Checked
     ensures { Judges result (FormedEntry (function ty.now) (own_in scopes.now) (outer_in scopes.now)) }
 {
     if ty.params.len() > 16 {

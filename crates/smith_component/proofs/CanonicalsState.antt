@@ -41,7 +41,8 @@ use Rattle.smith_component.specs.Canonicals.{LiftsTo, to_equal, to_defined, give
 use Rattle.smith_component.specs.CanonicalsState.{CanonicalsState, DraftsOn, IsDraftIn, IsDrafted, IsLowered, KeepsFront, ReadsLiftedTypeOf, SameLoans}
 use Rattle.smith_component.specs.CanonicalsState.{draft_of, growing}
 use Rattle.smith_component.specs.SectionValues.{externs_in, externs_of}
-use Rattle.smith_component.specs.Shown.{shown_canon, shown_sections}
+use Rattle.smith_component.specs.Shown.{shown_sections}
+use Rattle.smith_tree.specs.Shown.{shown_canon}
 use Rattle.smith_component.specs.Tables.{AddsCoreFunction, AddsFunction, IsLowerable, Tabled, functions_at}
 use Rattle.smith_tree.specs.Marking.{marked_in, marked_inner, with_type_entry}
 use Rattle.smith_tree.specs.Spaces.{spaces_of}
@@ -51,8 +52,8 @@ use Rattle.smith_tree.specs.WellFormed.{scope_of}
 use Rattle.smith_component.specs.declared.builder.canonicals.CanonicalDraft.{CanonicalDraft}
 use Rattle.smith_component.specs.declared.builder.open.OpenComponent.{OpenComponent}
 use Rattle.smith_component.specs.declared.builder.tables.Tables.{Tables}
-use Rattle.smith_component.specs.declared.component.Func.{Func}
-use Rattle.smith_component.specs.declared.component.Func.TheVariants.{CanonLift, CanonLower}
+use Rattle.smith_tree.specs.declared.entries.Func.{Func}
+use Rattle.smith_tree.specs.declared.entries.Func.TheVariants.{CanonLift, CanonLower}
 use Rattle.smith_component.specs.declared.component.Section.{Section}
 use Rattle.smith_tree.specs.declared.choices.CanonItem.{CanonItem}
 use Rattle.smith_component.proofs.ReadsCanons.{canon_count, empty_count, signature_count, spaces_signature, with_signature}
@@ -76,7 +77,7 @@ growing_more old new fs gs f e more =
 exports_canon : (s : Growing) (c : Canon) → exports_of (grown (with_canon s c)) ≡ exports_of (grown s)
 exports_canon s c = exports_canons s.before (s.funcs ++ c ∷ []) ∙ sym (exports_canons s.before s.funcs)
 
--- The tables, where the section has one more function.
+-- The tables, when the section has one more function.
 
 tabled_lower : {old new : Tables} (s : Growing) (f : ℕ) → IsScalarFunction (spaces_at s) f → Tabled old (grown s) → AddsCoreFunction old f new
     → Tabled new (grown (with_canon s (lower f)))
@@ -99,7 +100,7 @@ tabled_signature s signature tabled =
     tabled_types (grown s) (grown (with_signature s signature)) es tabled (ap (λ z. z.types) e) (ap (λ z. z.functions) e) (ap (λ z. z.core_functions) e)
     (signature_count s signature) (exports_canons (add (grown s) (types es)) [] ∙ exports_types (grown s) es)
 
--- What is kept of the component, where the section has one more function, and where a type and another section follow it.
+-- What is kept of the component, when the section has one more function, and when a type and another section follow it.
 module _ (config : Config) (around : List Tree) where
   marked_section : (s : Growing) → marked_inner config around (grown s) ≡ marked_inner config around s.before
   marked_section s = marked_add config (marked_in config around) s.before (canons s.funcs)
@@ -311,7 +312,7 @@ module _ (draft : CanonicalDraft) (around : List Tree) (d : IsDraftIn around dra
         → next ≡ s → ReadsLift config s b rest next
     lift_given_up none full left e = lift_reads (given_up (none_equal none) (omega (arith, full, ap (λ z. length z.types) own)) left e)
 
-  -- It stays a draft where a core function is lifted to a type that is there.
+  -- It stays a draft if a core function is lifted to a type that is there.
   pub lift_draft : (new : OpenComponent) (more : List Func) (c t : ℕ) → t < length (own_scope held).types
       → AddsFunction (own_scope held) 1 tables t new.tables → growing new more ≡ with_canon s (lift c t)
       → CanonicalsState draft.config.now around held new more
@@ -322,7 +323,7 @@ module _ (draft : CanonicalDraft) (around : List Tree) (d : IsDraftIn around dra
     tabled = subst (λ z. Tabled new.tables (grown z)) (sym e) (tabled_lift s c t own known d.tabled adds);
   }
 
-  -- It stays one where the type is defined.
+  -- It stays one if the type is defined.
   module _ (after : List Contents) (new : OpenComponent) (more : List Func) (c t : ℕ) (signature : Signature) (ty : DefType) (m : Mark)
       (shows : shown_type ty ≡ function signature) (grows : AddsMarked held ty m after)
       (is_mark : (last_of held).keeps ≡ true → m ≡ mark {N = Unit {0}} {K = Unit {0}} (function signature) (own_marked held) (outer_marked held))

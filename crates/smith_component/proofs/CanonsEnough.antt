@@ -1,4 +1,4 @@
--- Canonical sections make as many functions as they must, where one can be lowered and there is room for the types that lifts define.
+-- Canonical sections make as many functions as they must, if one can be lowered and there is room for the types that lifts define.
 use Rattle.std.proofs.Common.{◌≡◌, ℕ, ◌+◌, ◌-◌, ◌<◌, ◌≤◌, Bool, true, false, List, [], ◌∷◌, length, length-append, sym, ap, ◌∙◌, subst, arith, ⊎_elim, nat_lt}
 use Rattle.std.proofs.lemmas.Bool.{cases_lt, false≢true}
 use Rattle.std.proofs.lemmas.Bool.Decides.{nat_tests}
@@ -49,7 +49,7 @@ signature_grounds s signature g = subst Grounded (sym (spaces_signature s signat
 empty_grounds : (t : Tree) → IsGrounded t → Grounded (spaces_at (empty_section t))
 empty_grounds t g = subst Grounded (sym (spaces-add t (canons []))) (grounded_spaces t g)
 
--- What holds where functions are filled: while fewer turns are made than must be, each adds a function, and there is room for a type.
+-- What holds while functions are filled: while fewer turns are made than must be, each adds a function, and there is room for a type.
 record Filling (config : Config) (least : ℕ) (t : Tree) (n : ℕ) (s : Growing) : Type 0 where
   pub grounded : Grounded (spaces_at s)
   pub some : 0 < length (scalar_functions (spaces_at s))
@@ -105,7 +105,7 @@ module _ (config : Config) (least : ℕ) (t : Tree) where
       subst (Filling config least t (n + 1)) (sym e) (record
       { grounded = f.grounded; some = f.some; room = omega (arith, f.room); enough = omega (arith, f.enough, f.room, full) })
 
-  -- As many functions are added as must be, where one can be lowered and there is room for the types that lifts define.
+  -- As many functions are added as must be, if one can be lowered and there is room for the types that lifts define.
   pub canons_enough : {b : List ℕ} {turns : List CanonItem} {rest : List ℕ} {next : Growing} → ReadsCanons config least t b turns rest next → IsGrounded t
       → least ≤ config.max_funcs - function_count t → 0 < length (scalar_functions (spaces_of t))
       → length (types_of t) + least ≤ config.max_types → function_count t + least ≤ function_count (grown next)

@@ -2,7 +2,6 @@
 use Rattle.std.proofs.Common.{◌≡◌, ℕ, zero, suc, List, length, sym, ap, ◌∙◌, subst, arith, inl, inr}
 use Rattle.smith_input.specs.Choices.{ReadsAmong}
 use Rattle.smith_input.proofs.Choices.{among_same}
-use Rattle.smith_input.proofs.ReadsTexts.{bytes_unique, text_unique}
 use Rattle.smith_format.specs.declared.config.Config.{Config}
 use Rattle.smith_core.proofs.StandInSame.{stand_in_same}
 use Rattle.smith_component.specs.Canonicals.{grown}
@@ -12,7 +11,7 @@ use Rattle.smith_component.specs.Refusals.{RunReaches, LacksOn, RefusesModuleOn}
 use Rattle.smith_format.specs.Piece.{bytes_of}
 use Rattle.smith_tree.specs.Tree.{Tree, custom, core_module, core_types, types, imports, exports, add, imports_of, function_count}
 use Rattle.smith_component.specs.Turn.{Next, building, answered, Closes, Does, Turn, LacksAt, RefusesModuleAt, with_part}
-use Rattle.smith_component.specs.AddedSections.{ReadsCustom, Adds}
+use Rattle.smith_component.specs.AddedSections.{Adds}
 use Rattle.smith_component.specs.Fills.{Fills, FillsAll, Lacks, of_imports, of_functions}
 use Rattle.smith_component.specs.Runs.{Turns, RunsTo}
 use Rattle.smith_component.specs.declared.item.Counted.{Counted}
@@ -25,6 +24,7 @@ use Rattle.smith_component.proofs.ImportsSame.{imports_same}
 use Rattle.smith_component.proofs.ReadsCoreTypes.{core_types_same}
 use Rattle.smith_component.proofs.ReadsTypes.{types_same}
 use Rattle.smith_component.proofs.Turn.{closes_same}
+use Rattle.smith_tree.proofs.ReadsCustom.{custom_same}
 
 -- sections with a minimum
 
@@ -47,7 +47,7 @@ fill_same what config stack b t u r q (inl (few, e, l)) (inr (lacks, a)) = absur
 fill_same what config stack b t u r q (inr (lacks, a)) (inl (few, e, l)) = absurd (omega (arith, few, lacks))
 fill_same what config stack b t u r q (inr (lacks, a)) (inr (lack, c)) = adds_same what config _ stack b t u r q a c
 
--- the same where what was filled before is known by equations
+-- the same when what was filled before is known by equations
 fill_then : (what : Counted) (config : Config) (stack : Open) (a c : Tree) (b d : List ℕ) (t u : Tree) (r q : List ℕ) → (a ≡ c) × (b ≡ d)
     → Fills what config (with_inner stack a) b t r → Fills what config (with_inner stack c) d u q → (t ≡ u) × (r ≡ q)
 fill_then what config stack a c b d t u r q e f g =
@@ -87,13 +87,6 @@ module _ {config : Config} {stack : Open} {b : List ℕ} where
   lacks_same {r} {q} (of_functions {imported = imported} {full = full} {low = low} t i enough g less)
       (of_functions {imported = other} {full = filled} {low = left} s j some h few) =
       (fill_then counted.Functions config stack imported other low left full filled r q (filled_imports t i s j) g h).1
-
-pub custom_same : {b name contents r other held q : List ℕ} → ReadsCustom b name contents r → ReadsCustom b other held q
-    → (name ≡ other) × (contents ≡ held) × (r ≡ q)
-custom_same (mid, t, bs) (low, s, cs) =
-    let a = text_unique t s in
-    let c = bytes_unique bs cs a.1 in
-    (a.0, c.0, c.1)
 
 -- What an item does is decided.
 pub does_same : (config : Config) (item : Item) (stack : Open) (b : List ℕ) (n m : Next) (r q : List ℕ) → Does config item stack b n r
@@ -136,7 +129,7 @@ pub turn_same : {config : Config} {stack : Open} {left : List ℕ} {n m : Next} 
     → (n ≡ m) × (r ≡ q)
 turn_same {config} {stack} {left} {n} {m} {r} {q} x y = does_same config y.item stack y.after n m r q (does_at y.chooses x) y.does
 
--- The rest of a run, from where one turn leads, is that from where the other leads.
+-- The rest of a run is the same from where one turn leads as from where the other leads.
 pub moves : (config : Config) (n m : Next) (a b : List ℕ) (next : Next) (rest : List ℕ) (k : ℕ) → (n ≡ m) × (a ≡ b) → Turns config n a next rest k
     → Turns config m b next rest k
 moves config n m a b next rest k e t =

@@ -1,4 +1,4 @@
--- What the program keeps of the scopes, where a type or a core type of a section is added to the last of them.
+-- What the program keeps of the scopes, when a type or a core type of a section is added to the last of them.
 use Rattle.std.proofs.Common.{◌≡◌, ℕ, List, map, true, sym, ap, ◌∙◌}
 use Rattle.smith_syntax.specs.Entries.{CoreEntry}
 use Rattle.smith_syntax.specs.Marked.{Marked, mark}

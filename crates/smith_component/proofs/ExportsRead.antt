@@ -39,7 +39,7 @@ module _ (config : Config) (outer : List Tree) (t : Tree) where
   names_count : (s : List ExportEntry) → length (names_at s) ≡ length (exports_of t) + length s
   names_count s = length-map (exports_of t ++ s) (λ (e : ExportEntry). e.name) ∙ length-append (exports_of t) s
 
-  -- What may be exported, where there is room.
+  -- What may be exported, if there is room.
   open_functions : (s : List ExportEntry) → has_room (marked_inner config outer (with_exports t s)) false ≡ true
       → export_functions config outer t s ≡ functions_of (with_exports t s)
   open_functions s room = ap (λ b. if b then functions_of (with_exports t s) else []) room

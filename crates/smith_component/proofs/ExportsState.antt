@@ -22,14 +22,14 @@ use Rattle.smith_tree.proofs.Marking.{scope_marked}
 use Rattle.smith_tree.specs.Marking.{marked_in, marked_inner, with_exports_entry}
 use Rattle.smith_tree.specs.Offers.{export_functions, is_scalar_type, with_exports}
 use Rattle.smith_tree.specs.TypeOffers.{has_room}
-use Rattle.smith_component.specs.Shown.{shown_export}
+use Rattle.smith_tree.specs.Shown.{shown_export}
 use Rattle.smith_tree.specs.Spaces.{spaces_of, types_of}
 use Rattle.smith_tree.specs.Functions.{functions_of}
 use Rattle.smith_component.specs.Tables.{AddsFunction, IsKnown}
 use Rattle.smith_tree.specs.Tree.{ExportEntry, Tree, exports, exports_in, exports_of, function_count}
 use Rattle.smith_tree.specs.WellFormed.{export_names, scope_of}
 use Rattle.smith_component.specs.declared.builder.tables.Tables.{Tables}
-use Rattle.smith_component.specs.declared.component.Export.{Export}
+use Rattle.smith_tree.specs.declared.entries.Export.{Export}
 use Rattle.smith_component.proofs.Growth.{exports_keep, scope_bare, spaces_export}
 use Rattle.smith_component.proofs.Marks.{exports_marked_more}
 use Rattle.smith_component.proofs.Named.{names_with_more}
@@ -50,7 +50,7 @@ known_at own tables f ty known below at =
     let there : slice_get tables.functions.items f ≡ Some ty = slice_get-get_or tables.functions.items f ty below ∙ ap Some (sym at) in
     all_at (λ t. t < length own.types) tables.functions.items f ty known there
 
--- The scope of the component by itself stays, where the section has exports.
+-- The scope of the component by itself stays, when the section has exports.
 pub exports_scope : (config : Config) (outer : List Tree) (t : Tree) (es : List ExportEntry)
     → scope_in (marked_inner config outer (with_exports t es)) ≡ scope_of t
 exports_scope config outer t es =
@@ -64,11 +64,11 @@ module _ (config : Config) (outer : List Tree) (t : Tree) (es : List ExportEntry
   names_are : export_names (exports_of now) ≡ export_names (exports_of t ++ es)
   names_are = ap export_names (own-add exports_in t (exports es))
 
-  -- What may be exported, where there is room.
+  -- What may be exported, if there is room.
   pub functions_there : has_room own false ≡ true → export_functions config outer t es ≡ functions_of now
   functions_there room = ap (λ b. if b then functions_of now else []) (ap (λ m. has_room m false) (sym h.scope_is) ∙ room)
 
-  -- None may be where there is none, or no room.
+  -- None may be if there is none, or no room.
 
   pub none_there : tables.functions.items ≡ [] → export_functions config outer t es ≡ []
   none_there none = by_room (has_room (marked_inner config outer now) false)

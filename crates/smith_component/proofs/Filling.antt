@@ -1,4 +1,4 @@
--- What is filled: nothing where nothing is missing, and all that is missing where it can be.
+-- What is filled: nothing if nothing is missing, and all that is missing if it can be.
 use Rattle.std.proofs.Common.{◌≡◌, ℕ, ◌+◌, ◌-◌, ◌*◌, ◌<◌, ◌≤◌, true, List, fold, length, arith, sym, ap, ◌∙◌, subst, inl, inr}
 use Rattle.std.specs.List.{AllByRecursion}
 use Rattle.smith_format.specs.Consistency.{IsConsistent}
@@ -26,14 +26,14 @@ use Rattle.smith_component.proofs.Sound.{own_limits_of}
 use Rattle.smith_component.specs.Sound.{Sound}
 use Rattle.smith_component.proofs.Tree.{function_count-add, length-own-add}
 
--- where there are enough, nothing is filled
+-- if there are enough, nothing is filled
 fill_none : (what : Counted) (config : Config) (stack : Open) (b : List ℕ) (t : Tree) (rest : List ℕ) → minimum_of what config ≤ count_of what stack.inner
     → Fills what config stack b t rest → (t ≡ stack.inner) × (rest ≡ b)
 fill_none what config stack b t rest few (inl (h, e, l)) = (e, l)
 fill_none what config stack b t rest few (inr (lacks, a)) = absurd (omega (arith, few, lacks))
 
 module _ (config : Config) where
-  -- types and imports, where neither is missing
+  -- types and imports, if neither is missing
   neither : (stack : Open) (b : List ℕ) (typed : Tree) (mid : List ℕ) (imported : Tree) (low : List ℕ) → config.min_types ≤ length (types_of stack.inner)
       → config.min_imports ≤ length (imports_of stack.inner)
       → Fills counted.Types config stack b typed mid → Fills counted.Imports config (with_inner stack typed) mid imported low
@@ -95,7 +95,7 @@ module _ (config : Config) where
       { imports = omega (arith, ap (λ t. length (imports_of t)) e); functions = omega (arith, ap (λ t. function_count t) e) }
   imported_is stack b imported low (inr (lacks, (is, reads, e))) = with_imports stack.inner imported is e
 
-  -- Where there are enough imports, none is missing.
+  -- If there are enough imports, none is missing.
   enough_imports : (stack : Open) (b : List ℕ) (typed : Tree) (mid : List ℕ) (imported : Tree) (low : List ℕ)
       → config.min_imports ≤ length (imports_of stack.inner)
       → Fills counted.Types config stack b typed mid → Fills counted.Imports config (with_inner stack typed) mid imported low
@@ -139,7 +139,7 @@ filled_functions config stack b full rest consistent grounded some room (inr (la
     room in
     omega (arith, enough, less, ap (λ t. function_count t) e)
 
--- Nothing is missing where it can be filled.
+-- Nothing is missing if it can be filled.
 pub filled_surely : (config : Config) (stack : Open) (b rest : List ℕ) → Sound config stack → IsGrounded stack.inner
     → CanFill config stack.outer stack.inner → Lacks config stack b rest → ⊥
 filled_surely config stack b rest sound grounded (inl enough) (of_imports {typed} {imported} {mid} ts is less) =

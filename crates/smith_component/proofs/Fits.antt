@@ -1,4 +1,4 @@
--- A component keeps the limits and the sizes that bind it alone where it grows by a part that fits.
+-- A component keeps the limits and the sizes that bind it alone when it grows by a part that fits.
 use Rattle.std.proofs.Common.{◌≡◌, ℕ, ◌+◌, ◌≤◌, List, [], length, arith, ap, refl, sym, subst}
 use Rattle.std.specs.List.{AllByRecursion}
 use Rattle.smith_format.specs.declared.config.Config.{Config}
@@ -31,7 +31,7 @@ fits_of config t o =
 pub fits_behind : (config : Config) (t : Tree) (p : Part) → OwnLimits config (add t p) → Fits config (after_part (spaces_of t) p)
 fits_behind config t p o = subst (Fits config) (spaces-add t p) (fits_of config (add t p) o)
 
--- What fits still does where the types stay as they are.
+-- What fits still does if the types stay as they are.
 pub fits_kept : (config : Config) (s u : Spaces) → KeepsTypes s u → Fits config s → Fits config u
 fits_kept config s u keep f = record {
   types = omega (arith, f.types, ap length keep.types);
@@ -54,7 +54,7 @@ no_counted config t p is fs es o = record {
   exports = omega (arith, o.exports, ap length es);
 }
 
--- A component keeps its own limits where it grows by a part that fits.
+-- A component keeps its own limits when it grows by a part that fits.
 pub own_limits-add : (config : Config) (t : Tree) (p : Part) → OwnLimits config t → Fits config (after_part (spaces_of t) p) → HasRoom config t p
     → Short (names_in p) → OwnLimits config (add t p)
 own_limits-add config t p o fits room ns =
@@ -91,7 +91,7 @@ own_limits-component config t u o = own_limits-add config t (component u) o (fit
 pub own_limits_swap : (config : Config) → Swaps (OwnLimits config)
 own_limits_swap config u a b o = own_limits-component config u b (own_limits-front config u (component a) o)
 
--- Sizes, where a component grows.
+-- Sizes, when a component grows.
 
 -- no type of these spaces is larger than its fuel was
 abbrev pub IsSized : Config → Spaces → Type 0

@@ -19,7 +19,7 @@ behind-add : (s : Spaces) (t : Tree) (p : Part) → fold after_part s (parts_of 
 behind-add s ends p = refl
 behind-add s (first q t) p = behind-add (after_part s q) t p
 
--- The spaces of a component with one more part are those after that part.
+-- The spaces of a component with one more part are the spaces after that part.
 pub spaces-add : (t : Tree) (p : Part) → spaces_of (add t p) ≡ after_part (spaces_of t) p
 spaces-add t p = behind-add no_spaces t p
 
@@ -101,7 +101,7 @@ parts_count s (first p t) =
       most = omega (arith, one.most, more.most, imported, canonical, exported);
     }
 
--- All functions that are counted are in the index spaces, and beside them only those that are exported.
+-- All functions that are counted are in the index spaces, and beside them only the exported ones.
 pub functions_counted : (t : Tree) → Counts no_spaces (spaces_of t) (function_count t) (length (exports_of t))
 functions_counted t = parts_count no_spaces t
 
@@ -138,7 +138,7 @@ exports_keep s es = record {
   core_types = fold_keeps (λ z. z.core_types) after_export (λ z e. refl) s es;
 }
 
--- The scope of a component, where it grows.
+-- The scope of a component, when it grows.
 
 abbrev pub scope_at : Spaces → Scope
 scope_at s = record { types = s.types; core_types = s.core_types }
@@ -152,7 +152,7 @@ scope_bare t p keep =
     let b : (after_part (spaces_of t) p).core_types ≡ core_types_of t = keep.core_types in
     scope-add t p ∙ (λ i. record { types = a i; core_types = b i })
 
--- A fact of all types stays where those of a type section have it.
+-- A fact of all types stays if the types of a type section have it.
 pub types_past : (P : Entry → Type 0) (t : Tree) (p : Part) → AllByRecursion P (types_of t)
     → ((ts : List Entry) → p ≡ types ts → AllByRecursion P ts) → AllByRecursion P (types_of (add t p))
 types_past P t p h new = subst (λ (s : Spaces). AllByRecursion P s.types) (sym (spaces-add t p)) (by_part p new)

@@ -37,7 +37,7 @@ small_reference own (to.TypeEq i) h small = small_mark own.marks i h.0
 small_reference own (to.Component i) h small = small_mark own.marks i h
 small_reference own (to.Instance i) h small = small_mark own.marks i h
 
--- The size is greater by that of a small type at most.
+-- The size is greater by the size of a small type at most.
 pub import_grows : (own : Marked) (r : ComponentTypeRef) → OfferedRef own true r → SmallCores own → (with_import own r).size ≤ own.size + small_size
 import_grows own r h small = by_keeps own.keeps
   where
@@ -58,7 +58,7 @@ pub imports_cores : (is : List ImportEntry) (own : Marked) → (fold with_import
 imports_cores [] own = refl
 imports_cores (i ∷ is) own = imports_cores is (with_import_entry own i)
 
--- Where types are added, what could be imported still can.
+-- When types are added, what could be imported still can.
 
 longer : (b : Bool) (i : ℕ) (xs ys : List ℕ) → length xs ≤ length ys → length (if b then i ∷ xs else xs) ≤ length (if b then i ∷ ys else ys)
 longer true i xs ys h = omega (arith, h)

@@ -28,14 +28,14 @@ use Rattle.smith_component.proofs.Sound.{component_count-so_far, instance_count-
 use Rattle.smith_component.proofs.Tables.{flat_map_more}
 use Rattle.smith_component.proofs.Tree.{function_count-add}
 
--- Room for what is imported: where one more is counted, it finds room.
+-- Room for what is imported: if one more is counted, it finds room.
 pub record RefRoom (config : Config) (totals : RefTotals) (r : ComponentTypeRef) : Type 0 where
   pub modules : totals.modules + length (module_of r) ≤ max totals.modules config.max_modules
   pub funcs : totals.funcs + length (function_of r) ≤ max totals.funcs config.max_funcs
   pub components : totals.components + length (component_of r) ≤ max totals.components config.max_components
   pub instances : totals.instances + length (instance_of r) ≤ max totals.instances config.max_instances
 
--- one more, where it is allowed
+-- one more, if it is allowed
 one_allowed : (has : Bool) (count most : ℕ) → (has && allows_one true false count most) ≡ true → count + 1 ≤ max count most
 one_allowed has count most e = let lt : nat_lt count most ≡ true = (both_true has (nat_lt count most) e).1 in grind (arith, nat_tests, lt)
 
@@ -116,12 +116,12 @@ module _ (stack : Open) (s : List ImportEntry) (x : ImportEntry) where
       let count = function_count-add stack.inner in
       omega (arith, count (imports s), count (imports more), length_more function_of)
 
--- What is kept of the component, where the section has imports.
+-- What is kept of the component, when the section has imports.
 module _ (config : Config) (stack : Open) (s : List ImportEntry) where
   pub imports_marked : marked_with_imports config stack s ≡ fold with_import_entry (marked_inner config stack.outer stack.inner) s
   imports_marked = marked_add config (marked_in config stack.outer) stack.inner (imports s)
 
-  -- its scope by itself is that of the component
+  -- its scope by itself is the component's
   pub imports_scope : scope_in (marked_with_imports config stack s) ≡ scope_of stack.inner
   imports_scope =
       scope_marked config (marked_in config stack.outer) (add stack.inner (imports s))

@@ -1,4 +1,4 @@
--- What the items do, where the inner component grows.
+-- What the items do, when the inner component grows.
 use Rattle.std.proofs.Common.{◌≡◌, ℕ, ◌<◌, List, [], ◌∷◌, ◌++◌, length, arith, ap, sym, subst, ◌∙◌, refl, append-nil, inl}
 use Rattle.std.specs.Prelude.{Option, None, drop}
 use Rattle.smith_format.specs.declared.config.Config.{Config}

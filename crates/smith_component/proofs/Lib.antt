@@ -1,7 +1,6 @@
 pub mod CanonsEnough
 pub mod CanonsRead
 pub mod CanonsSame
-pub mod CoreSizes
 pub mod Decided
 pub mod Exact
 pub mod EntriesState
@@ -27,7 +26,6 @@ pub mod PartsRead
 pub mod Plans
 pub mod ReadsCanons
 pub mod ReadsCoreTypes
-pub mod ReadsCustom
 pub mod ReadsExports
 pub mod ReadsImports
 pub mod ReadsModule

@@ -1,4 +1,4 @@
--- What is kept of components: a mark for each type, where any is kept; module types that are small; and no size, where none is kept.
+-- What is kept of components: a mark for each type, if any is kept; module types that are small; and no size, if none is kept.
 use Rattle.std.proofs.Common.{◌≡◌, ℕ, ◌+◌, ◌≤◌, Bool, true, false, if◌then◌else◌, List, [], ◌∷◌, ◌++◌, fold, length, arith, refl, sym, ap, ◌∙◌, subst}
 use Rattle.std.proofs.Common.{length-append}
 use Rattle.std.specs.List.{AllByRecursion}
@@ -16,7 +16,7 @@ use Rattle.smith_tree.specs.Marking.{with_exports_entry, with_import_entry, with
 use Rattle.smith_tree.specs.Spaces.{Spaces, after_export, after_part, core_types_of, no_spaces}
 use Rattle.smith_tree.specs.Tree.{ExportEntry, Tree, Part, canons, component, core_module, core_types, custom, ends, exports, first, imports, parts_of, types}
 use Rattle.smith_tree.proofs.Marking.{scope_after_part}
-use Rattle.smith_component.proofs.CoreSizes.{small_core}
+use Rattle.smith_tree.proofs.OfferedCores.{small_core}
 use Rattle.smith_component.proofs.Growth.{extends_part}
 
 pub record Kept (own : Marked) : Type 0 where

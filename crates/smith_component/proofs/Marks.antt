@@ -70,7 +70,7 @@ exports_marked_more config outer t es x =
     ∙ (entries_more es x (spaces_of t) (marked_inner config outer t)
     ∙ (λ i. with_exports_entry (sym (exports_marked config outer t es) i) (exported_reference (sym (spaces-add t (exports es)) i).functions x)))
 
--- What is offered of the rest of a component, where these components are open around it and these parts precede it.
+-- What is offered of the rest of a component, when these components are open around it and these parts precede it.
 abbrev pub OfferedRest : Config → List Tree → Tree → Tree → Type 0
 OfferedRest config outer before t = OfferedParts t config (spaces_of before) (marked_in config outer) (marked_inner config outer before)
 

@@ -13,7 +13,7 @@ use Rattle.smith_input.proofs.NewNames.{new_kebab}
 use Rattle.smith_format.specs.declared.config.Config.{Config}
 use Rattle.smith_syntax.specs.Scope.{Scope}
 use Rattle.smith_syntax.specs.WellFormed.{Named}
-use Rattle.smith_core_types.proofs.Names.{AreNew, distinct_new, new_back, new_distinct, new_more, none_before}
+use Rattle.smith_input.proofs.DistinctNames.{AreNew, distinct_new, new_back, new_distinct, new_more, none_before}
 use Rattle.smith_tree.specs.Open.{Open, tree_so_far}
 use Rattle.smith_component.specs.Sound.{Sound}
 use Rattle.smith_tree.specs.Tree.{Tree, Part, ends, first, custom, core_module, core_types, component, types, canons, imports, exports, add, own}
@@ -31,7 +31,7 @@ named_more ns n h kebab new = (
   new_distinct [] (ns ++ n ∷ []) (new_more [] ns n (distinct_new [] ns (none_before ns) h.1) new),
 )
 
--- Entries with names, after those that precede them.
+-- Entries with names, after the ones that precede them.
 module _ {A : Type 0} (name : A → List ℕ) (before : List A) where
   -- the names of them all
   abbrev pub names_with : List A → List (List ℕ)
@@ -40,7 +40,7 @@ module _ {A : Type 0} (name : A → List ℕ) (before : List A) where
   pub names_with_more : (s : List A) (x : A) → names_with (s ++ x ∷ []) ≡ names_with s ++ name x ∷ []
   names_with_more s x = ap (map name) (sym (append_assoc before s (x ∷ []))) ∙ map-append name (before ++ s) (x ∷ [])
 
-  -- Where all are named, the later ones are in kebab case and new after those before.
+  -- If all are named, the later ones are in kebab case and new after the earlier ones.
   pub named_behind : (s : List A) → Named (names_with s) → AllByRecursion Kebab (map name s) × AreNew (names_with []) (map name s)
   named_behind s named =
       let both : Named (map name before ++ map name s) = subst Named (map-append name before s) named in
@@ -77,7 +77,7 @@ module _ {A : Type 0} (name : A → List ℕ) (before : List A) where
         loop_gives KeepsNames (λ s n. n) (λ s c q t e n. subst (λ z. Named (names_with z)) (sym (ends s c q t e)) n) keeps_names 0 [] b xs rest xs r
         (subst (λ z. Named (map name z)) (sym (append-nil before)) h)
 
-  -- Each name that a loop reads can be read after those before it.
+  -- Each name that a loop reads can be read after the ones before it.
   module _ {Ends : List A → List ℕ → List ℕ → List A → Type 0} {Item : List A → List ℕ → A → List ℕ → List A → Type 0}
       (items : (s : List A) (b : List ℕ) (x : A) (r : List ℕ) (t : List A) → Item s b x r t → NewEntry s x t) where
     pub loop_reachable : {min max : ℕ} {b rest : List ℕ} {xs : List A} → Loop Ends Item min max 0 [] b xs rest xs
@@ -109,7 +109,7 @@ module _ {A : Type 0} (name : A → List ℕ) (f : Part → List A) where
     named_parts ends outer before g h = subst IsNamed (sym (join-ends before)) h
     named_parts (first p t) outer before g h = subst IsNamed (join-add before p t) (named_parts t outer (add before p) g.1 (keeps p outer before g.0 h))
 
-    -- Those that a component has so far are named, where each part keeps them so.
+    -- The entries that a component has so far are named, if each part keeps them so.
     sound_named : (config : Config) (stack : Open) → Sound config stack → IsNamed stack.inner
     unfolding IsDistinct
     sound_named config stack s =

@@ -31,7 +31,7 @@ use Rattle.smith_tree.specs.Tree.{Canon, Tree, Part, custom, core_module, core_t
 use Rattle.smith_tree.specs.Tree.{components_in, no_depth}
 use Rattle.smith_tree.specs.Tree.{ExportEntry, exports_in, exports_of, names_in, imports_of, imports_in, function_count}
 use Rattle.smith_component.specs.Turn.{Does, with_part}
-use Rattle.smith_component.specs.AddedSections.{ReadsCustom}
+use Rattle.smith_tree.proofs.ReadsCustom.{custom_read}
 use Rattle.smith_component.specs.Fills.{FillsAll}
 use Rattle.smith_tree.specs.WellFormed.{FormedPart, scope_of}
 use Rattle.smith_component.proofs.CanonsRead.{Spoken, canons_from, types_spoken}
@@ -51,7 +51,7 @@ use Rattle.smith_core.proofs.StandInTold.{stand_in_told}
 use Rattle.smith_component.proofs.Tree.{all_of, anywhere-add, depth-outer, function_count-add, own-add, length-own-add}
 use Rattle.smith_scopes.proofs.Plain.{all_back}
 
--- nothing is filled where nothing is missing
+-- nothing is filled if nothing is missing
 pub fills_nothing : (config : Config) (stack : Open) (b : List ℕ) → Minima config stack.inner → FillsAll config stack b stack.inner b
 fills_nothing config stack b m = record {
   typed = stack.inner;
@@ -64,12 +64,6 @@ fills_nothing config stack b m = record {
   functions = inl (m.functions, refl, refl);
   enough_functions = m.functions;
 }
-
-pub custom_read : (name contents rest : List ℕ) → IsUtf8 name → length name ≤ 1000
-    → ReadsCustom ((script_text 1000 name ++ script_bytes contents) ++ rest) name contents rest
-custom_read name contents rest utf8 short =
-    subst (λ z. ReadsCustom z name contents rest) (sym (append_assoc (script_text 1000 name) (script_bytes contents) rest))
-    (script_bytes contents ++ rest, text_read 1000 name (script_bytes contents ++ rest) (omega arith) utf8 short, bytes_read contents rest)
 
 -- The scope of each component around a place has no more entries than a choice can be spelled of, and they are few.
 pub record Around (config : Config) (outer : List Tree) : Type 0 where
@@ -93,7 +87,7 @@ around : (config : Config) → IsConsistent config → (outer : List Tree) (t : 
 around config consistent outer t m =
     record { few = few_around config consistent outer t [] tt m.each; shallow = omega (arith, m.depth, depth-outer no_depth outer t, consistent.nesting) }
 
--- The script of a part is read as that part, regardless of what follows.
+-- The script of a part is read as that part, whatever follows.
 module _ (config : Config) (stack : Open) (rest : List ℕ) where
   abbrev pub IsRead : Part → Type 0
   IsRead p =

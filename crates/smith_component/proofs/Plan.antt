@@ -9,8 +9,7 @@ use Rattle.smith_types.specs.Sayable.{Lasts}
 use Rattle.smith_tree.specs.Limits.{SmallCoreTypes}
 use Rattle.smith_tree.specs.Tree.{Tree, ends, first, Part, custom, core_module, core_types, component, types, canons, imports, exports}
 
--- The fuel lasts for each type where that many scopes are on the stack, and each core module has bytes and stands for a generated
--- one.
+-- The fuel lasts for each type when that many scopes are on the stack, and each core module has bytes and stands for a generated one.
 abbrev mutual
   pub Stands : Config → ℕ → Tree → Type 0
   Stands config scopes ends = Unit {0}

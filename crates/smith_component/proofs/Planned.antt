@@ -41,7 +41,7 @@ sized_past : (p : Part) (t : Tree) (config : Config) (outer : List Tree) (before
     → Sized config (tree_so_far outer (join (add before p) t))
 sized_past p t config outer before s = subst (λ x. Sized config (tree_so_far outer x)) (sym (join-add before p t)) s
 
--- Where these types are that deep, each may declare types as it does.
+-- If these types are that deep, each may declare types as it does.
 module _ (config : Config) (outer : List Scope) (scopes : ℕ) where
   each_lasts : (es : List Entry) (own : Scope) → FormedTypes es own outer → SmallTypes config es
       → scopes + most declaring es ≤ max scopes config.max_nesting_depth → AllByRecursion (λ e. Lasts e config scopes config.max_type_size) es
@@ -51,7 +51,7 @@ module _ (config : Config) (outer : List Scope) (scopes : ℕ) where
     each_lasts es (with_type own e) f.1 s.1 (omega (arith, h)),
   )
 
--- What is in the rest of a component of a plan, where these components are open around it and these parts precede it.
+-- What is in the rest of a component of a plan, when these components are open around it and these parts precede it.
 mutual
   stands_from : (t : Tree) (config : Config) (outer : List Tree) (before : Tree) → IsReadableRest config t before → Formed t (scopes_in outer) before
       → Maxima config (tree_so_far outer (join before t)) → Sized config (tree_so_far outer (join before t)) → Encoded (parts t)

@@ -129,7 +129,7 @@ module _ (config : Config) (consistent : IsConsistent config) (outer : List Tree
       flat_turn config consistent stack (later ++ rest) p flat with_p k.readable.0 k.stands.0 k.formed.0 k.offered.0 own k.spoken in
       subst (λ z. Leads config stack z next left) (sym (append_assoc here later rest)) (turn_leads turn m)
 
-  -- the script of a component, when that of its parts leads to it, and then the rest
+  -- the script of a component, when its parts' script leads to it, and then the rest
   component_leads : (u t : Tree) (later : List ℕ) → Known config outer before (first (component u) t) → Ends config u
       → ((tail : List ℕ) → Leads config (record { outer = outer ++ before ∷ []; inner = u }) tail next left
       → Leads config (record { outer = outer ++ before ∷ []; inner = ends }) (script_parts u config (outer ++ before ∷ []) ends ++ tail) next left)

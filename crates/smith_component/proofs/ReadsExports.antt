@@ -66,7 +66,7 @@ module _ (config : Config) (outer : List Tree) (t : Tree) where
   exports_formed {b = b} {rest = rest} {es = es} r = subst (FormedExports es) (spaces-add t (exports []))
       (loop_gives Formed_from (λ s. tt) (λ s c q u e. tt) formed_on 0 [] b es rest es r)
 
-  -- Where there was room for each, all were offered.
+  -- If there was room for each, all were offered.
 
   offered_on : (s u v : List ExportEntry) (b : List ℕ) (x : ExportEntry) (r : List ℕ) (xs : List ExportEntry) → ReadsExport config outer t s b x r u
       → OfferedExports xs (spaces_of (with_exports t u)) (marked_inner config outer (with_exports t u))

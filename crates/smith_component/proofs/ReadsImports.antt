@@ -45,7 +45,7 @@ use Rattle.smith_component.proofs.Named.{NewEntry, imports_are_named, loop_named
 use Rattle.smith_component.proofs.Sound.{component_count-so_far, instance_count-so_far, module_count-so_far, own_limits_of}
 use Rattle.smith_component.proofs.Tree.{function_count-add, functions_in}
 
--- where nothing is offered, no condition holds
+-- if nothing is offered, no condition holds
 not_offered : {A : Type 0} (o : Bool × A) (os : List (Bool × A)) → (offers_of os ≡ [] → AllByRecursion (λ q. q.0 ≡ false) os) → (b : Bool) → o.0 ≡ b
     → (if b then o.1 ∷ offers_of os else offers_of os) ≡ []
     → (o.0 ≡ false) × AllByRecursion (λ q. q.0 ≡ false) os
@@ -210,7 +210,7 @@ module _ (config : Config) (stack : Open) where
       subst (OfferedImports is) (imports_marked config stack [])
       (loop_gives R (λ s. tt) (λ s c q t e. tt) offered_on 0 [] b is rest is r)
 
-  -- Where functions can be imported, and there is room, there is something to import.
+  -- If functions can be imported, and there is room, there is something to import.
   func_offered : (s : List ImportEntry) → 0 < importable (marked_inner config stack.outer stack.inner)
       → (totals_of (with_imports stack s)).funcs < config.max_funcs → has_room (marked_with_imports config stack s) false ≡ true
       → import_kinds config stack s ≡ [] → ⊥
@@ -237,7 +237,7 @@ module _ (config : Config) (stack : Open) where
         by_room true f = let lt : done < most = grind (arith, nat_tests) in more_past lt m
         by_room false f = let le : most ≤ done = grind (arith, nat_tests) in omega (arith, le, ordered)
 
-    -- where that many are made
+    -- when that many are made
     record Made (done : ℕ) (s : List ImportEntry) : Type 0 where
       funcs : (totals_of (with_imports stack s)).funcs ≤ function_count stack.inner + done
       size : (marked_with_imports config stack s).size ≤ (marked_inner config stack.outer stack.inner).size + done * small_size
@@ -293,7 +293,7 @@ module _ (config : Config) (stack : Open) where
     enough_from done s b xs rest u made (an_item {t = t} {mid = mid} {after = after} {x = x} {xs = ys} m i l) =
         omega (arith, enough_from (done + 1) t after ys rest u (made_one done s t mid x after made i) l)
 
-  -- A section has as many imports as it must, where functions may be imported for all of them.
+  -- A section has as many imports as it must, if functions may be imported for all of them.
   pub imports_enough : {min : ℕ} {b rest : List ℕ} {is : List ImportEntry} → 0 < importable (marked_inner config stack.outer stack.inner)
       → function_count stack.inner + min ≤ config.max_funcs → SmallCores (marked_inner config stack.outer stack.inner)
       → (config.must_validate ≡ true → (marked_inner config stack.outer stack.inner).size + min * small_size ≤ room_size + small_size)

@@ -1,4 +1,4 @@
--- A core module of a module item leaves a tail of the bytes, and it is refused when out of memory where limits do not cross.
+-- A core module of a module item leaves a tail of the bytes, and it is refused when out of memory, if limits do not cross.
 use Rattle.std.proofs.Common.{ℕ, List}
 use Rattle.smith_input.specs.Reading.{IsTail}
 use Rattle.smith_input.proofs.Loops.{loop_tail}

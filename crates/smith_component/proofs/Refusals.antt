@@ -47,7 +47,7 @@ module _ (config : Config) (stack : Open) (left rest : List ℕ) where
   step_refused input consistent lacks refuses OutOfMemory h = consistent
   step_refused input consistent lacks refuses PartsDisagree h = absurd h
 
--- Where what is missing can be filled, no minimum refuses a step.
+-- If what is missing can be filled, no minimum refuses a step.
 pub never_minimum : (config : Config) (stack : Open) (left rest : List ℕ) → Sound config stack → IsGrounded stack.inner
     → CanFill config stack.outer stack.inner
     → (e : Error) → IsStepRefusal config stack left e rest → ¬ (e ≡ MinimumNotMet)

@@ -16,7 +16,7 @@ use Rattle.smith_component.specs.Runs.{RunsTo, Turns}
 use Rattle.smith_tree.specs.declared.choices.Item.TheVariants.{Finish, Module}
 use Rattle.smith_component.proofs.Decided.{lacks_no_turn, lacks_same, moves, refuses_no_turn, runs_lack_none, runs_refuse_no_module, runs_to_same, turn_same}
 
--- A turn is stuck where none can be taken.
+-- A turn is stuck if none can be taken.
 abbrev IsStuck : Config → Open → List ℕ → Type 0
 IsStuck config stack left = (next : Next) (rest : List ℕ) → Turn config stack left next rest → ⊥
 
@@ -40,7 +40,7 @@ stuck_same (suc j) (suc k) config (answered u) left s t b c x y p q = absurd x
 stuck_same (suc j) (suc k) config (building now) left s t b c (mid, left1, one, more) (next, left2, other, rest) p q =
     stuck_same j k config mid left1 s t b c more (moves config next mid left2 left1 (building t) c k (turn_same other one) rest) p q
 
--- Where a run is missing something, and where a core module is refused, no turn can be taken.
+-- If a run is missing something, or if a core module is refused, no turn can be taken.
 lacks_stuck : {config : Config} {rest : List ℕ} (stack : Open) (left : List ℕ) → LacksAt config rest stack left → IsStuck config stack left
 lacks_stuck stack left lacks next rest t = lacks_no_turn lacks t
 
@@ -48,7 +48,7 @@ refuses_stuck : {config : Config} {rest : List ℕ} (stack : Open) (left : List 
 refuses_stuck stack left refuses next rest t = refuses_no_turn refuses t
 
 module _ (config : Config) (input : List ℕ) where
-  -- What is true where one run is stuck is true where another is.
+  -- What is true when one run is stuck is true when another is.
   at_other : (At Other : Open → List ℕ → Type 0) → ((stack : Open) (left : List ℕ) → At stack left → IsStuck config stack left)
       → ((stack : Open) (left : List ℕ) → Other stack left → IsStuck config stack left) → RunReaches config At input → (m : RunReaches config Other input)
       → At m.stack m.left
@@ -88,7 +88,7 @@ module _ (config : Config) (input : List ℕ) where
   answer_or_memory c left b consistent run spells OutOfMemory rest h = refl
   answer_or_memory c left b consistent run spells PartsDisagree rest h = absurd h
 
-  -- which refusal it is, and what it leaves, where it is not that of being out of memory
+  -- which refusal it is, and what it leaves, if it is not for being out of memory
   abbrev Decided : Error → Error → List ℕ → List ℕ → Type 0
   Decided d e left rest = ¬ (d ≡ OutOfMemory) → ¬ (e ≡ OutOfMemory) → (d ≡ e) × (left ≡ rest)
 

@@ -1,4 +1,5 @@
--- Whatever is left after a run, each component has as many sections as it takes to be finished, but for those that may be open at the end.
+-- Whatever is left after a run, each component has as many sections as it takes to be finished, but for the ones that may be open at the
+-- end.
 use Rattle.std.proofs.Common.{◌≡◌, ℕ, List, [], ◌∷◌, ◌++◌, refl, ap, ◌∙◌, append-nil}
 use Rattle.std.specs.List.{AllByRecursion}
 use Rattle.smith_format.specs.declared.config.Config.{Config}
@@ -86,7 +87,7 @@ module _ (config : Config) where
   done_late (first (imports is) t) done = same_own refl (done_late t done)
   done_late (first (exports es) t) done = same_own refl (done_late t done)
 
-  -- It stays so where it is closed or filled after the end of the input.
+  -- It stays so if it is closed or filled after the end of the input.
   late_kept : IsKept config (AreFinishableButLast config)
   late_kept = record {
     of_done = done_late;

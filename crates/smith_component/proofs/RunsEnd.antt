@@ -1,5 +1,5 @@
--- What holds of each component that a run leads to, whatever it leaves: what holds where all components inside are finished, and goes on to hold
--- where components are filled and closed after the end of the input.
+-- What holds of each component that a run leads to, whatever it leaves: what holds if all components inside are finished, and goes on to hold when
+-- components are filled and closed after the end of the input.
 use Rattle.std.proofs.Common.{ℕ, zero, suc, ◌≤◌, List, [], ◌∷◌, ◌++◌, length, arith, sym, subst, inl, inr}
 use Rattle.std.specs.List.{AllByRecursion}
 use Rattle.smith_format.specs.declared.config.Config.{Config}

@@ -1,4 +1,4 @@
--- Where input is left after a run, each component has as many sections as it takes to be finished.
+-- If input is left after a run, each component has as many sections as it takes to be finished.
 use Rattle.std.proofs.Common.{◌≡◌, ℕ, zero, suc, ◌+◌, ◌≤◌, ◌<◌, List, [], ◌∷◌, ◌++◌, length, true, arith, refl, ap, sym, subst, inl, inr, length-drop}
 use Rattle.std.specs.List.{AllByRecursion}
 use Rattle.std.proofs.lemmas.Bool.Decides.{nat_tests}
@@ -130,7 +130,7 @@ module _ (config : Config) where
   turns_shorten (suc k) (building stack) left next left2 (mid, left1, t, later) =
       omega (arith, turn_shortens stack left mid left1 t, turns_shorten k mid left1 next left2 later)
 
-  -- where input is left, what is finished was offered to be
+  -- if input is left, what is finished was offered to be
   pub finishes : (stack : Open) (left after : List ℕ) (item : Item) → 0 < length left → ReadsAmong (items config stack left) left item after → item ≡ Finish
       → IsFinishable config stack.inner
   finishes stack [] after item some r e = absurd (omega (arith, some))
@@ -152,7 +152,7 @@ module _ (config : Config) where
   all_finishable [] none = tt
   all_finishable (t ∷ ts) none = (omega (arith, none), all_finishable ts none)
 
--- Where a run is followed by input, or no number of sections is asked, each component has that number.
+-- If a run is followed by input, or no number of sections is asked, each component has that number.
 pub runs_finish : (config : Config) (input : List ℕ) (tree : Tree) (left : List ℕ) → IsFollowed config left → RunsTo config input tree left
     → AreFinishable config tree
 runs_finish config input tree left (inl none) r = all_finishable config (tree ∷ inside tree) none

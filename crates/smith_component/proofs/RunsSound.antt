@@ -1,4 +1,4 @@
--- What a run leads to is well formed and within the limits, regardless of what it reads.
+-- What a run leads to is well formed and within the limits, whatever it reads.
 use Rattle.std.proofs.Common.{ℕ, zero, suc, ◌+◌, ◌-◌, ◌≤◌, List, [], length, arith, refl, sym, subst, inl, inr}
 use Rattle.smith_input.proofs.Loops.{loop_few}
 use Rattle.smith_format.specs.Consistency.{IsConsistent}
@@ -25,7 +25,7 @@ use Rattle.smith_component.proofs.Finishing.{filled_minima}
 use Rattle.smith_component.proofs.Marks.{formed_core_plain, formed_plain}
 use Rattle.smith_component.proofs.ReadsCanons.{canons_sound}
 use Rattle.smith_component.proofs.ReadsCoreTypes.{core_types_read_formed, core_types_read_limited, core_types_read_small}
-use Rattle.smith_component.proofs.ReadsCustom.{custom_short}
+use Rattle.smith_tree.proofs.ReadsCustom.{custom_short}
 use Rattle.smith_component.proofs.ReadsExports.{exports_addable}
 use Rattle.smith_component.proofs.ReadsImports.{imports_addable}
 use Rattle.smith_component.proofs.ReadsTypes.{types_read_declared, types_read_formed, types_read_limited, types_read_small}
@@ -92,7 +92,7 @@ closes_sound config stack next enough (inr (outers, parent, around, is)) s =
     subst (SoundNext config) (sym is)
     (sound_close config outers parent stack.inner enough (subst (λ us. Sound config (record { outer = us; inner = stack.inner })) around s))
 
--- what an item does, where it was offered
+-- what an item does, if it was offered
 does_sound : (config : Config) (item : Item) (stack : Open) (b : List ℕ) (next : Next) (rest : List ℕ)
     → WasOffered config stack item → Does config item stack b next rest → Sound config stack → SoundNext config next
 does_sound config Finish stack b next rest offered (full, f, c) s =

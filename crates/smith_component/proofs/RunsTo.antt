@@ -66,7 +66,7 @@ reached_there At config input stack left r there =
     let j = r.onward (building stack) left 0 (refl, refl) in
     record { stack = stack; left = left; turns = j.0; run = j.1; there = there }
 
--- The same where the config and what follows are known by equations.
+-- The same when the config and what follows are known by equations.
 
 pub reached_step : (config same : Config) (input : List ℕ) (stack next : Open) (now : Next) (left left2 : List ℕ) → same ≡ config → now ≡ building next
     → Reached config input stack left → Turn same stack left now left2 → Reached config input next left2

@@ -61,7 +61,7 @@ item_read config outer inner item place rest e =
     let Q : List ℕ → Type 0 = λ b. ReadsAmong xs (b ++ rest) item rest in
     subst P (sym byte) (subst Q byte (among_read equal.eq item_Decides xs item place rest (omega (arith, some.1)) e))
 
--- An item, and where it is among those that are offered.
+-- An item, and where it is among the offered ones.
 abbrev Offered : Config → Open → Item → Type 0
 Offered config stack item = (place : ℕ) × (slice_get (items_with_input config stack) place ≡ Some item)
 
@@ -81,7 +81,7 @@ imports_item config stack = offers_found (item_offers config stack) 4 true Impor
 canons_item : (config : Config) (stack : Open) → Offered config stack Canonical
 canons_item config stack = offers_found (item_offers config stack) 5 true Canonical refl refl
 
--- those with a condition, where it holds
+-- those with a condition, if it holds
 finish_item : (config : Config) (stack : Open) → IsFinishable config stack.inner → Offered config stack Finish
 finish_item config stack enough =
     let offered : is_finish_offered config stack.inner ≡ true = grind (arith, nat_tests, enough) in
@@ -140,7 +140,7 @@ limits_past p t config outer before l = subst (λ x. Maxima config (tree_so_far 
 
 -- Turns of a script by themselves.
 
--- where something that is offered is there, its script and what follows is a turn
+-- if something that is offered is there, its script and what follows is a turn
 turn_of : (config : Config) (stack : Open) (item : Item) (place : ℕ) (said rest : List ℕ) (next : Next)
     → slice_get (items_with_input config stack) place ≡ Some item → Does config item stack (said ++ rest) next rest
     → Turn config stack ((script_item config stack.outer stack.inner item ++ said) ++ rest) next rest

@@ -144,7 +144,7 @@ small_item config outer before item =
     let few = offers_few (item_offers config stack) in
     small_few equal.eq (items_with_input config stack) item (omega (arith, few))
 
--- What the rest of a component of a plan has, where these components are open around it and these parts precede it.
+-- What the rest of a component of a plan has, when these components are open around it and these parts precede it.
 record Said (config : Config) (outer : List Tree) (before t : Tree) : Type 0 where
   spoken : AllByRecursion Spoken (types_of before)
   readable : IsReadableRest config t before
@@ -208,7 +208,7 @@ module _ (config : Config) (consistent : IsConsistent config) (outer : List Tree
         spelled = component_encoded u (z.left, z.p_is);
       }
 
-  -- what follows the choice of the item, where it is not a component
+  -- what follows the choice of the item, if it is not a component
   small_custom : (name contents : List ℕ) (t : Tree) → Said config outer before (first (custom name contents) t)
       → Small (script_part (custom name contents) config outer before)
   small_custom name contents t said =

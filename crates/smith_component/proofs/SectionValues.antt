@@ -48,7 +48,7 @@ pub core_types_shown : (config : Config) {max : ℕ} {own next : Marked} {b rest
 core_types_shown config {own = own} {next = next} {b = b} {rest = rest} {ts = ts} r =
     loop_map shown_shared_core (λ s c t q u (reads, kept). reads) 0 own b ts rest next r
 
--- the same entries where the scopes and the room are known by equations
+-- the same entries when the scopes and the room are known by equations
 pub entries_where : {A : Type 0} (R : List Marked → Marked → List ℕ → A → List ℕ → Marked → Type 0) (scopes outer : List Marked) (own : Marked) (max room : ℕ)
     {min : ℕ} {next : Marked} {b rest : List ℕ} {xs : List A}
     → scopes ≡ own ∷ outer → max ≡ room → Loop Never (R (drop 1 scopes)) min max 0 (first_marked scopes) b xs rest next

@@ -29,7 +29,7 @@ use Rattle.smith_component.proofs.WellFormed.{formed_so_far}
 use Rattle.smith_component.proofs.Tree.{tree_so_far-close, depth-so_far, length-anywhere-so_far, anywhere-add, depth-outer, all_so_far, all_inner}
 use Rattle.smith_scopes.proofs.Plain.{all_both, all_front, all_back}
 
--- How many modules, components and instances there are where the inner component grows.
+-- How many modules, components and instances there are when the inner component grows.
 
 pub length-inside-so_far : (outer : List Tree) (t : Tree) (p : Part)
     → length (inside (tree_so_far outer (add t p))) ≡ length (inside (tree_so_far outer t)) + length (anywhere_in components_in p)
@@ -107,7 +107,7 @@ part_sound config stack p a s =
           (subst (AllByRecursion (OwnSizes config)) (sym a.no_component) tt) s.sized;
     }
 
--- The components that are finished, where the inner one is closed.
+-- The components that are finished, when the inner one is closed.
 finished_close : (config : Config) (outer : List Tree) (parent inner : Tree) → Minima config inner
     → AllByRecursion (Minima config) (finished_in (record { outer = outer ++ parent ∷ []; inner = inner }))
     → AllByRecursion (Minima config) (finished_in (record { outer = outer; inner = add parent (component inner) }))
@@ -270,7 +270,7 @@ addable_core_types config stack es f room limited small =
 own_length : {A : Type 0} (f : Part → List A) (p : Part) → anywhere_in components_in p ≡ [] → length (anywhere_in f p) ≡ length (f p)
 own_length f p none = ap length (in_own f p none)
 
--- Totals, where the inner component grows by a part without components.
+-- Totals, when the inner component grows by a part without components.
 pub totalled_part : (config : Config) (outer : List Tree) (inner new : Tree) (old totals : TreeTotals) (p : Part) → anywhere_in components_in p ≡ []
     → new ≡ add inner p
     → totals.modules ≡ old.modules + (length (modules_in p) + length (imported_modules_in p))
@@ -312,7 +312,7 @@ pub marked_from-snoc : (config : Config) (us : List Tree) (u : Tree) (outer : Li
 marked_from-snoc config [] u outer = refl
 marked_from-snoc config (v ∷ us) u outer = marked_from-snoc config us u (marked_of config outer v ∷ outer)
 
--- those of the components around, where the inner one is opened, and a component in it
+-- those of the components around, when the inner one is opened, and a component in it
 pub marked_in-snoc : (config : Config) (us : List Tree) (u : Tree) → marked_in config (us ++ u ∷ []) ≡ marked_inner config us u ∷ marked_in config us
 marked_in-snoc config us u = marked_from-snoc config us u []
 
@@ -337,7 +337,7 @@ root_kept config outer inner t none is enough s =
     let root : Sound config (record { outer = []; inner = t }) = subst (λ i. Sound config (record { outer = []; inner = i })) is alone in
     (record { maxima = root.maxima; minima = (subst (Minima config) is enough, root.minima) }, root.formed, root.sized)
 
--- Totals, where an empty component is opened in the inner one.
+-- Totals, when an empty component is opened in the inner one.
 pub totalled_open : (outer around : List Tree) (inner new : Tree) (old totals : TreeTotals) → around ≡ outer ++ inner ∷ [] → new ≡ ends
     → totals.modules ≡ old.modules → totals.components ≡ old.components + 1 → totals.instances ≡ old.instances
     → Totalled old (record { outer = outer; inner = inner }) → Totalled totals (record { outer = around; inner = new })
@@ -351,7 +351,7 @@ totalled_open outer around inner new old totals a e ms cs is t =
     subst (λ us. Totalled totals (record { outer = us; inner = new })) (sym a)
     (subst (λ t. Totalled totals (record { outer = outer ++ inner ∷ []; inner = t })) (sym e) whole)
 
--- Totals, where the inner component is closed.
+-- Totals, when the inner component is closed.
 pub totalled_close : (outer around : List Tree) (parent inner new : Tree) (totals : TreeTotals) → around ≡ outer ++ parent ∷ []
     → new ≡ add parent (component inner)
     → Totalled totals (record { outer = around; inner = inner }) → Totalled totals (record { outer = outer; inner = new })

@@ -1,4 +1,4 @@
--- What is in index spaces, and stays where they grow.
+-- What is in index spaces, and stays when they grow.
 use Rattle.std.proofs.Common.{◌≡◌, ℕ, ◌+◌, ◌<◌, ◌≤◌, Bool, true, false, cond, List, [], ◌∷◌, ◌++◌, fold, map, length, refl, sym, ap, ◌∙◌}
 use Rattle.std.proofs.Common.{arith, append-nil, length-append, Some, None}
 use Rattle.std.proofs.lemmas.Bool.{false≢true}
@@ -112,7 +112,7 @@ scalars_entries s es g =
     (all_weaker (λ ty. ty < length s.types) (λ ty. is_scalar_type (s.types ++ es) ty ≡ is_scalar_type s.types ty)
     (λ ty h. ap (λ o. elim o as (λ _. Bool) [ None ↦ false | Some e ↦ is_scalar_entry e ]) (get_left s.types es ty h)) s.functions g.known)
 
--- One more function follows them where its type flattens.
+-- One more function follows them if its type flattens.
 pub scalars_lift : (s : Spaces) (c t : ℕ) → scalar_functions (after_canon s (lift c t)) ≡ scalar_functions s ++ cond (is_scalar_type s.types t)
     (length s.functions ∷ []) []
 scalars_lift s c t =
@@ -156,12 +156,12 @@ equal_places signature i (t ∷ ts) =
     let r = equal_places signature (i + 1) ts in
     λ j. cond (a j) (i ∷ r j) (r j)
 
--- Those of the last scope are those of the component.
+-- The last scope's are the component's.
 pub equal_own : (scopes : List Contents) (signature : Signature)
     → places (has_signature signature) 0 (last_of scopes).types ≡ places (is_of_signature signature) 0 (own_scope scopes).types
 equal_own scopes signature = equal_places signature 0 (last_of scopes).types ∙ ap (λ s. places (is_of_signature signature) 0 s.types) (sym (own_last scopes))
 
--- Canonical functions in a row, where one more is formed after them.
+-- Canonical functions in a row, when one more is formed after them.
 pub formed_canons-snoc : (s : Spaces) (cs : List Canon) (c : Canon) → FormedCanons cs s → FormedCanon (fold after_canon s cs) c → FormedCanons (cs ++ c ∷ []) s
 formed_canons-snoc s [] c all h = (h, tt)
 formed_canons-snoc s (d ∷ cs) c all h = (all.0, formed_canons-snoc (after_canon s d) cs c all.1 h)

@@ -2,11 +2,11 @@
 use Rattle.std.proofs.Common.{◌≡◌, ℕ, List, true, sym, subst}
 use Rattle.smith_format.specs.Consistency.{IsConsistent}
 use Rattle.smith_format.specs.declared.config.Config.{Config}
-use Rattle.smith_marks.proofs.Components.{valid_tree}
+use Rattle.smith_tree.proofs.Components.{valid_tree}
 use Rattle.smith_tree.specs.Open.{root}
 use Rattle.smith_tree.specs.Readable.{CanBeGenerated}
 use Rattle.smith_tree.specs.Tree.{Tree}
-use Rattle.smith_validity.specs.Validates.{Validates}
+use Rattle.smith_tree.specs.Validates.{Validates}
 use Rattle.smith_component.specs.Building.{Building, open_of}
 use Rattle.smith_component.specs.Sound.{IsReadSoFar}
 use Rattle.smith_component.specs.Steps.{IsStep, IsTurn, StaysSound, ValidatesIfDone}
@@ -16,7 +16,7 @@ use Rattle.smith_component.specs.declared.builder.Step.TheVariants.{StillBuildin
 use Rattle.smith_component.proofs.RunsOffered.{turn_offered}
 use Rattle.smith_component.proofs.RunsReadable.{turn_readable}
 
--- Where components must validate, one that can be generated does.
+-- If components must validate, one that can be generated does.
 pub valid_generated : (config : Config) (tree : Tree) → config.must_validate ≡ true → IsConsistent config → CanBeGenerated config tree → Validates tree
 valid_generated = valid_tree
 

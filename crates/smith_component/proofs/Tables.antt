@@ -52,7 +52,7 @@ same_type ts more us e ty h =
     let at : slice_get us ty ≡ slice_get ts ty = ap (λ z. slice_get z ty) e ∙ get_left ts more ty h in
     ap (λ o. elim o [ None ↦ false | Some x ↦ is_scalar_entry x ]) at
 
--- A function that can be lowered can be where the component has more.
+-- A function that can be lowered still can be when the component has more.
 pub lowerable_more : (t u : Tree) (es : List Entry) (fs : List ℕ) → types_of u ≡ types_of t ++ es → functions_of u ≡ functions_of t ++ fs → (f : ℕ)
     → IsLowerable t f → IsLowerable u f
 lowerable_more t u es fs e g f (signature, has, scalar) = (
@@ -65,7 +65,7 @@ lowerable_more t u es fs e g f (signature, has, scalar) = (
   scalar,
 )
 
--- The names of exports stay where there are no more of them.
+-- The names of exports stay if there are no more of them.
 pub held_exports : (old new : Tables) (t u : Tree) → Tabled old t → exports_of u ≡ exports_of t → new.exports ≡ old.exports
     → Holds new.exports (export_names (exports_of u))
 held_exports old new t u tabled e same =

@@ -11,7 +11,7 @@ use Rattle.smith_tree.specs.TooLong.{PartTooLong}
 use Rattle.smith_tree.specs.Tree.{core_module}
 use Rattle.smith_component.proofs.Grammar.{embedded_text}
 
--- What embeds a core module is too long where the module is, or its bytes are too many.
+-- What embeds a core module is too long if the module is, or if its bytes are too many.
 pub embedded_none : (m : ModuleParts) → Agree m → PartTooLong (core_module (shown_module m)) ↔ (ModuleTooLong m ⊎ ContentsTooLong (module_text m))
 embedded_none m agree =
     let is = embedded_text m in

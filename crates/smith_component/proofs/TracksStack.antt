@@ -1,4 +1,4 @@
--- What is kept of a component where a part is added to it.
+-- What is kept of a component when a part is added to it.
 use Rattle.std.proofs.Common.{◌≡◌, ℕ, List, [], ◌∷◌, arith, ap, sym, subst, ◌∙◌, refl}
 use Rattle.std.specs.List.{flat_map}
 use Rattle.smith_input.proofs.Loops.{loop_gives}
@@ -28,7 +28,7 @@ use Rattle.smith_component.proofs.Sound.{totalled_part}
 use Rattle.smith_component.proofs.Tables.{own_bare, tabled_types}
 use Rattle.smith_component.proofs.Tree.{function_count-add, functions_in}
 
--- The last scope by itself is that of the inner component.
+-- The last scope by itself is the inner component's.
 pub tracked_own : {config : Config} {totals : TreeTotals} {stack : Open} (scopes : List Contents)
     → TracksStack config (inward_marked scopes) totals stack → own_scope scopes ≡ scope_of stack.inner
 tracked_own {config} {stack = stack} scopes t =

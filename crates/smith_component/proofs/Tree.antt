@@ -92,7 +92,7 @@ no_functions_in p is fs = omega (arith, ap (λ xs. length (flat_map (λ (i : Imp
 pub function_count-add : (t : Tree) (p : Part) → function_count (add t p) ≡ function_count t + functions_in p
 function_count-add t p = omega (arith, length-own-add imported_functions_in t p, length-own-add canons_in t p)
 
--- a component and those inside
+-- a component and the ones inside
 abbrev pub all_of : Tree → List Tree
 all_of t = t ∷ inside t
 
@@ -100,7 +100,7 @@ all_of t = t ∷ inside t
 abbrev pub Swaps : (Tree → Type 0) → Type 0
 Swaps P = (u a b : Tree) → P (add u (component a)) → P (add u (component b))
 
--- A fact of each component stays where the inner one grows.
+-- A fact of each component stays when the inner one grows.
 pub all_so_far : (P : Tree → Type 0) → Swaps P → (outer : List Tree) (t : Tree) (p : Part) → P (add t p) → AllByRecursion P (anywhere_in components_in p)
     → AllByRecursion P (all_of (tree_so_far outer t)) → AllByRecursion P (all_of (tree_so_far outer (add t p)))
 all_so_far P swap [] t p new ins h = (
@@ -143,7 +143,7 @@ all_inner P (u ∷ outer) t h =
     let x : Tree = tree_so_far outer t in
     all_inner P outer t (all_back P (inside u) (x ∷ inside x) (subst (AllByRecursion P) (anywhere-add components_in u (component x)) h.1))
 
--- the parts of one tree after those of another
+-- the parts of one tree after another's
 abbrev pub join : Tree → Tree → Tree
 join ends u = u
 join (first p t) u = first p (join t u)

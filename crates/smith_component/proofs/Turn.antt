@@ -23,7 +23,7 @@ use Rattle.smith_component.specs.declared.item.Counted.{Counted}
 use Rattle.smith_component.specs.declared.item.Counted.TheVariants as counted
 use Rattle.smith_tree.specs.declared.choices.Item.{Item}
 use Rattle.smith_tree.specs.declared.choices.Item.TheVariants.{Finish, Custom, CoreTypes, Types, Imports, Canonical, Module, Component, Exports}
-use Rattle.smith_component.proofs.ReadsCustom.{custom_tail}
+use Rattle.smith_tree.proofs.ReadsCustom.{custom_tail}
 use Rattle.smith_component.proofs.ReadsCoreTypes.{core_types_read_tail}
 use Rattle.smith_component.proofs.ReadsModule.{stand_in_tail}
 use Rattle.smith_component.proofs.ReadsCanons.{canons_tail}
@@ -36,7 +36,7 @@ pub only_finish : (place : ℕ) (item : Item) → slice_get (Finish ∷ []) plac
 only_finish zero item e = cc
 only_finish (suc place) item e = absurd (cc)
 
--- how many items there are where input is left
+-- how many items there are if input is left
 items_some_by : (f m c e : Bool) → (5 ≤ length (more_items f m c e)) × (length (more_items f m c e) ≤ 9)
 items_some_by true m c e = (omega arith, offers_few (offers true m c e))
 items_some_by false m c e = (omega arith, offers_few (offers false m c e))
@@ -75,7 +75,7 @@ part_length config stack next p e =
     let f : next ≡ record { outer = stack.outer; inner = add stack.inner p } = cc in
     ap (λ n. length n.outer) f
 
--- where the inner component alone grows
+-- when the inner component alone grows
 pub still_building : (old new : Building) → AddsSections old new → building (open_of new) ≡ building (with_inner (open_of old) (open_of new).inner)
 still_building old new a = ap (λ o. building (record { outer = map shown_sections o; inner = shown_sections new.inner })) a.outer
 
@@ -169,7 +169,7 @@ chosen config stack (x ∷ xs) after item r =
     ) in
     offer_holds P (item_offers config stack) all r.place item r.named
 
--- What is finished where input is left was offered.
+-- What is finished while input is left was offered.
 pub finish_offered : (config : Config) (stack : Open) (x : ℕ) (xs after : List ℕ) → ReadsAmong (items config stack (x ∷ xs)) (x ∷ xs) Finish after
     → is_finish_offered config stack.inner ≡ true
 finish_offered config stack x xs after r =

@@ -13,7 +13,7 @@ use Rattle.smith_format.specs.declared.types.RefType.TheVariants.{FuncRef, Exter
 use Rattle.smith_format.specs.declared.types.ValType.{ValType}
 use Rattle.smith_format.specs.declared.types.ValType.TheVariants.{I32, I64, F32, F64, V128, Ref}
 use Rattle.smith_input.specs.Offers.{offered}
-use Rattle.smith_marks.proofs.Everything.{everything_offered}
+use Rattle.smith_tree.proofs.Everything.{everything_offered}
 use Rattle.smith_syntax.specs.CoreLimits.{CoreLimits, EntityLimits}
 use Rattle.smith_syntax.specs.Entries.{CoreEntry, Entry, core_func, core_module as module_type, defined, function, component_type, instance_type}
 use Rattle.smith_syntax.specs.Entries.{Decl, Decls, core_type_decl, type_decl, type_alias, core_type_alias, import_decl, export_decl, no_decls, then_decls}
@@ -37,7 +37,7 @@ on_or_off : (b : Bool) → (b ≡ true) ⊎ (b ≡ false)
 on_or_off true = inl refl
 on_or_off false = inr refl
 
--- what is offered where it is on
+-- what is offered if it is on
 more_offered : {A : Type 0} (b c : Bool) (xs : List A) (x : A) → (b ≡ true → c ≡ true) → Contains (offered b xs) x → Contains (offered c xs) x
 more_offered true true xs x wider h = h
 more_offered true false xs x wider h = let z = wider refl in absurd (cc)
@@ -70,7 +70,7 @@ IsSmall c e = need e ≤ c.max_type_size
 abbrev IsSmallCore : Config → CoreEntry → Type 0
 IsSmallCore c e = core_need e ≤ c.max_type_size
 
--- the core value types that are there where a feature is on
+-- the core value types that are there if a feature is on
 
 abbrev floats_of : Config → List ValType
 floats_of c = offered c.allow_floats (F32 ∷ F64 ∷ [])

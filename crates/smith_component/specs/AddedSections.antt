@@ -1,7 +1,6 @@
 -- How the sections that a turn adds are read.
 use Rattle.std.specs.Prelude.{◌≡◌, ℕ, ◌-◌, List, length}
 use Rattle.smith_input.specs.Loops.{Loop, Never}
-use Rattle.smith_input.specs.Texts.{ReadsText, ReadsBytes}
 use Rattle.smith_format.specs.declared.config.Config.{Config}
 use Rattle.smith_syntax.specs.Entries.{Entry, CoreEntry, ImportEntry}
 use Rattle.smith_types.specs.Made.{MadeWith}
@@ -16,10 +15,6 @@ use Rattle.smith_tree.specs.Open.{Open}
 use Rattle.smith_tree.specs.declared.choices.CanonItem.{CanonItem}
 use Rattle.smith_component.specs.declared.item.Counted.{Counted}
 use Rattle.smith_component.specs.declared.item.Counted.TheVariants as counted
-
--- a custom section: a text of at most 1000 bytes, and then any bytes
-abbrev pub ReadsCustom : List ℕ → List ℕ → List ℕ → List ℕ → Type 0
-ReadsCustom b name contents rest = (mid : List ℕ) × ReadsText 1000 b name mid × ReadsBytes mid contents rest
 
 -- A type of a type section, with fresh fuel. It is in the scopes that the types before it leave.
 abbrev pub ReadsType : Config → List Marked → Marked → List ℕ → Entry → List ℕ → Marked → Type 0
@@ -38,8 +33,7 @@ ReadsCoreType config own b x rest next =
 abbrev pub ReadsCoreTypes : Config → ℕ → Marked → List ℕ → List CoreEntry → List ℕ → Marked → Type 0
 ReadsCoreTypes config max own b xs rest next = Loop Never (ReadsCoreType config) 0 max 0 own b xs rest next
 
--- What the sections with a minimum do on the bytes b, where at least that many are to be added: they lead to the inner component
--- t.
+-- What the sections with a minimum do on the bytes b, if at least that many are to be added: they lead to the inner component t.
 
 -- a type section, with at most as many types as the component may still have
 abbrev pub AddsTypes : Config → ℕ → Open → List ℕ → Tree → List ℕ → Type 0

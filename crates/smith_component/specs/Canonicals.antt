@@ -1,4 +1,4 @@
--- How canonical functions are read, and where a lift defines its type.
+-- How canonical functions are read, and when a lift defines its type.
 use Rattle.std.specs.Prelude.{◌≡◌, ℕ, ◌-◌, ◌<◌, ◌≤◌, List, [], ◌∷◌, ◌++◌, length, Some, slice_get}
 use Rattle.smith_input.specs.Choices.{ReadsAmong}
 use Rattle.smith_input.specs.Loops.{Loop}
@@ -45,8 +45,8 @@ equal_types s signature = places (is_of_signature signature) 0 (spaces_at s).typ
 abbrev pub with_defined : Growing → ℕ → Signature → Growing
 with_defined s c signature = record { before = add (grown s) (types (function signature ∷ [])); funcs = lift c (length (spaces_at s).types) ∷ [] }
 
--- A lift is to a type that is equal, by a choice among these. Where there is none, it defines the type, if the component may have one
--- more; otherwise it is abandoned.
+-- A lift is to a type that is equal, by a choice among these. If there is none, it defines the type if the component may have one more;
+-- otherwise it is abandoned.
 pub data LiftsTo (config : Config) (s : Growing) (c : ℕ) (signature : Signature) (bytes rest : List ℕ) (next : Growing) : Type 0 where
   to_equal : {t : ℕ} → ReadsAmong (equal_types s signature) bytes t rest → next ≡ with_canon s (lift c t) → LiftsTo config s c signature bytes rest next
   to_defined : equal_types s signature ≡ [] → length (spaces_at s).types < config.max_types → rest ≡ bytes → next ≡ with_defined s c signature
@@ -78,7 +78,7 @@ ReadsCanon config s Lift bytes rest next = ReadsLift config s bytes rest next
 abbrev pub CanonTurn : Config → Growing → List ℕ → CanonItem → List ℕ → Growing → Type 0
 CanonTurn config s bytes item rest next = (mid : List ℕ) × ReadsAmong (canon_items (spaces_at s)) bytes item mid × ReadsCanon config s item mid rest next
 
--- The section ends where no function can be lowered or lifted.
+-- The section ends when no function can be lowered or lifted.
 abbrev pub NoCanon : Growing → List ℕ → List ℕ → Growing → Type 0
 NoCanon s bytes rest next = (canon_items (spaces_at s) ≡ []) × (rest ≡ bytes) × (next ≡ s)
 

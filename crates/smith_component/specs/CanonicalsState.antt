@@ -11,14 +11,15 @@ use Rattle.smith_types.specs.Lifting.{ReadsLiftedType}
 use Rattle.smith_scopes.specs.Scopes.{Contents, outer_marked, own_marked}
 use Rattle.smith_component.specs.Canonicals.{CanonTurn, Growing, NoCanon, grown}
 use Rattle.smith_component.specs.SectionValues.{externs_of}
-use Rattle.smith_component.specs.Shown.{shown_canon, shown_sections}
+use Rattle.smith_component.specs.Shown.{shown_sections}
+use Rattle.smith_tree.specs.Shown.{shown_canon}
 use Rattle.smith_component.specs.Tables.{Tabled}
 use Rattle.smith_tree.specs.Marking.{marked_inner}
 use Rattle.smith_tree.specs.Tree.{Tree}
 use Rattle.smith_component.specs.declared.builder.canonicals.CanonicalDraft.{CanonicalDraft}
 use Rattle.smith_component.specs.declared.builder.open.OpenComponent.{OpenComponent}
 use Rattle.smith_component.specs.declared.builder.tables.Tables.{Tables}
-use Rattle.smith_component.specs.declared.component.Func.{Func}
+use Rattle.smith_tree.specs.declared.entries.Func.{Func}
 use Rattle.smith_component.specs.declared.component.Section.{Section}
 use Rattle.smith_tree.specs.declared.choices.CanonItem.{CanonItem}
 use Rattle.smith_tree.specs.declared.choices.CanonItem.TheVariants.{Lower, Lift}
@@ -27,7 +28,7 @@ use Rattle.smith_tree.specs.declared.choices.CanonItem.TheVariants.{Lower, Lift}
 abbrev pub growing : OpenComponent → List Func → Growing
 growing component funcs = record { before = shown_sections component.sections.items; funcs = map shown_canon funcs }
 
--- The limits fit together, and the last scope and the tables are those of the component with that section.
+-- The limits fit together, and the last scope and the tables are the component's with that section.
 pub record CanonicalsState (config : Config) (around : List Tree) (scopes : List Contents) (component : OpenComponent) (funcs : List Func) : Type 0 where
   pub consistent : IsConsistent config
   pub scope_is : own_marked scopes ≡ marked_inner config around (grown (growing component funcs))
@@ -80,7 +81,7 @@ pub record LowersAs (own : Scope) (tables : Tables) (c : ℕ) (signature : Signa
 abbrev pub IsLowered : Scope → Tables → ℕ → Type 0
 IsLowered own tables c = (signature : Signature) × LowersAs own tables c signature × (is_scalar signature ≡ true)
 
--- A signature is read that flattens as that of the function which the core function lowers.
+-- A signature is read that flattens as the signature of the function which the core function lowers.
 pub record ReadsLiftedTypeOf (own : Scope) (tables : Tables) (c : ℕ) (bytes : List ℕ) (signature : Signature) (rest : List ℕ) : Type 0 where
   pub lowered : Signature
   pub core : Function

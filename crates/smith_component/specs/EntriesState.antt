@@ -7,13 +7,13 @@ use Rattle.smith_format.specs.declared.types.ValType.{ValType}
 use Rattle.smith_scopes.specs.Scopes.{Contents, outer_marked}
 use Rattle.smith_component.specs.declared.builder.Progress.{Progress}
 
--- Types can be read: the limits fit together, the value types are those that they allow, and there are few scopes.
+-- Types can be read: the limits fit together, the value types are the ones that they allow, and there are few scopes.
 pub record CanReadTypes (config : Config) (valtypes : List ValType) (scopes : List Contents) : Type 0 where
   pub configured : valtypes ≡ configured config
   pub consistent : IsConsistent config
   pub shallow : length scopes ≤ 1001
 
--- The scopes alone have changed, and those around the innermost one are as they were.
+-- The scopes alone have changed, and the ones around the innermost one are as they were.
 pub record GrowsScope (old new : Progress) : Type 0 where
   pub only : new ≡ record old { scopes = new.scopes }
   pub outer : outer_marked new.scopes ≡ outer_marked old.scopes

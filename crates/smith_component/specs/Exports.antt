@@ -8,8 +8,8 @@ use Rattle.smith_tree.specs.Offers.{export_functions}
 use Rattle.smith_tree.specs.Tree.{ExportEntry, Tree, exports_of}
 use Rattle.smith_tree.specs.WellFormed.{export_names}
 
--- An export after these of its section: a choice among the component functions, those that the section exports too, and a name that is new
--- among the component's exports.
+-- An export after these of its section: a choice among the component functions, with the ones that the section exports, and a name that is
+-- new among the component's exports.
 pub record ReadsExport (config : Config) (outer : List Tree) (t : Tree) (es : List ExportEntry) (bytes : List ℕ) (x : ExportEntry)
     (rest : List ℕ) (next : List ExportEntry) : Type 0 where
   pub mid : List ℕ
@@ -17,7 +17,7 @@ pub record ReadsExport (config : Config) (outer : List Tree) (t : Tree) (es : Li
   pub named : ReadsNew 100 (export_names (exports_of t ++ es)) mid x.name rest
   pub next_is : next ≡ es ++ x ∷ []
 
--- The section ends where there is no component function, or no room for one more.
+-- The section ends when there is no component function, or no room for one more.
 abbrev pub NoExport : Config → List Tree → Tree → List ExportEntry → List ℕ → List ℕ → List ExportEntry → Type 0
 NoExport config outer t es bytes rest next = (export_functions config outer t es ≡ []) × (rest ≡ bytes) × (next ≡ es)
 

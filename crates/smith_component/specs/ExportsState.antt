@@ -4,14 +4,14 @@ use Rattle.smith_format.specs.declared.config.Config.{Config}
 use Rattle.smith_syntax.specs.Marked.{Marked}
 use Rattle.smith_component.specs.Exports.{NoExport, ReadsExport}
 use Rattle.smith_tree.specs.Offers.{with_exports}
-use Rattle.smith_component.specs.Shown.{shown_export}
+use Rattle.smith_tree.specs.Shown.{shown_export}
 use Rattle.smith_component.specs.Tables.{Tabled}
 use Rattle.smith_tree.specs.Tree.{ExportEntry, Tree}
 use Rattle.smith_tree.specs.Marking.{marked_inner}
 use Rattle.smith_component.specs.declared.builder.tables.Tables.{Tables}
-use Rattle.smith_component.specs.declared.component.Export.{Export}
+use Rattle.smith_tree.specs.declared.entries.Export.{Export}
 
--- The scope and the tables are those of the component, where a section has these exports.
+-- The scope and the tables are the component's, when a section has these exports.
 pub record ExportsState (config : Config) (outer : List Tree) (t : Tree) (es : List ExportEntry) (own : Marked) (tables : Tables) : Type 0 where
   pub scope_is : own ≡ marked_inner config outer (with_exports t es)
   pub tabled : Tabled tables (with_exports t es)

@@ -1,4 +1,4 @@
--- Where what is missing of the minima can be filled, regardless of the input.
+-- When what is missing of the minima can be filled, whatever the input.
 use Rattle.std.specs.Prelude.{◌≡◌, ℕ, ◌+◌, ◌-◌, ◌*◌, ◌<◌, ◌≤◌, ◌⊎◌, true, List, length}
 use Rattle.smith_format.specs.declared.config.Config.{Config}
 use Rattle.smith_syntax.specs.Marks.{room_size, small_size}

@@ -1,4 +1,4 @@
--- How what is missing of a minimum is filled where a component is finished.
+-- How what is missing of a minimum is filled when a component is finished.
 use Rattle.std.specs.Prelude.{◌≡◌, ℕ, ◌-◌, ◌<◌, ◌≤◌, List, length, ◌⊎◌}
 use Rattle.smith_format.specs.declared.config.Config.{Config}
 use Rattle.smith_tree.specs.Tree.{Tree, imports_of, function_count}
@@ -8,7 +8,7 @@ use Rattle.smith_component.specs.declared.item.Counted.{Counted}
 use Rattle.smith_component.specs.declared.item.Counted.TheVariants as counted
 use Rattle.smith_component.specs.AddedSections.{Adds}
 
--- What is missing of a minimum is filled, and where nothing is missing nothing is done.
+-- What is missing of a minimum is filled, and if nothing is missing nothing is done.
 abbrev pub Fills : Counted → Config → Open → List ℕ → Tree → List ℕ → Type 0
 Fills what config stack b t rest =
     ((minimum_of what config ≤ count_of what stack.inner) × (t ≡ stack.inner) × (rest ≡ b))

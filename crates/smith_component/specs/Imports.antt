@@ -23,7 +23,7 @@ pub record ReadsImport (config : Config) (stack : Open) (is : List ImportEntry) 
   pub named : ReadsNamedExtern so_far mid (x.name, url) rest
   pub next_is : next ≡ is ++ x ∷ []
 
--- The section ends where nothing can be imported.
+-- The section ends when nothing can be imported.
 abbrev pub NoImport : Config → Open → List ImportEntry → List ℕ → List ℕ → List ImportEntry → Type 0
 NoImport config stack is bytes rest next = (import_kinds config stack is ≡ []) × (rest ≡ bytes) × (next ≡ is)
 

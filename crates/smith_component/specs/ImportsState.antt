@@ -17,8 +17,8 @@ use Rattle.smith_component.specs.declared.builder.Progress.{Progress}
 use Rattle.smith_component.specs.declared.builder.tables.Tables.{Tables}
 use Rattle.smith_component.specs.declared.builder.totals.TreeTotals.{TreeTotals}
 
--- The scope, the totals and the tables are those of the open components, where a section has these imports. The sets of names are those
--- of the imports before it and of these, and of their URLs.
+-- The scope, the totals and the tables are the open components', when a section has these imports. The sets of names are the names of the
+-- imports before it and of these, and of their URLs.
 pub record ImportsState (config : Config) (stack : Open) (before : List NamedExtern) (is : List Import) (own : Marked) (totals : TreeTotals)
     (tables : Tables) : Type 0 where
   pub scope_is : own ≡ marked_with_imports config stack (map import_shown is)
@@ -33,7 +33,8 @@ ImportsOne config stack before is own totals tables b None rest =
 ImportsOne config stack before is own totals tables b (Some i) rest =
     ReadsImportValue config stack before is b i rest (is ++ i ∷ []) × ImportsState config stack before (is ++ i ∷ []) own totals tables
 
--- Imports that are read: the scopes, the totals and the tables alone have changed, and are those where a section has these imports too.
+-- Imports that are read: the scopes, the totals and the tables alone have changed, and are the ones when a section has these imports
+-- too.
 pub record Imported (old : Progress) (is : List Import) (new : Progress) : Type 0 where
   pub only : new ≡ record old { scopes = new.scopes; totals = new.totals; inner = record old.inner { tables = new.inner.tables } }
   pub outer : outer_marked new.scopes ≡ outer_marked old.scopes

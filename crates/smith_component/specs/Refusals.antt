@@ -14,7 +14,7 @@ use Rattle.smith_component.specs.Turn.{LacksAt, RefusesModuleAt, building}
 use Rattle.smith_component.specs.Fills.{Lacks}
 use Rattle.smith_component.specs.Runs.{RunsTo, Turns}
 
--- A builder is refused where limits do not fit together, and otherwise only when out of memory.
+-- A builder is refused if limits do not fit together, and otherwise only when out of memory.
 abbrev pub IsNewRefusal : Config → Error → Type 0
 IsNewRefusal config InconsistentLimits = ¬ IsConsistent config
 IsNewRefusal config MinimumNotMet = ⊥
@@ -23,8 +23,8 @@ IsNewRefusal config TooLong = ⊥
 IsNewRefusal config OutOfMemory = IsConsistent config
 IsNewRefusal config PartsDisagree = ⊥
 
--- A component that is to be finished is refused where imports or functions are missing, and otherwise only when out of memory. The last
--- of the bytes are left.
+-- A component that is to be finished is refused if imports or functions are missing, and otherwise only when out of memory. The last of
+-- the bytes are left.
 abbrev pub IsFillRefusal : Config → Open → List ℕ → Error → List ℕ → Type 0
 IsFillRefusal config stack b InconsistentLimits rest = ⊥
 IsFillRefusal config stack b MinimumNotMet rest = Lacks config stack b rest
@@ -37,8 +37,8 @@ IsFillRefusal config stack b PartsDisagree rest = ⊥
 abbrev pub IsMinimum : {T : Type 0} → Result T Error → ℕ → ℕ → Type 0
 IsMinimum result min count = MatchResult result (λ _. min ≤ count) (λ e. (e ≡ MinimumNotMet) × (count < min))
 
--- A turn is refused where the inner component is to be finished and imports or functions are missing, where a core module is chosen that
--- the limits on memories do not leave, and otherwise only when out of memory.
+-- A turn is refused if the inner component is to be finished and imports or functions are missing, if a core module is chosen that the
+-- limits on memories do not leave, and otherwise only when out of memory.
 abbrev pub IsStepRefusal : Config → Open → List ℕ → Error → List ℕ → Type 0
 IsStepRefusal config stack left InconsistentLimits rest = ⊥
 IsStepRefusal config stack left MinimumNotMet rest = LacksAt config rest stack left
@@ -73,7 +73,7 @@ IsRefusal config input TooLong rest = ⊥
 IsRefusal config input OutOfMemory rest = IsConsistent config
 IsRefusal config input PartsDisagree rest = ⊥
 
--- A component is too long only where it is made of the input and has no spelling.
+-- A component is too long only if it is made of the input and has no spelling.
 abbrev pub IsGenerateRefusal : Config → List ℕ → Error → List ℕ → Type 0
 IsGenerateRefusal config input InconsistentLimits rest = ¬ IsConsistent config × (rest ≡ input)
 IsGenerateRefusal config input MinimumNotMet rest = IsConsistent config × LacksOn config input rest

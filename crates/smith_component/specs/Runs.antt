@@ -29,8 +29,8 @@ pub record RunsTo (config : Config) (input : List ℕ) (tree : Tree) (left : Lis
 abbrev pub IsFollowed : Config → List ℕ → Type 0
 IsFollowed config left = (config.finish_after ≡ 0) ⊎ (0 < length left)
 
--- A component that is made of the input: it is that of a run, and one of those that can be generated. If the input did not end in it, each
--- component of it has as many sections as that takes; if it did, each but those that may have been open then.
+-- A component that is made of the input: a run leads to it, and it can be generated. If the input did not end in it, each component of it has as
+-- many sections as that takes; if it did, each but the ones that may have been open then.
 pub record IsMade (config : Config) (input : List ℕ) (tree : Tree) (left : List ℕ) : Type 0 where
   pub run : RunsTo config input tree left
   pub image : CanBeGenerated config tree

@@ -58,8 +58,8 @@ externs_in (Exports s) = []
 abbrev pub externs_of : List Section → List NamedExtern
 externs_of sections = flat_map externs_in sections
 
--- An import after these of its section, in a component with those before: what it is of, a name that is new among the component's
--- imports, and a URL or none, which has a name that is new among those in their URLs.
+-- An import after these of its section, in a component with the ones before: what it is of, a name that is new among the
+-- component's imports, and a URL or none, which has a name that is new among the names in their URLs.
 pub record ReadsImportValue (config : Config) (stack : Open) (before : List NamedExtern) (is : List Import) (bytes : List ℕ) (x : Import) (rest : List ℕ)
     (next : List Import) : Type 0 where
   pub mid : List ℕ
@@ -68,7 +68,7 @@ pub record ReadsImportValue (config : Config) (stack : Open) (before : List Name
   pub named : ReadsNamedExtern (before ++ map extern_of is) mid (extern_of x) rest
   pub next_is : next ≡ is ++ x ∷ []
 
--- The section ends where nothing can be imported.
+-- The section ends when nothing can be imported.
 abbrev pub NoImportValue : Config → Open → List Import → List ℕ → List ℕ → List Import → Type 0
 NoImportValue config stack is bytes rest next = (import_kinds config stack (map import_shown is) ≡ []) × (rest ≡ bytes) × (next ≡ is)
 

@@ -34,20 +34,20 @@ pub record IsReadSoFar (config : Config) (stack : Open) : Type 0 where
   pub readable : AllByRecursion (IsReadable config) (stack.inner ∷ stack.outer)
   pub offered : IsOffered config (tree_so_far stack.outer stack.inner)
 
--- The running totals are those of the tree so far.
+-- The running totals are the totals of the tree so far.
 pub record Totalled (totals : TreeTotals) (stack : Open) : Type 0 where
   pub modules : totals.modules ≡ module_count (tree_so_far stack.outer stack.inner)
   pub components : totals.components ≡ component_count (tree_so_far stack.outer stack.inner)
   pub instances : totals.instances ≡ instance_count (tree_so_far stack.outer stack.inner)
 
--- The running totals are those of the tree so far, and the scopes are those of the open components too.
+-- The running totals are the totals of the tree so far, and the scopes are the open components' too.
 pub record TracksStack (config : Config) (scopes : List Marked) (totals : TreeTotals) (stack : Open) : Type 0 where
   pub sound : Sound config stack
   pub scopes_are : scopes ≡ marked_inner config stack.outer stack.inner ∷ marked_in config stack.outer
   pub totalled : Totalled totals stack
 
--- A part that may be added to the inner component: it is well formed there, not a component, and within the limits where what is
--- there is.
+-- A part that may be added to the inner component: it is well formed there, not a component, and within the limits if what is there
+-- is.
 pub record IsAddable (config : Config) (stack : Open) (p : Part) : Type 0 where
   pub formed : FormedPart p (scopes_in stack.outer) stack.inner
   pub own : OwnLimits config stack.inner → OwnLimits config (add stack.inner p)

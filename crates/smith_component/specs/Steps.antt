@@ -19,13 +19,13 @@ use Rattle.smith_component.specs.declared.builder.Step.{Step}
 use Rattle.smith_component.specs.declared.builder.Step.TheVariants.{StillBuilding, Finished}
 use Rattle.smith_tree.specs.declared.choices.Item.{Item}
 use Rattle.smith_tree.specs.declared.choices.Item.TheVariants as item
-use Rattle.smith_validity.specs.Validates.{Validates}
+use Rattle.smith_tree.specs.Validates.{Validates}
 
 abbrev pub next_of : Step → Next
 next_of (StillBuilding b) = building (open_of b)
 next_of (Finished c) = answered c
 
--- The inner component has more sections after those that it had.
+-- The inner component has more sections after the ones that it had.
 pub record AddsSections (old new : Building) : Type 0 where
   pub more : List Section
   pub outer : new.outer ≡ old.outer
@@ -36,14 +36,14 @@ pub record OpensComponent (old new : Building) : Type 0 where
   pub outer : new.outer ≡ old.outer ++ old.inner ∷ []
   pub inner : new.inner ≡ []
 
--- The inner component, with more sections after those that it had, became the last section of the one around it.
+-- The inner component, with more sections after the ones that it had, became the last section of the one around it.
 pub record ClosesComponent (old new : Building) : Type 0 where
   pub parent : List Section
   pub more : List Section
   pub outer : old.outer ≡ new.outer ++ parent ∷ []
   pub inner : new.inner ≡ parent ++ Component (shown_sections (old.inner ++ more)) ∷ []
 
--- The inner component, with more sections after those that it had, is a section of the one around it, or the answer.
+-- The inner component, with more sections after the ones that it had, is a section of the one around it, or the answer.
 abbrev pub ClosesSections : Building → Step → Type 0
 ClosesSections old (StillBuilding new) = ClosesComponent old new
 ClosesSections old (Finished c) = (old.outer ≡ []) × (more : List Section) × (c ≡ shown_sections (old.inner ++ more))
@@ -53,7 +53,7 @@ abbrev pub KeepsSections : Building → Step → Type 0
 KeepsSections old (StillBuilding new) = AddsSections old new ⊎ OpensComponent old new ⊎ ClosesComponent old new
 KeepsSections old (Finished c) = ClosesSections old (Finished c)
 
--- What an item adds on the bytes b, where a plain tree leaves something of it out.
+-- What an item adds on the bytes b, if a plain tree leaves something of it out.
 abbrev pub AddsValues : Config → Item → Building → List ℕ → Step → List ℕ → Type 0
 AddsValues config item.Finish old b step rest = Unit {0}
 AddsValues config item.Custom old b step rest = Unit {0}
@@ -112,7 +112,7 @@ abbrev pub SoundUnlessDone : Progress → Option Tree → Type 0
 SoundUnlessDone b None = IsSound b
 SoundUnlessDone b (Some c) = Unit {0}
 
--- The inner component alone has grown, by sections after those that it had.
+-- The inner component alone has grown, by sections after the ones that it had.
 pub record Grows (old new : Progress) : Type 0 where
   pub sound : IsSound new
   pub keeps : new.config ≡ old.config
@@ -138,7 +138,7 @@ pub record DoesItem (item : Item) (old : Progress) (b : List ℕ) (new : Progres
   pub keeps : StaysWithin old.config (step_of new c)
   pub sections : KeepsSections (building_of old) (step_of new c)
 
--- Core modules and components are offered where the limits leave room for one.
+-- Core modules and components are offered if the limits leave room for one.
 abbrev pub IsOffered : Config → Open → Item → Type 0
 IsOffered config stack chosen =
     (chosen ≡ item.Module → IsTrue (is_module_offered config stack)) × (chosen ≡ item.Component → IsTrue (is_component_offered config stack))

@@ -25,7 +25,7 @@ pub record IsGrounded (t : Tree) : Type 0 where
   pub known : AllByRecursion (λ ty. ty < length (types_of t)) (functions_of t)
   pub lowered : AllByRecursion (IsLowerable t) (core_functions_of t)
 
--- The tables are those of the component, except for the names of its imports.
+-- The tables are the component's, except for the names of its imports.
 pub record Tabled (tables : Tables) (t : Tree) : Type 0 where
   pub functions : tables.functions.items ≡ functions_of t
   pub core_functions : tables.core_functions.items ≡ core_functions_of t
@@ -34,7 +34,8 @@ pub record Tabled (tables : Tables) (t : Tree) : Type 0 where
   pub exports : Holds tables.exports (export_names (exports_of t))
   pub grounded : IsGrounded t
 
--- An open component's tables are those of its sections, and its sets of names those of its imports and of their URLs.
+-- An open component's tables are its sections' tables, and its sets of names are the names of its imports and of their
+-- URLs.
 pub record IsTabled (c : OpenComponent) : Type 0 where
   pub tabled : Tabled c.tables (shown_sections c.sections.items)
   pub externs : HoldsExterns c.tables.imports (externs_of c.sections.items)

@@ -7,8 +7,7 @@ use Rattle.smith_format.specs.declared.config.Config.{Config}
 use Rattle.smith_syntax.specs.Entries.{CoreEntry}
 use Rattle.smith_syntax.specs.Marked.{Marked}
 use Rattle.smith_tree.specs.Spaces.{core_types_of}
-use Rattle.smith_tree.specs.Tree.{Tree, Part, ends, custom, core_module, core_types, component, exports, add}
-use Rattle.smith_tree.specs.Tree.{ExportEntry}
+use Rattle.smith_tree.specs.Tree.{ExportEntry, Tree, Part, ends, custom, core_module, core_types, component, exports, add}
 use Rattle.smith_tree.specs.Open.{Open, items, with_inner}
 use Rattle.smith_component.specs.Shown.{shown_module}
 use Rattle.smith_tree.specs.Marking.{marked_inner}
@@ -16,7 +15,8 @@ use Rattle.smith_component.specs.declared.item.Counted.{Counted}
 use Rattle.smith_component.specs.declared.item.Counted.TheVariants as counted
 use Rattle.smith_tree.specs.declared.choices.Item.{Item}
 use Rattle.smith_tree.specs.declared.choices.Item.TheVariants.{Finish, Custom, CoreTypes, Types, Imports, Canonical, Module, Component, Exports}
-use Rattle.smith_component.specs.AddedSections.{ReadsCustom, ReadsCoreTypes, Adds}
+use Rattle.smith_tree.specs.ReadsCustom.{ReadsCustom}
+use Rattle.smith_component.specs.AddedSections.{ReadsCoreTypes, Adds}
 use Rattle.smith_component.specs.Exports.{ReadsExports}
 use Rattle.smith_component.specs.Fills.{FillsAll, Lacks}
 

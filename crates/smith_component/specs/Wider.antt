@@ -2,8 +2,8 @@
 use Rattle.std.specs.Prelude.{◌≡◌, ◌≤◌, true}
 use Rattle.smith_format.specs.declared.config.Config.{Config}
 
--- Each minimum is at most that of the narrow limits, each maximum at least, each feature is on where it is on there, and components must validate only
--- where they must there.
+-- Each minimum is at most the narrow limits' minimum, each maximum at least theirs, each feature is on if it is on there, and components must validate
+-- only if they must there.
 pub record AreWider (wide narrow : Config) : Type 0 where
   pub min_types : wide.min_types ≤ narrow.min_types
   pub min_imports : wide.min_imports ≤ narrow.min_imports

@@ -45,7 +45,7 @@ pub struct Builder {
     progress: Progress,
 }
 
-/// What a builder holds, changed in place. Where a turn is refused, nothing is known of it, and it is dropped.
+/// What a builder holds, changed in place. If a turn is refused, nothing is known of it, and it is dropped.
 #[derive(Drop)]
 pub(crate) struct Progress {
     alloc: Global,
@@ -171,20 +171,20 @@ impl Builder {
         Ok(Builder { progress })
     }
 
-    /// One turn: a choice among what may be done, which is then done. Where the choice is to finish a component, what
-    /// it is missing of the minima is added first: types, then imports, then functions. Where imports or functions are
-    /// missing after that, no component is finished, and `MinimumNotMet` is returned only there. Where the choice is a
-    /// core module, and the limits on memories leave none, it is `ModuleRefused`. Otherwise it fails only when out of
+    /// One turn: a choice among what may be done, which is then done. If the choice is to finish a component, what it
+    /// is missing of the minima is added first: types, then imports, then functions. If imports or functions are
+    /// missing after that, no component is finished, and `MinimumNotMet` is returned only then. If the choice is a core
+    /// module, and the limits on memories leave none, it is `ModuleRefused`. Otherwise it fails only when out of
     /// memory.
     pub fn step(self, u: &mut Unstructured) -> Result<Step, Error>
         ensures steps { IfOk result (λ s. IsStep self u.old s u.new) }
         ensures falls { IfOk result (λ s. Falls self.config u.old (open_of self) u.new (next_of s)) }
-        // Where components must validate, one that is finished does.
+        // If components must validate, one that is finished does.
         ensures validates { self.config.must_validate ≡ true → IfOk result ValidatesIfDone }
         ensures accepted { IsConsistent self.config }
         // A refusal leaves what is decided too, allocation failure aside.
         ensures refuses { IfErr result (λ e. IsStepRefusal self.config (open_of self) u.old e u.new) }
-        // No memory is needed to finish the root where no input is left and nothing is missing.
+        // No memory is needed to finish the root if no input is left and nothing is missing.
         ensures alone { IsReady self.config (open_of self) u.old → IsAnswered result }
         ensures fills { CanFill self.config (open_of self).outer (open_of self).inner
             → IfErr result (λ e. ¬ (e ≡ Error.MinimumNotMet)) }

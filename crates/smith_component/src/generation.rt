@@ -9,7 +9,7 @@ ghost use Rattle.smith_component.specs.Refusals.{IsGenerateRefusal};
 ghost use Rattle.smith_tree.specs.Grammar.{Spells};
 ghost use Rattle.smith_tree.specs.Script.{Within, script};
 ghost use Rattle.smith_tree.specs.Tree.{Tree};
-ghost use Rattle.smith_validity.specs.Validates.{Validates};
+ghost use Rattle.smith_tree.specs.Validates.{Validates};
 
 use crate::component::Component;
 use smith_format::Config;
@@ -27,15 +27,16 @@ pub struct Generated {
 ///
 /// Limits that do not fit together are refused with `InconsistentLimits` before a byte is read. A component that is to
 /// be finished and is missing imports or functions of a minimum, though what can be filled is, is refused with
-/// `MinimumNotMet`; one that is to have a core module where the limits on memories leave none with `ModuleRefused`; one
-/// of which a written length or count exceeds 4,294,967,295 with `TooLong`. Otherwise it fails only when out of memory.
+/// `MinimumNotMet`; one that is to have a core module when the limits on memories leave none, with `ModuleRefused`; one
+/// with a written length or count that exceeds 4,294,967,295, with `TooLong`. Otherwise it fails only when out of
+/// memory.
 pub fn generate(alloc: Global, config: Config, u: &mut Unstructured) -> Result<Generated, Error>
     // The bytes have one reading, the component, which is well formed and within the limits.
     ensures generated { IfOk result (λ g. Generates config g.component g.bytes.items) }
 
-    // The component is that of a run of turns over the input, which leaves what is left, and one of those that can be
-    // generated. By `reach` and `answers`, exactly those of them that have bytes are generated. Each component of it
-    // has at least `finish_after` sections, but for those that may be open when the input ends.
+    // A run of turns over the input leads to the component and leaves the rest, and it can be generated. By `reach` and
+    // `answers`, exactly the ones that have bytes are generated. Each component of it has at least `finish_after`
+    // sections, but for the ones that may be open when the input ends.
     ensures made { IfOk result (λ g. IsMade config u.old g.component u.new) }
 
     // An input that begins with the script of a plan produces the plan's bytes, and leaves what is after it.
@@ -46,7 +47,7 @@ pub fn generate(alloc: Global, config: Config, u: &mut Unstructured) -> Result<G
     ensures answers { (plan : Tree) (rest : List ℕ) → IsConsistent config → Within config plan
         → u.old ≡ script config plan ++ rest → IfErr result (λ e. e ≡ Error.OutOfMemory) }
 
-    // Where components must validate, it does.
+    // If components must validate, it does.
     ensures validates { config.must_validate ≡ true → IfOk result (λ g. Validates g.component) }
 
     ensures accepts { OnOk result (IsConsistent config) }

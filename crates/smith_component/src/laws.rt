@@ -28,7 +28,7 @@ ghost use Rattle.smith_component.specs.Ended.{AreFinishedOrOpen};
 ghost use Rattle.smith_component.specs.Runs.{IsFollowed, RunsTo};
 ghost use Rattle.smith_tree.specs.declared.choices.Item.TheVariants.{Component as ItemComponent, Finish};
 
-/// A section with a core module whose parts agree has no bytes exactly where the module has none, or has more than
+/// A section with a core module whose parts agree has no bytes exactly if the module has none, or has more than
 /// 4,294,967,295.
 pub fn long_modules_make_long_sections()
     ensures { (m : ModuleParts) → Agree m
@@ -47,14 +47,14 @@ pub fn runs_are_sound()
         → RunsTo config input tree left → CanBeGenerated config tree }
 {}
 
-/// Where a run leaves input, or no number of sections is asked of components that are finished, each component of what
-/// it leads to has that number.
+/// If a run leaves input, or no number of sections is asked of components that are finished, each component of what it
+/// leads to has that number.
 pub fn followed_runs_finish_components()
     ensures { (config : Config) (input : List ℕ) (tree : Tree) (left : List ℕ) → IsFollowed config left
         → RunsTo config input tree left → AreFinishable config tree }
 {}
 
-/// Whatever a run leaves, each component of what it leads to has that number but for those that may be open when the
+/// Whatever a run leaves, each component of what it leads to has that number but for the ones that may be open when the
 /// input ends: the root, the last component in it, the last component in that, and so on.
 pub fn runs_finish_all_but_the_last_components()
     ensures { (config : Config) (input : List ℕ) (tree : Tree) (left : List ℕ) → RunsTo config input tree left
@@ -73,20 +73,20 @@ pub fn scripts_are_bytes()
         → AreBytes (script config plan) }
 {}
 
-/// Exactly those components that have bytes are produced by some input that is followed by more, or by any where no
-/// number of sections is asked of components that are finished, that are well formed, within the limits, readable and
-/// of that number of sections, and all of whose types, imports and exports are offered.
+/// A component that has bytes is produced by some input that is followed by more, or by any input if no number of
+/// sections is asked of components that are finished, exactly if it is well formed, within the limits, readable and of
+/// that number of sections, and all its types, imports and exports are offered.
 pub fn components_are_exact()
     ensures { (config : Config) (tree : Tree) (b : List ℕ) → IsConsistent config → Spells tree b
         → ((input left : List ℕ) × AreBytes input × IsFollowed config left × RunsTo config input tree left)
         ↔ (CanBeGenerated config tree × AreFinishable config tree) }
 {}
 
-/// Exactly those components that have bytes are produced by some input of which nothing is left, when no minimum is
-/// asked, that can be generated and in which only components that may have been open when the input ended have fewer
-/// sections than are asked of those that are finished: the root, the component that is its last section, the component
-/// that is the last section of that, and so on. Whatever the minima, each of these is produced so, and each component
-/// of it has as many sections as are asked but for the root, the last component in it, the last in that, and so on.
+/// When no minimum is asked, a component that has bytes is produced by some input of which nothing is left exactly if
+/// it can be generated and only components of it that may have been open when the input ended have fewer sections than
+/// are asked of finished ones: the root, the component that is its last section, the component that is the last section
+/// of that, and so on. Whatever the minima, each of these is produced so, and each component of it has as many sections
+/// as are asked but for the root, the last component in it, the last in that, and so on.
 pub fn components_of_inputs_that_end_are_exact()
     ensures exact { (config : Config) (tree : Tree) (b : List ℕ) → IsConsistent config → config.min_types ≡ 0
         → config.min_imports ≡ 0 → config.min_funcs ≡ 0 → Spells tree b
@@ -99,7 +99,7 @@ pub fn components_of_inputs_that_end_are_exact()
         → AreFinishableButLast config tree }
 {}
 
-/// Wider limits generate no less: what can be generated within some limits can be within wider ones; and where no more
+/// Wider limits generate no less: what can be generated within some limits can be within wider ones; and if no more
 /// sections are asked of components that are finished, it also has as many as are asked then, and a plan is a plan.
 pub fn wider_limits_generate_no_less()
     ensures generated { (wide narrow : Config) (tree : Tree) → AreWider wide narrow → CanBeGenerated narrow tree
@@ -110,7 +110,7 @@ pub fn wider_limits_generate_no_less()
         → wide.finish_after ≤ narrow.finish_after → Within narrow plan → Within wide plan }
 {}
 
-/// Where a run leads to a component that has bytes, nothing is refused, except when out of memory.
+/// If a run leads to a component that has bytes, nothing is refused, except when out of memory.
 pub fn answers_are_not_refused()
     ensures { (config : Config) (input : List ℕ) (tree : Tree) (left b : List ℕ) → IsConsistent config
         → RunsTo config input tree left → Spells tree b
@@ -135,7 +135,7 @@ pub fn turns_leave_a_tail()
         → (turn : Turn config stack left next rest) → IsTail rest turn.after }
 {}
 
-/// The script of a part of a plan, other than a component, is a turn that adds this part, for those who build turn by
+/// The script of a part of a plan, other than a component, is a turn that adds this part, for callers who build turn by
 /// turn.
 pub fn scripted_parts_are_added()
     ensures { (config : Config) (stack : Open) (p : Part) → IsConsistent config → ¬ (item_of p ≡ ItemComponent)
@@ -145,13 +145,13 @@ pub fn scripted_parts_are_added()
         (with_part stack p) }
 {}
 
-/// Where a component may be opened, the script of that choice is a turn that opens it.
+/// If a component may be opened, the script of that choice is a turn that opens it.
 pub fn scripted_components_are_opened()
     ensures { (config : Config) (stack : Open) → is_component_offered config stack ≡ true
         → IsReadAs (Turn config stack) (script_item config stack.outer stack.inner ItemComponent) (with_open stack) }
 {}
 
-/// Where the inner component meets the minima and may be finished, the script of the choice to finish is a turn that
+/// If the inner component meets the minima and may be finished, the script of the choice to finish is a turn that
 /// closes it as it is.
 pub fn scripted_ends_are_closed()
     ensures { (config : Config) (stack : Open) (next : Next) → Minima config stack.inner

@@ -11,10 +11,10 @@ mod make;
 
 pub use builder::{Builder, Step};
 pub use component::{
-    CanonicalSection, Component, CoreTypeSection, CustomSection, Export, ExportSection, Func,
-    ImportSection, Section, TypeSection,
+    CanonicalSection, Component, CoreTypeSection, ExportSection, ImportSection, Section,
+    TypeSection,
 };
 pub use generation::{Generated, generate};
 pub use smith_format::Config;
 pub use smith_input::{Error, Unstructured};
-pub use smith_tree::Item;
+pub use smith_tree::{CustomSection, Export, Func, Item};

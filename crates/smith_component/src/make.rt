@@ -9,7 +9,7 @@ ghost use Rattle.smith_component.specs.Refusals.{IsRefusal};
 ghost use Rattle.smith_tree.specs.Script.{Within, script};
 ghost use Rattle.smith_tree.specs.Tree.{Tree};
 ghost use Rattle.smith_tree.specs.WellFormed.{WellFormed};
-ghost use Rattle.smith_validity.specs.Validates.{Validates};
+ghost use Rattle.smith_tree.specs.Validates.{Validates};
 ghost use Rattle.smith_format.specs.declared.config.Config.{Config};
 
 use crate::builder::Progress;
@@ -22,8 +22,8 @@ impl Component {
     /// The component that the input produces, turn by turn: a run of turns from one empty open component, of at most as
     /// many as the input has bytes and components may nest. Limits that do not fit together are refused with
     /// `InconsistentLimits` before a byte is read, and a component that is to be finished and is missing imports or
-    /// functions of a minimum with `MinimumNotMet`. Where a core module is chosen, and the limits on memories leave
-    /// none, that is `ModuleRefused`. Otherwise it fails only when out of memory.
+    /// functions of a minimum with `MinimumNotMet`. If a core module is chosen, and the limits on memories leave none,
+    /// that is `ModuleRefused`. Otherwise it fails only when out of memory.
     pub fn new(alloc: Global, config: Config, u: &mut Unstructured) -> Result<Component, Error>
         ensures made { IfOk result (λ c. IsMade config u.old c u.new) }
         ensures reach { (plan : Tree) (rest : List ℕ) → Within config plan → u.old ≡ script config plan ++ rest
@@ -31,12 +31,12 @@ impl Component {
         // It is returned, unless memory runs out.
         ensures answers { (plan : Tree) (rest : List ℕ) → IsConsistent config → Within config plan
             → u.old ≡ script config plan ++ rest → IfErr result (λ e. e ≡ Error.OutOfMemory) }
-        // Where components must validate, it does.
+        // If components must validate, it does.
         ensures validates { config.must_validate ≡ true → IfOk result (λ c. Validates c) }
         ensures accepts { OnOk result (IsConsistent config) }
         ensures refuses { IfErr result (λ e. IsRefusal config u.old e u.new) }
-        // Where no import and no function is required, and the limits on memories do not cross, it fails only when out
-        // of memory.
+        // If no import and no function is required, and the limits on memories do not cross, it fails only when out of
+        // memory.
         ensures acceptance { IsConsistent config → config.min_imports ≡ 0 → config.min_funcs ≡ 0
             → config.min_memories ≤ config.max_memories → IfErr result (λ e. e ≡ Error.OutOfMemory) }
         ensures unread { ¬ IsConsistent config → u.new ≡ u.old }

@@ -1,4 +1,4 @@
--- Pieces are bytes: those that are joined of others, and those of the format's core types.
+-- Pieces are bytes: pieces joined of others, and the pieces of the format's core types.
 use Rattle.std.proofs.Common.{◌≡◌, ℕ, zero, suc, ◌+◌, ◌/◌, ◌%◌, ◌^◌, ◌<◌, ◌≤◌, Bool, true, false, cond, nat_lt, List, [], ◌∷◌, length, refl}
 use Rattle.std.proofs.Common.{sym, subst, arith, Option, Some, None, ℤ, pos, negsuc}
 use Rattle.std.specs.List.{AllByRecursion, list_all}
@@ -27,7 +27,7 @@ use Rattle.smith_format.proofs.TooLong.{small_raw}
 abbrev pub AreSmall : List ℕ → Type 0
 AreSmall bs = AllByRecursion (λ n. n < 256) bs
 
--- where it has an encoding, that is bytes
+-- if it has an encoding, that is bytes
 pub record AreBytes (p : Piece) : Type 0 where
   pub law : (b : List ℕ) → p ≡ Some b → AreSmall b
 

@@ -14,7 +14,7 @@ use Rattle.smith_core.specs.declared.module.sections.SectionKind.{SectionKind}
 abbrev any_section : ℕ × Piece → Piece
 any_section y = sized y.0 y.1
 
--- Sections whose bytes are the same are the same, and those of a module are bytes.
+-- Sections whose bytes are the same are the same, and the sections of a module are bytes.
 same_sections : (xs : List CoreSection) (ys : List (ℕ × Piece)) (b : List ℕ) → each core_section xs ≡ Some b
     → each any_section ys ≡ Some b → map present_section xs ≡ ys
 same_sections [] [] b e h = refl

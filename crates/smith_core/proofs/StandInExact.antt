@@ -1,4 +1,4 @@
--- Which bytes are those of a module that stands for a generated one.
+-- Which bytes are a module that stands for a generated one.
 use Rattle.std.proofs.Common.{◌≡◌, ◌↔◌, ℕ, List, [], ◌++◌, sym, ◌∙◌, Some}
 use Rattle.smith_input.specs.Script.{AreBytes}
 use Rattle.smith_input.proofs.ScriptBytes.{small_join, small_none}

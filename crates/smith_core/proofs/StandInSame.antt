@@ -1,4 +1,5 @@
--- The bytes decide the module that stands for a generated one, up to the room of its lists: they decide its bytes, and what is left.
+-- The bytes decide the module that stands for a generated one, up to the room of its lists: they decide its bytes, and
+-- the rest.
 use Rattle.std.proofs.Common.{◌≡◌, ℕ, suc, ◌+◌, ◌-◌, false, ◌&&◌, List, [], ◌∷◌, ◌++◌, map, length, take, drop, refl, sym, ap, ◌∙◌, subst, arith}
 use Rattle.std.proofs.Common.{append-nil, append_assoc, length-append, nat_lt, Some, None}
 use Rattle.std.proofs.lemmas.List.{drop_at}
@@ -165,7 +166,7 @@ module _ (m : ModuleParts) (h : HasTypesAndMemories m) (all : AllByRecursion IsP
   text_is = ap (λ p. bytes core_preamble ⊕ p)
       (each_is binary_order ∙ two_sections (listed 1 core_function (map function_at m.types.items)) (listed 5 memory_type m.memories.items))
 
--- The bytes decide those of the module, and what is left.
+-- The bytes decide the bytes of the module, and the rest.
 pub stand_in_same : {config : Config} {b : List ℕ} {m n : ModuleParts} {r q : List ℕ} → ReadsStandIn config b m r → ReadsStandIn config b n q
     → (module_text m ≡ module_text n) × (r ≡ q)
 stand_in_same {config} {b} {m} {n} {r} {q} x y =

@@ -19,6 +19,6 @@ pub member_is : {A : Type 0} (xs : List A) (i : ℕ) (d : A) → i < length xs
     → get_or xs i d ≡ get_or xs i (get_or xs i d)
 member_is xs i d h = get_or_default xs i d _ h
 
--- What a test of the groups has found so far: they tile where those that are left do, from where the last one ended.
+-- What a test of the groups has found so far: they tile if the remaining ones do, from where the last one ended.
 pub record Tiled (gs : List (ℕ × ℕ)) (i next high : ℕ) : Type 0 where
   pub is : Tiles gs 0 high ↔ Tiles (drop i gs) next high

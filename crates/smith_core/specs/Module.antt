@@ -73,7 +73,7 @@ is_written m Data = has_any m.data_segments.items
 abbrev pub last : {A : Type 0} → ℕ → List A → List A
 last n xs = drop (length xs - n) xs
 
--- the function to start with, where there is one
+-- the function to start with, if there is one
 abbrev pub start : Option ℕ → Piece
 start None = bytes []
 start (Some f) = u f
@@ -94,10 +94,10 @@ contents m DataCount = u (length m.data_segments.items)
 contents m Code = many code_text m.code.items
 contents m Data = many data_segment m.data_segments.items
 
--- a section, where it is written
+-- a section, if it is written
 abbrev pub section : ModuleParts → SectionKind → Piece
 section m k = if is_written m k then sized (section_id k) (contents m k) else bytes []
 
--- the bytes of a module, or None where a length or a count in it is too long
+-- the bytes of a module, or None if a length or a count in it is too long
 abbrev pub module_text : ModuleParts → Piece
 module_text m = bytes core_preamble ⊕ each (section m) binary_order

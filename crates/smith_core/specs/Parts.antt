@@ -27,7 +27,7 @@ NamesTable Passive t = Unit {0}
 NamesTable Declared t = Unit {0}
 
 -- No more is defined than there is, the groups hold each type once and in order, defined globals are there, and segments of functions,
--- and those that name no table, are of function references.
+-- and active segments that name no table, are of function references.
 pub record Agree (m : ModuleParts) : Type 0 where
   pub funcs : m.num_defined_funcs ≤ length m.funcs.items
   pub tables : length m.defined_tables.items ≤ length m.tables.items

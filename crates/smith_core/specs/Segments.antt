@@ -29,12 +29,12 @@ use Rattle.smith_core.specs.declared.module.segments.Offset.TheVariants.{Const32
 abbrev pub expression : Vec ℕ Global → Piece
 expression e = raw e.items ⊕ byte 0x0b
 
--- a table, and its initial value where it has one (Modules, Table Section)
+-- a table, and its initial value if it has one (Modules, Table Section)
 abbrev pub table : TableType × Option (Vec ℕ Global) → Piece
 table (t, None) = table_type t
 table (t, Some e) = bytes (0x40 ∷ 0x00 ∷ []) ⊕ table_type t ⊕ expression e
 
--- a global, whose type is that of the index among these (Modules, Global Section)
+-- a global, whose type is at its index among these (Modules, Global Section)
 abbrev pub named_type : Option GlobalType → Piece
 named_type None = None
 named_type (Some g) = global_type g

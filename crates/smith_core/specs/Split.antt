@@ -1,4 +1,4 @@
--- How the bytes of a module are split into sections (core specification, Binary Format, Modules, Sections).
+-- How a module's bytes are split into sections (core specification, Binary Format, Modules, Sections).
 use Rattle.std.specs.Prelude.{◌≡◌, ℕ, List, map, Some}
 use Rattle.std.specs.List.{filter}
 use Rattle.smith_format.specs.Piece.{Piece, ◌⊕◌, bytes, each, sized}
@@ -17,7 +17,7 @@ core_section x = sized x.0 (bytes x.1)
 abbrev pub Splits : List ℕ → List CoreSection → Type 0
 Splits b xs = bytes core_preamble ⊕ each core_section xs ≡ Some b
 
--- the ids and the contents of a module's sections: those that are written, in binary order
+-- the ids and the contents of a module's written sections, in binary order
 abbrev pub sections_of : ModuleParts → List (ℕ × Piece)
 sections_of m = map (λ k. (section_id k, contents m k)) (filter (is_written m) binary_order)
 

@@ -43,7 +43,7 @@ abbrev pub groups_from : ℕ → List SubType → List (ℕ × ℕ)
 groups_from at [] = []
 groups_from at (t ∷ ts) = (at, at + 1) ∷ groups_from (at + 1) ts
 
--- Types are written where there is one, all memories are defined, and there is nothing else.
+-- Types are written if there is one, all memories are defined, and there is nothing else.
 pub record HasTypesAndMemories (m : ModuleParts) : Type 0 where
   pub encoded : m.should_encode_types ≡ has_any m.types.items
   pub groups : m.rec_groups.items ≡ groups_from 0 m.types.items
@@ -68,7 +68,7 @@ pub record ReadsStandIn (config : Config) (bytes : List ℕ) (m : ModuleParts) (
   pub bulk_memory : m.bulk_memory_enabled ≡ config.bulk_memory_enabled
   pub parts : HasTypesAndMemories m
 
--- A module is refused where the limits on memories cross, and otherwise only when out of memory.
+-- A module is refused if the limits on memories cross, and otherwise only when out of memory.
 abbrev pub IsStandInRefusal : Config → Error → Type 0
 IsStandInRefusal config InconsistentLimits = ⊥
 IsStandInRefusal config MinimumNotMet = ⊥

@@ -75,7 +75,7 @@ types_from (id ∷ bs) = if nat_eq id 1 then counted_functions (past_number bs) 
 abbrev pub memory_of : ℕ → Option ℕ → MemoryType
 memory_of minimum maximum = record { minimum = minimum; maximum = maximum; shared = false; memory64 = false }
 
--- memory types to the end: a byte that is 0 where there is no maximum, the minimum, and the maximum
+-- memory types to the end: a byte that is 0 if there is no maximum, the minimum, and the maximum
 abbrev pub all_memories : List ℕ → List MemoryType
 all_memories [] = []
 all_memories (flag ∷ []) = []

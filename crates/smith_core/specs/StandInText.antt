@@ -12,10 +12,10 @@ pub record StandIn : Type 0 where
   pub types : List Function
   pub memories : List MemoryType
 
--- a section of a list, which is there where the list has an entry
+-- a section of a list, which is there if the list has an entry
 abbrev pub listed : {A : Type 0} → ℕ → (A → Piece) → List A → Piece
 listed id f xs = if has_any xs then sized id (many f xs) else bytes []
 
--- its bytes (core specification, Binary Format, Modules), or None where a length or a count in it is too long
+-- its bytes (core specification, Binary Format, Modules), or None if a length or a count in it is too long
 abbrev pub stand_in_text : StandIn → Piece
 stand_in_text s = bytes core_preamble ⊕ listed 1 core_function s.types ⊕ listed 5 memory_type s.memories

@@ -27,8 +27,8 @@ composite (Func f) = core_function (shown_func f)
 composite (Array f) = byte 0x5e ⊕ field f
 composite (Struct fs) = byte 0x5f ⊕ many field fs.items
 
--- what precedes the composite type of a sub type: nothing where it is final and has no supertype, and otherwise which it is, and the
--- list of its supertypes
+-- what precedes the composite type of a sub type: nothing if it is final and has no supertype, and otherwise which it
+-- is, and the list of its supertypes
 abbrev pub sub_prefix : Bool → Option ℕ → Piece
 sub_prefix true None = bytes []
 sub_prefix true (Some i) = byte 0x4f ⊕ many u (i ∷ [])

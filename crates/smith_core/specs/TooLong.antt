@@ -40,7 +40,7 @@ use Rattle.smith_core.specs.declared.module.types.StorageType.{StorageType}
 use Rattle.smith_core.specs.declared.module.types.StorageType.TheVariants.{I8, I16, Val}
 use Rattle.smith_core.specs.declared.module.types.SubType.{SubType}
 
--- an index, where there is one
+-- an index, if there is one
 abbrev pub IndexTooLong : Option ℕ → Type 0
 IndexTooLong None = ⊥
 IndexTooLong (Some i) = IsTooLarge i
@@ -63,12 +63,12 @@ abbrev pub CoreImportTooLong : Import → Type 0
 CoreImportTooLong i =
     NameTooLong (string_bytes i.module) ⊎ (NameTooLong (string_bytes i.name) ⊎ EntityTooLong i.entity_type)
 
--- a table, and its initial value where it has one
+-- a table, and its initial value if it has one
 abbrev pub TableTooLong : TableType × Option (Vec ℕ Global) → Type 0
 TableTooLong (t, None) = TableTypeTooLong t
 TableTooLong (t, Some e) = TableTypeTooLong t ⊎ NoBytes e.items
 
--- the type of a global, which is there where parts agree
+-- the type of a global, which is there if parts agree
 abbrev pub NamedTooLong : Option GlobalType → Type 0
 NamedTooLong None = ⊥
 NamedTooLong (Some g) = ValTooLong g.val_type

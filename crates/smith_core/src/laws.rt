@@ -1,4 +1,4 @@
-//! Laws of core modules, and those of numbers, texts, lists and core types. Each function does nothing: its contract is
+//! Laws of core modules, and laws of numbers, texts, lists and core types. Each function does nothing: its contract is
 //! the law.
 
 ghost use Rattle.std.specs.Prelude.{◌≡◌, ◌↔◌, ◌++◌, ℕ, ◌<◌, List, map, Some, None};
@@ -23,7 +23,7 @@ pub use smith_format::laws::{
     unsigned_numbers,
 };
 
-/// The bytes of a module are split into sections in one way: those that are written, in binary order.
+/// The bytes of a module are split into sections in one way: the written ones, in binary order.
 pub fn modules_are_split_in_one_way()
     ensures { (m : ModuleParts) (b : List ℕ) → module_text m ≡ Some b → (xs : List CoreSection)
         → Splits b xs ↔ (map present_section xs ≡ sections_of m) }
@@ -36,27 +36,28 @@ pub fn modules_are_bytes()
         → (rest : List ℕ) × (b ≡ core_preamble ++ rest) }
 {}
 
-/// A module whose parts agree has no bytes exactly where a count, an index or the length of a name, of a body, of data
-/// or of a section in it exceeds 4,294,967,295; its names being UTF-8, its bytes bytes and its bounds of limits numbers
-/// of 64 bits, as those of the program are.
+/// A module whose parts agree has no bytes exactly if a count, an index or the length of a name, of a body, of data or
+/// of a section in it exceeds 4,294,967,295. As in the program, its names are UTF-8, its bytes are bytes, and its
+/// bounds of limits are numbers of 64 bits.
 pub fn long_modules_have_no_encoding()
     ensures { (m : ModuleParts) → Agree m → (module_text m ≡ None) ↔ ModuleTooLong m }
 {}
 
-/// The limits and the bytes alone decide the bytes of the module that stands for a generated one, and what is left.
+/// The limits and the bytes alone decide the bytes of the module that stands for a generated one, and the rest.
 pub fn stand_ins_are_decided()
     ensures { (config : Config) (b : List ℕ) (m n : ModuleParts) (r q : List ℕ) → ReadsStandIn config b m r
         → ReadsStandIn config b n q → (module_text m ≡ module_text n) × (r ≡ q) }
 {}
 
-/// The bytes of a module that stands for a generated one are those of function types and memories within the limits.
+/// The bytes of a module that stands for a generated one are the bytes of function types and memories within the
+/// limits.
 pub fn stand_ins_are_made()
     ensures { (config : Config) (b : List ℕ) (m : ModuleParts) (rest : List ℕ) → ReadsStandIn config b m rest
         → (s : StandIn) × IsStandIn config s × (module_text m ≡ stand_in_text s) }
 {}
 
 /// From the script of function types and memories within the limits, which have bytes, a module of these bytes is read,
-/// and what follows is left.
+/// and it leaves what follows.
 pub fn stand_ins_are_read()
     ensures { (config : Config) (s : StandIn) (b : List ℕ) → IsStandIn config s → stand_in_text s ≡ Some b
         → (rest : List ℕ)
@@ -68,7 +69,7 @@ pub fn stand_in_scripts_are_bytes()
     ensures { (config : Config) (s : StandIn) → IsStandIn config s → AreBytes (script_stand_in config s) }
 {}
 
-/// Exactly those bytes are of a module that stands for a generated one, on some input, that are of function types and
+/// Bytes are a module that stands for a generated one, on some input, exactly if they are of function types and
 /// memories within the limits.
 pub fn stand_ins_are_exact()
     ensures { (config : Config) (b : List ℕ)

@@ -98,9 +98,9 @@ impl Module {
     }
 
     /// The module of these parts. It refuses exactly parts that disagree, with `PartsDisagree` and the parts as they
-    /// were: where more functions, tables, memories or tags are defined than there are; where the groups do not hold
-    /// each type once and in order; where a defined global is not there; where a segment of functions, or an active one
-    /// that names no table, is of another type than function references. It takes no memory.
+    /// were: if more functions, tables, memories or tags are defined than there are; if the groups do not hold each
+    /// type once and in order; if a defined global is not there; or if a segment of functions, or an active one that
+    /// names no table, is of another type than function references. It takes no memory.
     pub fn from_parts(parts: Box<ModuleParts>) -> Result<Module, (Error, Box<ModuleParts>)>
         ensures accepts { IsOk result ↔ Agree parts.value }
         ensures same { IfOk result (λ m. m ≡ parts.value) }
@@ -130,7 +130,7 @@ impl Module {
         }
     }
 
-    /// The length of the module's bytes. It is too long exactly where a length or a count written in them exceeds
+    /// The length of the module's bytes. It is too long exactly if a length or a count written in them exceeds
     /// 4,294,967,295.
     pub fn measure(&self) -> Result<u64, Error>
         ensures { Measures result (module_text self.now) }
@@ -160,7 +160,7 @@ impl Module {
     /// The module's bytes. Memory is allocated once, after they were measured.
     pub fn to_bytes(&self, alloc: Global) -> Result<Vec<u8>, Error>
         ensures written { IfOk result (λ v. module_text self.now ≡ Some v.items) }
-        // A module is too long exactly where it has no bytes.
+        // A module is too long exactly if it has no bytes.
         ensures too_long { IsErrOf result Error.TooLong ↔ (module_text self.now ≡ None) }
         ensures errors { IfErr result (λ e. (e ≡ Error.TooLong) ⊎ (e ≡ Error.OutOfMemory)) }
     {

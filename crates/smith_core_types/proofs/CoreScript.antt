@@ -1,4 +1,4 @@
--- Core types are read where their scripts are.
+-- Core types are read from their scripts.
 use Rattle.std.proofs.Common.{◌≡◌, ℕ, ◌+◌, ◌-◌, ◌<◌, ◌≤◌, ◌^◌, Bool, true, false, List, [], ◌∷◌, ◌++◌, length, refl, sym, ap, ◌∙◌, subst, arith, append_assoc}
 use Rattle.std.proofs.Common.{append-nil, length-append}
 use Rattle.std.proofs.lemmas.Bool.Decides.{nat_tests}
@@ -94,7 +94,7 @@ module _ (config : Config) (around : Scope) where
         fuel_left = sym end.1;
       })
 
-  -- what a module type needs, where there is fuel for more than the empty one, and where there is not
+  -- what a module type needs, if there is fuel for more than the empty one, and if there is not
   pub lasting : (fuel : ℕ) (ds : List ModuleDecl) → core_need (core_module ds) ≤ fuel → 2 ≤ fuel → core_size (core_module ds) + 2 ≤ fuel
   lasting fuel [] need some = some
   lasting fuel (d ∷ ds) need some = need

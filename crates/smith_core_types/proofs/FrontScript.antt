@@ -1,4 +1,4 @@
--- What a module type begins with for the canonical ABI is read where its script is.
+-- What a module type begins with for the canonical ABI is read from its script.
 use Rattle.std.proofs.Common.{◌≡◌, ℕ, ◌-◌, ◌<◌, ◌≤◌, Bool, true, false, List, [], ◌∷◌, ◌++◌, length, take, refl, sym, ap, ◌∙◌, subst}
 use Rattle.std.proofs.Common.{arith, append_assoc, append-nil, length-append, nat_lt}
 use Rattle.std.proofs.lemmas.Bool.{false≢true, lt-ltb, and_from}
@@ -145,7 +145,7 @@ module _ (config : Config) (fuel : ℕ) where
   own_length true = refl
   own_length false = refl
 
-  -- What the canonical ABI asks is read where its script is.
+  -- What the canonical ABI asks is read from its script.
   pub front_read : {ds no_memory no_realloc no_free : List ModuleDecl} (x : Fronted ds no_memory no_realloc no_free) (rest : List ℕ)
       → IfSome x.memory (λ m. FormedMemory m × (0 < config.max_memories))
       → (x.reallocs ≡ true → (0 < config.max_funcs) × (0 < config.max_types))

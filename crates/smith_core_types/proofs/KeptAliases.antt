@@ -20,7 +20,7 @@ each_more : (around : List CoreEntry) (own : List Function) (ds : List ModuleTyp
 each_more around own [] d all one = (one, tt)
 each_more around own (e ∷ ds) d all one = (all.0, each_more around (own ++ adds around own (shown_decl e)) ds d all.1 one)
 
--- one more declaration, where these are the own types, and those after it
+-- one more declaration, if these are the own types, and those after it
 pub keep_more : (around : List CoreEntry) (own later : List Function) (ds more : List ModuleTypeDef) (d : ModuleTypeDef)
     → KeepEach around [] ds × (own_after around [] (map shown_decl ds) ≡ own) → KeepsNamed around own d
     → later ≡ own ++ adds around own (shown_decl d) → more ≡ ds ++ d ∷ [] → KeepEach around [] more × (own_after around [] (map shown_decl more) ≡ later)

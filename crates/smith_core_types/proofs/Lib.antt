@@ -3,7 +3,6 @@ pub mod MadeCore
 pub mod MakingCore
 pub mod ModuleFronts
 pub mod ModuleTypes
-pub mod Names
 pub mod MadeCoreSame
 pub mod ModuleScript
 pub mod ModuleSaid

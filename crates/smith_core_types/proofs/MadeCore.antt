@@ -225,7 +225,7 @@ module _ (config : Config) (around : Scope) where
       let v = decl_of_same s y.item y.mid d e r q (subst Q c.1 (subst P c.0 x.reads)) y.reads in
       (v.0, v.1, x.state ∙ (ap (with_decl around.core_types s) v.0 ∙ sym y.state))
 
-  -- where nothing can be imported or exported, no declaration is an import or an export
+  -- if nothing can be imported or exported, no declaration is an import or an export
   no_entity : (s : Declared) {b rest : List ℕ} {e : EntityType} → entity_kinds config s ≡ [] → ReadsEntity config s b e rest → ⊥
   no_entity s none r = no_choice (entity_kinds config s) none r.choice
 
@@ -418,7 +418,7 @@ made_core_formed {config} {around} (of_module f c m i) =
 -- within the limits
 
 module _ (config : Config) (s : Declared) where
-  -- tags are allowed only where there are exceptions
+  -- tags are allowed only if there are exceptions
   abbrev MayStand : ExportKind → Type 0
   MayStand kind.Global = Unit {0}
   MayStand kind.Table = Unit {0}
@@ -460,7 +460,7 @@ module _ (config : Config) (s : Declared) where
   entity_fits {e = e} {rest = rest} r = entity_of_fits r.kind r.mid e rest (kind_offered r.choice.place r.kind r.choice.named) r.is
 
 module _ (config : Config) (around : Scope) where
-  -- there is room for one more own type, where it is one
+  -- there is room for one more own type, if it is one
   abbrev ItemFits : Declared → ModuleItem → Type 0
   ItemFits s item.Import = Unit {0}
   ItemFits s item.Export = Unit {0}

@@ -1,4 +1,4 @@
--- Declarations of module types are read where their scripts are.
+-- Declarations of module types are read from their scripts.
 use Rattle.std.proofs.Common.{◌≡◌, ◌⊎◌, inl, inr, ℕ, zero, suc, ◌+◌, ◌-◌, ◌<◌, ◌≤◌, ◌^◌, Bool, true, false, List, [], ◌∷◌, ◌++◌, length, refl, sym, ap}
 use Rattle.std.proofs.Common.{◌∙◌, subst, arith, append_assoc, nat_eq, nat_lt, Some, None, Decides}
 use Rattle.std.proofs.lemmas.Bool.{false≢true, lt-ltb, and_from}
@@ -192,7 +192,7 @@ module _ (config : Config) (around : Scope) where
         state = refl;
       })
 
-  -- A declaration that can be said is read where its script is.
+  -- A declaration that can be said is read from its script.
   pub decl_read : (s : Declared) (d : ModuleDecl) (rest : List ℕ) → IsSayable config around s d
       → ReadsDecl config around s (script_decl config around s d ++ rest) d rest (with_decl around.core_types s d)
   decl_read s (imports from name e) rest h =

@@ -31,7 +31,7 @@ use Rattle.smith_syntax.specs.ModuleTypes.{is_of_kind, count_of_kind}
 use Rattle.smith_syntax.specs.ModuleTypes.{names_from, module_export_names, HasNewNames, realloc, free}
 use Rattle.smith_syntax.specs.WellFormed.{FormedDecl, FormedDecls}
 use Rattle.smith_core_types.proofs.ModuleFronts.{front_own, front_decls, IsFront}
-use Rattle.smith_core_types.proofs.Names.{AreNew, new_distinct, new_more}
+use Rattle.smith_input.proofs.DistinctNames.{AreNew, new_distinct, new_more}
 use Rattle.smith_input.proofs.Lists.{all_both}
 
 -- one more declaration

@@ -10,7 +10,7 @@ use Rattle.smith_tree.specs.CoreTypeNeeds.{core_cost, core_need}
 use Rattle.smith_core_types.proofs.MadeCore.{module_after, module_size}
 use Rattle.smith_core_types.proofs.ModuleFronts.{front_is}
 
--- Turns of a loop: none needs fuel where there is none, and otherwise one is left after the last.
+-- Turns of a loop: they need no fuel if there are none, and otherwise one is left after the last.
 abbrev pub used : ℕ → ℕ
 used zero = 0
 used (suc n) = suc n + 1

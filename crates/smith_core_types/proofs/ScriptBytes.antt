@@ -46,7 +46,7 @@ use Rattle.smith_core_types.proofs.MakingCore.{choices_count}
 use Rattle.smith_core_types.proofs.ModuleFronts.{free_decls, front_state, memory_decls, realloc_decls}
 use Rattle.smith_core_types.proofs.ModuleScript.{IsSayable, alias_at}
 
--- a choice of an item by its place among those that pass a test
+-- a choice of an item by its place among the items that pass a test
 pub small_place : {A : Type 0} (test : A → Bool) (xs : List A) (i : ℕ) (x : A) → length xs ≤ 2 ^ 64 → slice_get xs i ≡ Some x → test x ≡ true
     → Small (script_among nat_eq (places test 0 xs) i)
 small_place test xs i x few stands passes =

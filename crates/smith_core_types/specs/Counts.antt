@@ -5,6 +5,6 @@ use Rattle.smith_format.specs.declared.types.ExportKind.{ExportKind}
 use Rattle.smith_syntax.specs.Entries.{ModuleDecl}
 use Rattle.smith_syntax.specs.ModuleTypes.{count_of_kind}
 
--- The counts, by the byte of a kind, are those of these declarations.
+-- The counts, by the byte of a kind, are the counts of these declarations.
 pub record AreCounts (counts : List ℕ) (ds : List ModuleDecl) : Type 0 where
   pub of_kind : (k : ExportKind) → slice_index counts (kind_byte k) ≡ count_of_kind k ds

@@ -1,5 +1,4 @@
--- How core types are read: the bytes and the fuel determine the core type, and leave the rest and what is left of the
--- fuel.
+-- How core types are read: the bytes and the fuel determine the core type, and leave the rest of both.
 use Rattle.std.specs.Prelude.{◌≡◌, ℕ, ◌-◌, ◌<◌, ◌≤◌, Bool, true, false, ◌&&◌, List, [], ◌∷◌, ◌++◌, length, codes, nat_lt}
 use Rattle.std.specs.List.{flat_map}
 use Rattle.std.specs.Option.{option_to_list}
@@ -71,7 +70,7 @@ pub record ReadsDecl (config : Config) (around : Scope) (s : Declared) (bytes : 
 abbrev pub with_fuel : Declared → ℕ → Declared
 with_fuel s fuel = record { own = s.own; decls = s.decls; fuel = fuel }
 
--- The loop ends by itself where no fuel is left, and where nothing can be imported or exported; the names are read then.
+-- The loop ends by itself if no fuel is left, or if nothing can be imported or exported; the names are read then.
 pub data EndsModuleType (config : Config) (around : Scope) (s : Declared) : List ℕ → List ℕ → Declared → Type 0 where
   no_fuel : {bytes : List ℕ} {t : Declared} → s.fuel - 1 ≡ 0 → t ≡ with_fuel s 0 → EndsModuleType config around s bytes bytes t
   no_import : {bytes mid from name rest : List ℕ} {t : Declared} → 0 < s.fuel - 1 → ReadsAmong (module_items config around s) bytes item.Import mid
@@ -81,7 +80,7 @@ pub data EndsModuleType (config : Config) (around : Scope) (s : Declared) : List
       → ReadsExportName s mid name rest → entity_kinds config s ≡ [] → t ≡ with_fuel s (s.fuel - 1)
       → EndsModuleType config around s bytes rest t
 
--- A line of what the canonical ABI asks: where it is allowed, it is there in 99 of 100 choices.
+-- A line of what the canonical ABI asks: if it is allowed, it is there in 99 of 100 choices.
 pub data ReadsLine (may : Bool) (Line : List ℕ → List ModuleDecl → List ℕ → Type 0) (s : Declared) : List ℕ → Declared → List ℕ → Type 0 where
   not_allowed : {bytes : List ℕ} {t : Declared} → may ≡ false → t ≡ s → ReadsLine may Line s bytes t bytes
   declined : {bytes rest : List ℕ} {t : Declared} {k : ℕ} → may ≡ true → Reads 100 bytes k rest → 99 ≤ k → t ≡ s → ReadsLine may Line s bytes t rest
@@ -119,7 +118,7 @@ pub record MadeModule (config : Config) (around : Scope) (bytes : List ℕ) (fue
   pub decls : ds ≡ whole.decls
   pub fuel_left : left ≡ whole.fuel
 
--- A core type takes one from the fuel. Where none is left then it is the empty module type; otherwise a choice of two.
+-- A core type takes one from the fuel. If none is left then, it is the empty module type; otherwise a choice of two.
 pub data MadeCore (config : Config) (around : Scope) : List ℕ → ℕ → CoreEntry → List ℕ → ℕ → Type 0 where
   spent_core : {bytes : List ℕ} {fuel : ℕ} {e : CoreEntry} {left : ℕ} → fuel - 1 ≡ 0 → e ≡ core_module [] → left ≡ 0
       → MadeCore config around bytes fuel e bytes left

@@ -50,12 +50,12 @@ HasChoiceFor around s item.Export = Unit {0}
 HasChoiceFor around s item.Type = Unit {0}
 HasChoiceFor around s item.Alias = 0 < length (alias_choices around s)
 
--- the names that are imported from a module, or those that are exported
+-- the names that are imported from a module, or the exported names
 abbrev pub names_taken : Bool → List ℕ → List ModuleDecl → List (List ℕ)
 names_taken true from ds = names_from from ds
 names_taken false from ds = module_export_names ds
 
--- an entity, or none where nothing can be imported or exported, and then nothing is read
+-- an entity, or none if nothing can be imported or exported, and then nothing is read
 abbrev pub MaybeEntity : Config → SoFar → List ℕ → Option EntityType → List ℕ → Type 0
 MaybeEntity config s b e rest = MatchOption e ((entity_kinds config s ≡ []) × (rest ≡ b)) (λ t. ReadsEntity config s b t rest)
 
@@ -83,7 +83,7 @@ KeepsNamed around own (decl.Import i) = Unit {0}
 KeepsNamed around own (decl.OuterAlias count i ty) = aliased around own count i ≡ Some (shown_func ty.value)
 KeepsNamed around own (decl.Export name e) = Unit {0}
 
--- Each outer alias of these declarations keeps the function type that it names, where these types are declared so far.
+-- Each outer alias of these declarations keeps the function type that it names, if these types are declared so far.
 abbrev pub KeepEach : List CoreEntry → List Function → List ModuleTypeDef → Type 0
 KeepEach around own [] = Unit {0}
 KeepEach around own (d ∷ ds) = KeepsNamed around own d × KeepEach around (own ++ adds around own (shown_decl d)) ds
@@ -98,10 +98,11 @@ abbrev pub own_after : List CoreEntry → List Function → List ModuleDecl → 
 own_after around own [] = own
 own_after around own (d ∷ ds) = own_after around (own ++ adds around own d) ds
 
--- A module type so far: each outer alias keeps the function type that it names, and its own types are those of its declarations.
+-- A module type so far: each outer alias keeps the function type that it names, and its own types are the ones that its
+-- declarations add.
 abbrev pub KeepsDeclared : List CoreEntry → Declared → Type 0
 KeepsDeclared around d = KeepEach around [] d.counted.defs.items × (own_after around [] (map shown_decl d.counted.defs.items) ≡ shown_funcs d.own.items)
 
--- what an outer alias is among, where these are the module type's own types
+-- what an outer alias is among, if these are the module type's own types
 abbrev pub choices_among : Scope → List Function → List (ℕ × ℕ)
 choices_among around own = alias_choices around (record { own = own; decls = []; fuel = 0 })

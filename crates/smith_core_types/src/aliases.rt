@@ -10,7 +10,7 @@ ghost use Rattle.smith_core_types.specs.MakingCore.{AddsDecl, KeepsDeclared, cho
 ghost use Rattle.smith_syntax.specs.ModuleTypes.{aliased, func_in};
 ghost use Rattle.smith_scopes.specs.Scopes.{own_scope, kind_places};
 ghost use Rattle.smith_tree.specs.declared.choices.ModuleItem.TheVariants as item;
-ghost use Rattle.smith_scopes.specs.declared.scopes.Kind.TheVariants as kind;
+ghost use Rattle.smith_scopes.specs.declared.kinds.Kind.TheVariants as kind;
 
 use crate::declared::Declared;
 use smith_format::FuncType;

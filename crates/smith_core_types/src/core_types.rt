@@ -49,13 +49,13 @@ fn made_core_type(
     Ok(CoreType::Module(ModuleType { defs }))
 }
 
-/// A core type for these scopes, which takes fuel: one for itself, and one for each declaration of a module type. Where
+/// A core type for these scopes, which takes fuel: one for itself, and one for each declaration of a module type. If
 /// none is left at first, it is the empty module type; otherwise a choice of two: a function type, or a module type.
 ///
 /// A function type has at most 20 parameters, and at most 20 results or one. A module type begins with what the
-/// canonical ABI asks, each of its three lines with 99 of 100 choices where the limits allow it, and has at most 100
-/// more declarations. It names only the last scope's core function types. Each of its outer aliases keeps the function
-/// type that it names. It fails only when out of memory.
+/// canonical ABI asks, each of its three lines with 99 of 100 choices if the limits allow it, and has at most 100 more
+/// declarations. It names only the last scope's core function types. Each of its outer aliases keeps the function type
+/// that it names. It fails only when out of memory.
 pub fn arbitrary_core_type(
     alloc: Global,
     u: &mut Unstructured,

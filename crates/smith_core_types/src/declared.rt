@@ -15,7 +15,7 @@ use smith_input::Error;
 use smith_syntax::ModuleTypeDef;
 use std::rc::Rc;
 
-// A module type so far: the function types that it declares and those that its aliases name, and its declarations.
+// A module type so far: the function types that it declares or that its aliases name, and its declarations.
 #[derive(Drop)]
 pub(crate) struct Declared {
     pub(crate) own: Vec<Rc<FuncType>>,

@@ -58,7 +58,7 @@ fn tag_type(u: &mut Unstructured, own: &[Rc<FuncType>]) -> TagType
     }
 }
 
-// Is a tag allowed: below the limit, where there are tags, and where there is a type for one?
+// Is a tag allowed: is it below the limit, are there tags, and is there a type for one?
 fn allows_tag(config: &Config, declared: &Declared) -> bool
     ensures { result ≡ (nat_lt (count_of_kind kind.Tag (map shown_decl declared.now.counted.defs.items))
         config.now.max_tags && config.now.exceptions_enabled
@@ -69,7 +69,7 @@ fn allows_tag(config: &Config, declared: &Declared) -> bool
         && has_tag_type(&declared.own)
 }
 
-// Is a function allowed: below the limit, and where there is a type?
+// Is a function allowed: is it below the limit, and is there a type?
 fn allows_function(config: &Config, declared: &Declared) -> bool
     ensures { result ≡ (nat_lt 0 (length (shown_funcs declared.now.own.items))
         && nat_lt (count_of_kind kind.Func (map shown_decl declared.now.counted.defs.items)) config.now.max_funcs) }
@@ -77,7 +77,7 @@ fn allows_function(config: &Config, declared: &Declared) -> bool
     declared.own.len() > 0 && declared.counted.allows(ExportKind::Func, config.max_funcs)
 }
 
-// The kind of an entity: each below its limit, a tag where there is a type for it, a function where there is a type.
+// The kind of an entity: each below its limit, a tag if there is a type for it, a function if there is a type.
 fn entity_kind(u: &mut Unstructured, config: &Config, declared: &Declared) -> Option<ExportKind>
     ensures reads { MatchOption result
         ((entity_kinds config.now (so_far declared.now 0) ≡ []) × (u.new ≡ u.old))
@@ -121,7 +121,7 @@ fn entity_of(
     }
 }
 
-// An entity, or none where nothing can be imported or exported.
+// An entity, or none if nothing can be imported or exported.
 pub(crate) fn entity(
     making: &Making,
     u: &mut Unstructured,

@@ -20,7 +20,7 @@ use smith_syntax::ModuleTypeDef;
 use std::borrow::CowStr;
 use std::rc::Rc;
 
-// The export of a memory, where one is allowed.
+// The export of a memory, if one is allowed.
 fn memory_line(making: &Making, u: &mut Unstructured, declared: &mut Declared) -> Result<(), Error>
     ensures reads { (fuel : ℕ) → OnOk result (ReadsLine (nat_lt 0 making.now.config.now.max_memories)
         MemoryLine (so_far declared.old fuel) u.old (so_far declared.new fuel) u.new) }
@@ -50,7 +50,7 @@ fn allows_line(config: &Config, declared: &Declared) -> bool
         && declared.own.len() < config.max_types
 }
 
-// That function type and the export of a function of it, where both are allowed.
+// That function type and the export of a function of it, if both are allowed.
 fn function_line(
     making: &Making,
     u: &mut Unstructured,

@@ -13,7 +13,7 @@ ghost use Rattle.smith_tree.specs.CoreTypeNeeds.{core_cost, core_need};
 ghost use Rattle.smith_tree.specs.ReadableCoreTypes.{IsReadableCore};
 ghost use Rattle.smith_tree.specs.CoreTypeScript.{script_core};
 
-/// The scopes, the bytes and the fuel alone decide which core type is made, and what is left of both.
+/// The scopes, the bytes and the fuel alone decide which core type is made, and the rest of the bytes and of the fuel.
 pub fn core_types_are_decided()
     ensures { (config : Config) (around : Scope) (fuel : ℕ)
         → IsDecided (λ bytes (made : CoreEntry × ℕ) rest. MadeCore config around bytes fuel made.0 rest made.1) }
@@ -45,8 +45,8 @@ pub fn core_scripts_are_bytes()
         → length around.core_types ≤ 2 ^ 63 → AreBytes (script_core config around fuel e) }
 {}
 
-/// Exactly those core types are read, on some input, that are well formed in their scope and within the limits, whose
-/// names can be read and for which there is fuel.
+/// A core type is read, on some input, exactly if it is well formed in its scope and within the limits, its names can
+/// be read, and there is fuel for it.
 pub fn core_types_are_exact()
     ensures { (config : Config) (around : Scope) (fuel : ℕ) (e : CoreEntry) → length around.core_types ≤ 2 ^ 63
         → ((bytes rest : List ℕ) × AreBytes bytes × (left : ℕ) × MadeCore config around bytes fuel e rest left)

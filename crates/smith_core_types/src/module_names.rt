@@ -45,7 +45,7 @@ fn exported_name(def: &ModuleTypeDef) -> Option<&str>
     }
 }
 
-// The name of an import from that module, or that of an export.
+// The name of an import from that module, or the name of an export.
 #[inline(always)]
 fn taken_name<'a>(def: &'a ModuleTypeDef, imported: bool, from: &str) -> Option<&'a str>
     ensures { MatchOption result
@@ -94,7 +94,7 @@ fn count_taken(defs: &[ModuleTypeDef], imported: bool, from: &str) -> usize
     count
 }
 
-// The names that are imported from a module, or those that are exported.
+// The names that are imported from a module, or the exported names.
 #[derive(Drop)]
 struct Taken<'a> {
     defs: &'a [ModuleTypeDef],
@@ -114,7 +114,7 @@ impl<'a> TakenNames for Taken<'a> {
     }
 }
 
-// The two names of an import: that of the module, and one that is imported from it for the first time.
+// The two names of an import: the module's, and one that is imported from it for the first time.
 pub(crate) fn import_names(
     alloc: Global,
     u: &mut Unstructured,

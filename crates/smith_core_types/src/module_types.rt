@@ -45,7 +45,7 @@ fn allows_alias(config: &Config, scopes: &Scopes, declared: &Declared) -> bool
     allows_type(config, declared) && alias_count(scopes, declared) > 0
 }
 
-// What sort of declaration is read: a type below the limit, and an alias where there is one to name.
+// What sort of declaration is read: a type below the limit, and an alias if there is something to name.
 fn module_item(
     u: &mut Unstructured,
     config: &Config,
@@ -62,7 +62,7 @@ fn module_item(
     choose_offered(u, &module_item_offers(with_type, with_alias)).unwrap_or(ModuleItem::Import)
 }
 
-// An import, or false where nothing can be imported.
+// An import, or false if nothing can be imported.
 fn import(making: &Making, u: &mut Unstructured, declared: &mut Declared) -> Result<bool, Error>
     requires few { length declared.old.own.items < 1000 }
     ensures adds { (around : _) (fuel : ℕ) → IfOk result (λ b.
@@ -88,7 +88,7 @@ fn import(making: &Making, u: &mut Unstructured, declared: &mut Declared) -> Res
     }
 }
 
-// An export, or false where nothing can be exported.
+// An export, or false if nothing can be exported.
 fn export(making: &Making, u: &mut Unstructured, declared: &mut Declared) -> Result<bool, Error>
     requires few { length declared.old.own.items < 1000 }
     ensures adds { (around : _) (fuel : ℕ) → IfOk result (λ b.
@@ -110,7 +110,7 @@ fn export(making: &Making, u: &mut Unstructured, declared: &mut Declared) -> Res
     }
 }
 
-// A declaration of a sort, or false where nothing can be imported or exported.
+// A declaration of a sort, or false if nothing can be imported or exported.
 fn add_of(
     making: &Making,
     u: &mut Unstructured,
@@ -142,7 +142,7 @@ fn add_of(
     }
 }
 
-// A turn of the loop over the declarations, after its fuel is taken: a declaration, or false where it ends the loop.
+// A turn of the loop over the declarations, after its fuel is taken: a declaration, or false if it ends the loop.
 fn turn(
     making: &Making,
     u: &mut Unstructured,

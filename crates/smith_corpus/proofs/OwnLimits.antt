@@ -17,7 +17,7 @@ module _ (front rest whole : List ℕ) (joined : whole ≡ front ++ rest) (long 
   within config {limits} {own} is h =
       subst (λ k. IsSample k own) (is ∙ sym (ap (swarmed config) joined ∙ same_limits front rest long config)) h
 
--- the bytes of the limits, and those that are left of that many, are all
+-- the bytes of the limits, and the rest of that many, are all
 pub whole_front : (front rest : List ℕ) (len : ℕ) → length front ≡ min limit_count len → length rest ≡ len - length front
     → length front ≡ front_len (front ++ rest)
 whole_front front rest len some others = omega (arith, length-append front rest, some, others)

@@ -9,12 +9,12 @@ use Rattle.smith_component.specs.Runs.{IsMade}
 use Rattle.smith_swarm.specs.Swarm.{after_front, swarmed}
 use Rattle.smith_tree.specs.Generates.{Generates}
 use Rattle.smith_tree.specs.Tree.{Tree}
-use Rattle.smith_validity.specs.Validates.{Validates}
+use Rattle.smith_tree.specs.Validates.{Validates}
 use Rattle.smith_corpus.specs.declared.samples.Sample.{Sample}
 use Rattle.smith_corpus.specs.declared.samples.SampleError.{SampleError}
 use Rattle.smith_corpus.specs.declared.samples.SampleError.TheVariants.{BytesLeft, Refused}
 
--- The component is made of the input, of which nothing is left, and it is the only reading of the bytes. Where components must
+-- The component is made of the input, of which nothing is left, and it is the only reading of the bytes. If components must
 -- validate, it does.
 pub record IsSample (config : Config) (s : Sample) : Type 0 where
   pub consistent : IsConsistent config
@@ -45,7 +45,7 @@ abbrev pub IsSampleError : Config → ℕ → SampleError → Type 0
 IsSampleError config len (Refused error) = HasRefusal config len error
 IsSampleError config len BytesLeft = HasRest config len
 
--- The component is that of a sample within the limits that the first bytes of the input encode, and the input of that sample is what
+-- The component is a sample's within the limits that the first bytes of the input encode, and the input of that sample is what
 -- follows them.
 pub record IsSwarmSample (config : Config) (s : Sample) : Type 0 where
   pub own : Sample

@@ -91,9 +91,9 @@ fn tried(
 
 /// A random input of that many bytes, and the component that is made of it. Nothing of it is left.
 ///
-/// A byte whose choice would finish the root is changed to another one, so that the input is read further. Where an
-/// input is refused, as one may be that leads to a component without what the limits ask for, others are tried, sixteen
-/// in all. The time is linear in the bytes, times a logarithm, and generators that are equal give equal samples.
+/// A byte whose choice would finish the root is changed to another one, so that the input is read further. If an input
+/// is refused, as one may be that leads to a component without what the limits ask for, others are tried, sixteen in
+/// all. The time is linear in the bytes, times a logarithm, and generators that are equal give equal samples.
 pub fn draw(
     alloc: Global,
     config: &Config,

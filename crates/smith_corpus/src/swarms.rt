@@ -57,11 +57,11 @@ fn tried(
     })
 }
 
-/// A random input of that many bytes, of which the first encode limits that override those given, as `swarm_limits`
+/// A random input of that many bytes, of which the first encode limits that override the given ones, as `swarm_limits`
 /// defines, and the component that is made, within these, of the bytes after them. Nothing of them is left.
 ///
-/// Where limits are such that `draw` finds nothing, as where they do not fit together, others are tried, sixteen in
-/// all. Generators that are equal give equal samples.
+/// If limits are such that `draw` finds nothing, as when they do not fit together, others are tried, sixteen in all.
+/// Generators that are equal give equal samples.
 pub fn draw_swarm(
     alloc: Global,
     config: &Config,

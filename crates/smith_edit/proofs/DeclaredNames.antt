@@ -1,9 +1,9 @@
--- The names that declarations import, and those that they export.
+-- The names that declarations import, and the names that they export.
 use Rattle.std.proofs.Common.{◌≡◌, ℕ, ◌+◌, ◌<◌, List, [], ◌∷◌, ◌++◌, append_assoc, drop, get_or, map, length, ap, sym, refl, ◌∙◌}
 use Rattle.smith_syntax.specs.Entries.{in_order}
 use Rattle.smith_syntax.specs.WellFormed.{decl_exports, decl_imports, export_of, import_of, names}
-use Rattle.smith_read_types.specs.TypeNodes.{shown_decl_node}
-use Rattle.smith_read_types.specs.declared.nodes.DeclNode.{DeclNode}
+use Rattle.smith_read.specs.TypeNodes.{shown_decl_node}
+use Rattle.smith_read.specs.declared.type_nodes.DeclNode.{DeclNode}
 use Rattle.smith_edit.proofs.Lists.{map_drop}
 
 names_append : (xs ys : List (List ℕ × Unit {0})) → names (xs ++ ys) ≡ names xs ++ names ys

@@ -3,8 +3,8 @@ use Rattle.std.proofs.Common.{◌≡◌, ℕ, ◌+◌, ◌<◌, ◌≤◌, List,
 use Rattle.std.specs.Prelude.{if◌then◌else◌}
 use Rattle.std.specs.Option.{option_map, option_to_list}
 use Rattle.smith_syntax.specs.Entries.{Decl, Decls, in_order, no_decls, then_decls}
-use Rattle.smith_read_types.specs.TypeNodes.{shown_decl_node}
-use Rattle.smith_read_types.specs.declared.nodes.DeclNode.{DeclNode}
+use Rattle.smith_read.specs.TypeNodes.{shown_decl_node}
+use Rattle.smith_read.specs.declared.type_nodes.DeclNode.{DeclNode}
 use Rattle.smith_edit.specs.Edited.{after_decl, and_decl, decl_edited, decls_edited}
 use Rattle.smith_edit.specs.Items.{decl_items, decls_items}
 use Rattle.smith_edit.specs.Removal.{past, removes}

@@ -1,4 +1,4 @@
--- What is edited has fewer items, by one where the item that is removed is among them.
+-- What is edited has fewer items, by one if the item that is removed is among them.
 use Rattle.std.proofs.Common.{◌≡◌, ℕ, ◌+◌, ◌-◌, ◌<◌, ◌≤◌, Bool, true, false, List, [], ◌∷◌, ◌++◌, Option, None, Some, length, sym, refl, arith}
 use Rattle.std.proofs.Common.{length-append, nat_lt, ⊎_elim}
 use Rattle.std.proofs.lemmas.Bool.{cases_lt}
@@ -78,7 +78,7 @@ hits_inside (Item m) n h =
     rw same (omega (arith, more, none))
 hits_inside Everything n h = omega arith
 
--- the items of what may be left, and those with itself
+-- the items of what may be left, without and with itself
 
 abbrev pub left_items : {A : Type 0} → (A → ℕ) → Option A → ℕ
 left_items items None = 0

@@ -1,4 +1,4 @@
--- Index spaces, and those that they become.
+-- Index spaces, and what they become.
 use Rattle.std.proofs.Common.{◌≡◌, ℕ, zero, suc, List, [], ◌∷◌, ◌++◌, Option, None, Some, length, length-append, ap, sym, refl, subst, ◌∙◌, arith}
 use Rattle.std.proofs.Common.{⊎_elim, append-nil}
 use Rattle.std.proofs.lemmas.Option.{slice_get_within}
@@ -48,7 +48,7 @@ module _ {A : Type 0} (Rel : Fate → A → A → Type 0) where
   stays_more Changed i x new more h = (h.0, get_still new more i h.0 h.1, h.2)
   stays_more Removed i x new more h = tt
 
-  -- the entries of the old space, as they became those of the new one
+  -- the entries of the old space, as they became the entries of the new one
   pub record Follows (s : Renumbering) (old new : List A) : Type 0 where
     pub count : length s.entries ≡ length old
     pub next : s.next ≡ length new

@@ -152,7 +152,7 @@ module _ (around around2 : List CoreEntry) where
       (subst (λ xs. Follows AlikeFunction w.own.core_types xs (own2 ++ [])) (sym (append-nil own))
       (subst (Follows AlikeFunction w.own.core_types own) (sym (append-nil own2)) m.types))
 
-  -- a declaration, and those after it
+  -- a declaration, and the ones after it
   decl_then : (w : Walk) (own own2 : List Function) → ModuleFollows w around around2 own own2 → (d : ModuleDecl) → FormedDecl around own d
       → (o : Option ModuleDecl) → ((e : ModuleDecl) → o ≡ Some e → module_decl_edited w d ≡ Some e) → (later : List ModuleDecl)
       → ((own3 : List Function) → Follows AlikeFunction (after_module_decl w.own d o).core_types (own ++ adds around own d) own3

@@ -102,7 +102,7 @@ formed_function w own own2 f g outer outer2 h =
       formed_optional w.own.types own own2 f.types (past (length g.params) r) g.result h.3,
     )
 
--- a declaration, and those after it
+-- a declaration, and the ones after it
 decl_then : (d : Decl) (w : Walk) (own own2 : Scope) (outer outer2 : List Scope) → WalkFollows w own own2 outer outer2 → FormedDeclaration d own outer
     → (o : Option Decl) → ((x : Decl) → o ≡ Some x → decl_edited d w ≡ Some x) → ((x : Decl) → o ≡ Some x → FormedDeclaration x own2 outer2) → (later : Decls)
     → ((own3 : Scope) → ScopeFollows (after_decl w.own d o) (scope_after outer own d) own3 → FormedDeclarations later own3 outer2)

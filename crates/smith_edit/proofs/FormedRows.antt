@@ -76,7 +76,7 @@ module _ {A : Type 0} (Ok : A → Spaces → List Scope → Type 0) (adds : Spac
         row_then (skipped 1 w) s s2 outer outer2 p q x h.0 o (λ y at. one_is (removes w.removal) (edited (skipped 1 w) x) y at)
         (after_rows items edited after v xs) xs (rows items edited after v xs) (λ s3 f. rows_formed xs v (adds s x) s3 outer outer2 f q h.1)
 
--- where everything is removed
+-- if everything is removed
 pub rows_nothing : {A : Type 0} (items : A → ℕ) (edited : Walk → A → Option A) (after : Indexes → A → Option A → Indexes) (xs : List A) (w : Walk)
     → w.removal ≡ Everything
     → rows items edited after w xs ≡ []

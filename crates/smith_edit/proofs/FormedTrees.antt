@@ -99,7 +99,7 @@ spaces_added t p = ap (fold spaces_after no_spaces) (parts_added t p) ∙ fold-a
 pub own_added : {A : Type 0} (f : Part → List A) (t : Tree) (p : Part) → own f (add t p) ≡ own f t ++ f p
 own_added f t p = ap (flat_map f) (parts_added t p) ∙ flat_map-append f (parts_of t) (p ∷ []) ∙ ap (λ xs. own f t ++ xs) (append-nil (f p))
 
--- where everything is removed nothing is added
+-- if everything is removed nothing is added
 nothing_added : (p : Part) (w : Walk) (s : Spaces) → w.removal ≡ Everything → spaces_after s (part_edited p w) ≡ s
 nothing_added (part.custom name contents) w s e = refl
 nothing_added (part.core_module t) w s e = refl

@@ -25,7 +25,7 @@ map_append : {A B : Type 0} (f : A → B) (xs ys : List A) → map f (xs ++ ys) 
 map_append f [] ys = refl
 map_append f (x ∷ xs) ys = ap (λ zs. f x ∷ zs) (map_append f xs ys)
 
--- the names of a section, and those of the sections after it
+-- the names of a section, and of the sections after it
 
 pub imports_more : (names : List (List ℕ)) (p : Part) (t : Tree)
     → names ++ import_names (imports_of (first p t)) ≡ names ++ import_names (imports_in p) ++ import_names (imports_of t)

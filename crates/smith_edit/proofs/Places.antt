@@ -1,4 +1,4 @@
--- The index spaces at a place in a component, and those that they become.
+-- The index spaces at a place in a component, and what they become.
 use Rattle.std.proofs.Common.{◌≡◌, ℕ, true, ◌&&◌, List, [], ◌∷◌, ◌++◌, Option, None, Some, length, map, ap, sym, refl, ◌∙◌, arith}
 use Rattle.std.specs.Prelude.{slice_get}
 use Rattle.std.specs.List.{list_all}
@@ -24,7 +24,7 @@ use Rattle.smith_edit.proofs.FormedTypes.{more_core, more_core_removed, more_typ
 abbrev pub scope : Spaces → Scope
 scope s = record { types = s.types; core_types = s.core_types }
 
--- a function, whose fate is that of its type, and a core function, which remains where its function is kept
+-- a function, whose fate is its type's, and a core function, which remains if its function is kept
 
 abbrev pub OfType : Renumbering → Fate → ℕ → ℕ → Type 0
 OfType types f t u = slice_get types.entries t ≡ Some (record { index = u; fate = f })

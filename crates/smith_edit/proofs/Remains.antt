@@ -117,7 +117,7 @@ optional_left : (s : Renumbering) (r : Removal) (o : Option ComponentValType) �
 optional_left s r None = refl
 optional_left s r (Some v) = optional_by s r v (removes r) refl (value_edited s v) (value_gives s v) (value_gone s v)
 
--- those of a compound type
+-- the members of a compound type
 compound : {A : Type 0} (Left : List A → Type 0) (type : List A → DefValType) (R : DefValType → Type 0) (old new : List A)
     → Left new → ((left : List A) → Left left → R (type left)) → Gives R (option_map type (left_of old new))
 compound {A} Left type R old new h make = mapped_from type (λ (z : List A). z ≡ new) R (left_of old new) (left_gives old new)

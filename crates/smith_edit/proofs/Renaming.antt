@@ -23,7 +23,7 @@ module _ {A : Type 0} (name : A → List ℕ) (rename : A → List ℕ → A) (n
   renamed_beyond (suc k) (x ∷ xs) h = ap (option_map (λ ys. x ∷ ys)) (renamed_beyond k xs (omega arith))
 
   module _ {X : Type 0} (shown : X → A) where
-    -- where its name stays
+    -- if its name stays
     pub renamed_none : (k : ℕ) (xs : List X) (x : X) → k < length xs → x ≡ get_or xs k x → shorter_name names (name (shown x)) ≡ None
         → renamed_at name rename names k (map shown xs) ≡ None
     renamed_none k [] x lt at none = absurd (omega arith)
@@ -81,7 +81,7 @@ signature_turn g s =
     (λ k. signature_simplified k g) g.params g.result (λ k lt. refl)
     (λ k ge. ap (option_map (λ ps. record g { params = ps })) (renamed_beyond (λ f. f.0) (λ f n. (n, f.1)) (map (λ f. f.0) g.params) k g.params ge)) s
 
--- where the result is sought
+-- if the result is sought
 
 past_result : (g : Signature) (k : ℕ) → is_some (among (length (option_to_list g.result)) (past (length g.params) (Ahead k))) ≡ true → length g.params ≤ k
 past_result g k h =

@@ -14,7 +14,7 @@ use Rattle.smith_edit.specs.Removal.{past, removes}
 use Rattle.smith_edit.specs.declared.removal.Removal.{Removal}
 use Rattle.smith_edit.proofs.Fewer.{members_fewer}
 
--- the first has bytes where the other has, and no more of them
+-- the first has bytes if the other has, and no more of them
 abbrev pub NoLonger : Piece → Piece → Type 0
 NoLonger p q = (b : List ℕ) → q ≡ Some b → (a : List ℕ) × (p ≡ Some a) × (length a ≤ length b)
 

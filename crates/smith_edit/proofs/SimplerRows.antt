@@ -6,9 +6,9 @@ use Rattle.smith_syntax.specs.Entries.{Decl, Decls, Entry, in_order, then_decls}
 use Rattle.smith_tree.specs.Tree.{Part, Tree, first, tree_of}
 use Rattle.smith_read.specs.PartNodes.{shown_part_node}
 use Rattle.smith_read.specs.declared.nodes.PartNode.{PartNode}
-use Rattle.smith_read_types.specs.TypeNodes.{shown_decl_node, shown_type_node}
-use Rattle.smith_read_types.specs.declared.nodes.DeclNode.{DeclNode}
-use Rattle.smith_read_types.specs.declared.nodes.TypeNode.{TypeNode}
+use Rattle.smith_read.specs.TypeNodes.{shown_decl_node, shown_type_node}
+use Rattle.smith_read.specs.declared.type_nodes.DeclNode.{DeclNode}
+use Rattle.smith_read.specs.declared.type_nodes.TypeNode.{TypeNode}
 use Rattle.smith_edit.specs.Items.{decl_items, decls_items, entry_items, part_items, row_items, tree_items}
 use Rattle.smith_edit.specs.Simpler.{decl_simplified, decls_simplified, entry_simplified, itself_or, part_simplified, sections_simplified, simpler_decl}
 use Rattle.smith_edit.specs.Simpler.{simpler_entry, simpler_part, types_simplified}

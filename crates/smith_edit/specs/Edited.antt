@@ -30,7 +30,7 @@ abbrev pub members : {A : Type 0} → (A → Option A) → Removal → List A �
 members edited r [] = []
 members edited r (x ∷ xs) = (if removes r then [] else option_to_list (edited x)) ++ members edited (past 1 r) xs
 
--- The members that are left of those of a compound type. It is removed where none is left.
+-- The members that are left of a compound type. It is removed if none is left.
 abbrev pub left_of : {A : Type 0} → List A → List A → Option (List A)
 left_of [] new = Some new
 left_of (x ∷ xs) [] = None
@@ -67,7 +67,7 @@ defined_edited s r (result_type ok err) = Some (result_type (optional_edited s r
 abbrev pub signature_edited : Renumbering → Removal → Signature → Signature
 signature_edited s r g = record { params = members (field_edited s) r g.params; result = optional_edited s (past (length g.params) r) g.result }
 
--- Entries in order: each is edited by what became of those before it.
+-- Entries in order: each is edited by what became of the ones before it.
 module _ {A : Type 0} (items : A → ℕ) (edited : Walk → A → Option A) (adds : Scope → A → Option A → Scope) where
   -- an entry, if it is neither removed nor refers to what is
   abbrev pub one : Walk → A → Option A
@@ -179,7 +179,7 @@ type_fate e (Some new) = if nat_eq (function_members new) (function_members e) t
 abbrev pub after_type : Scope → Entry → Option Entry → Scope
 after_type s e new = with_type s (type_fate e new)
 
--- The canonical function (Explainer.md, canonical definitions): a type or a function that is changed is no longer that of the core function.
+-- The canonical function (Explainer.md, canonical definitions): a type or a function that is changed is no longer the core function's.
 abbrev pub canon_edited : Walk → Canon → Option Canon
 canon_edited w (lift c t) = elim (kept_index w.own.core_functions c) [ None ↦ None | Some d ↦ option_map (lift d) (kept_index w.own.types t) ]
 canon_edited w (lower f) = option_map lower (kept_index w.own.functions f)
@@ -191,7 +191,7 @@ after_canon s (lower f) new = with_core_function s (fate_if (is_some new) Kept)
 abbrev pub import_edited : Walk → ImportEntry → Option ImportEntry
 import_edited w i = option_map (λ r. record i { to = r }) (ref_edited w.own i.to)
 
--- A function is changed where its type is.
+-- A function is changed if its type is.
 abbrev pub after_ref : Scope → ComponentTypeRef → Bool → Scope
 after_ref s (to.Module i) remains = s
 after_ref s (to.Func i) remains = with_function s (fate_if remains (entry_at s.types i).fate)

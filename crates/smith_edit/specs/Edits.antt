@@ -14,11 +14,11 @@ use Rattle.smith_edit.specs.Walk.{new_scope}
 use Rattle.smith_edit.specs.declared.removal.Removal.TheVariants.{Nothing, Item}
 use Rattle.smith_edit.specs.declared.scope.Scope.{Scope}
 
--- the component without its k-th item and all that refers to what is removed; none where there is no k-th
+-- the component without its k-th item and all that refers to what is removed; none if there is no k-th
 abbrev pub without : ℕ → Tree → Option Tree
 without k t = if nat_lt k (tree_items t) then Some (tree_edited t (record { removal = Item k; own = new_scope; outer = [] })) else None
 
--- a scope the indexes of which follow those of a component
+-- a scope whose indexes follow a component's
 abbrev pub following : Spaces → Scope
 following s = record {
   types = from (length s.types);
@@ -27,7 +27,7 @@ following s = record {
   core_functions = from (length s.core_functions);
 }
 
--- the component, where it follows one with these spaces
+-- the component, when it follows one with these spaces
 abbrev pub moved : Spaces → Tree → Tree
 moved s t = tree_edited t (record { removal = Nothing; own = following s; outer = [] })
 
@@ -40,7 +40,7 @@ made_new (suc n) names digits text = if is_among names text then made_new n name
 abbrev pub new_name : List (List ℕ) → List ℕ → List ℕ
 new_name names text = made_new (length names) names (decimal (length names)) text
 
--- entries in order, each with a name that is new to these names and to those of the entries before it
+-- entries in order, each with a name that is new to these names and to the names of the entries before it
 abbrev pub all_renamed : {A : Type 0} → (A → List ℕ) → (A → List ℕ → A) → List (List ℕ) → List A → List A
 all_renamed name rename names [] = []
 all_renamed name rename names (x ∷ xs) =
@@ -70,10 +70,10 @@ renamed (first p t) is es =
     let q : Part = part_renamed is es p in
     first q (renamed t (is ++ import_names (imports_in q)) (es ++ export_names (exports_in q)))
 
--- the sections of one tree, and then those of the other
+-- the sections of one tree, and then the other's
 abbrev pub join : Tree → Tree → Tree
 join left right = tree_of (parts_of left ++ parts_of right)
 
--- The sections of one component, and then those of the other: its indexes follow those of the first, and its names are new.
+-- The sections of one component, and then the other's: its indexes follow the first one's, and its names are new.
 abbrev pub joined : Tree → Tree → Tree
 joined left right = join left (renamed (moved (spaces_of left) right) (import_names (imports_of left)) (export_names (exports_of left)))

@@ -100,7 +100,7 @@ ModuleDeclGoes w (imports m n e) = IsEntityGone w.own.core_types e
 ModuleDeclGoes w (aliases count i) = IsAliasedGone (λ s. s.core_types) (w.own ∷ w.outer) count i
 ModuleDeclGoes w (exports n e) = IsEntityGone w.own.core_types e
 
--- A canonical function goes also where what it refers to is changed.
+-- A canonical function goes also if what it refers to is changed.
 abbrev pub CanonGoes : Walk → Canon → Type 0
 CanonGoes w (lift c t) = Differs w.own.core_functions c ⊎ Differs w.own.types t
 CanonGoes w (lower f) = Differs w.own.functions f

@@ -32,7 +32,7 @@ value_items (result_type ok err) = length (option_to_list ok) + length (option_t
 abbrev pub signature_items : Signature → ℕ
 signature_items s = length s.params + length (option_to_list s.result)
 
--- those of a type that are the parameters and the result of a function
+-- the members of a type that are the parameters and the result of a function
 abbrev pub function_members : Entry → ℕ
 function_members (defined t) = 0
 function_members (function s) = signature_items s

@@ -14,7 +14,7 @@ pub record Knows (known : Names) (names : List (List ℕ)) : Type 0 where
   pub has : (name : List ℕ) → contains_text known.set name ≡ is_among names name
   pub count : known.count ≡ length names
 
--- those of imports, and those of exports
+-- the names of imports, and the names of exports
 pub record KnowsBoth (taken : Taken) (imports exports : List (List ℕ)) : Type 0 where
   pub of_imports : Knows taken.imports imports
   pub of_exports : Knows taken.exports exports

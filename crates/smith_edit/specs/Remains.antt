@@ -32,7 +32,7 @@ module _ {A : Type 0} (Remains : A → A → Type 0) (Goes : A → Type 0) where
   Members r (x ∷ xs) ys = (((removes r ≡ true) ⊎ Goes x) × Members (past 1 r) xs ys)
       ⊎ ((y : A) × (rest : List A) × (ys ≡ y ∷ rest) × Remains x y × Members (past 1 r) xs rest)
 
--- Entries in their order: each is left, or is removed, or goes, by what became of those before it.
+-- Entries in their order: each is left, or is removed, or goes, by what became of the ones before it.
 module _ {A : Type 0} (Remains : Walk → A → A → Type 0) (Goes : Walk → A → Type 0) (after : Walk → A → Walk) where
   abbrev pub InOrder : Walk → List A → List A → Type 0
   InOrder w [] ys = ys ≡ []

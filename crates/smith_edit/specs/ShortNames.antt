@@ -20,6 +20,6 @@ new_from (suc m) n names = if is_among names (short_name n) then new_from m (n +
 abbrev pub shortest_new : List (List ℕ) → List ℕ
 shortest_new names = new_from (length names) 0 names
 
--- that name, where it is shorter than this one
+-- that name, if it is shorter than this one
 abbrev pub shorter_name : List (List ℕ) → List ℕ → Option (List ℕ)
 shorter_name names name = if nat_lt (length (shortest_new names)) (length name) then Some (shortest_new names) else None

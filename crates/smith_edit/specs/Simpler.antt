@@ -26,7 +26,7 @@ itself_or itself inside (suc k) = inside k
 abbrev pub with_shorter_name : {A : Type 0} → (A → List ℕ) → (A → List ℕ → A) → List (List ℕ) → A → Option A
 with_shorter_name name rename names x = option_map (rename x) (shorter_name names (name x))
 
--- the k-th of what has a name and nothing inside, where these names are taken
+-- the k-th of what has a name and nothing inside, when these names are taken
 abbrev pub renamed_at : {A : Type 0} → (A → List ℕ) → (A → List ℕ → A) → List (List ℕ) → ℕ → List A → Option (List A)
 renamed_at name rename names k [] = None
 renamed_at name rename names zero (x ∷ xs) = option_map (λ y. y ∷ xs) (with_shorter_name name rename names x)
@@ -108,7 +108,7 @@ simpler_entry (function g) = None
 simpler_entry (component_type ds) = None
 simpler_entry (instance_type ds) = None
 
--- a declaration, where these names are imported and these are exported
+-- a declaration, when these names are imported and these are exported
 abbrev pub simpler_decl : List (List ℕ) → List (List ℕ) → Decl → Option Decl
 simpler_decl is es (core_type_decl t k) = None
 simpler_decl is es (type_decl e) = option_map type_decl (simpler_entry e)
@@ -201,6 +201,6 @@ abbrev pub sections_of : ℕ → Tree → Option Tree
 sections_of k t = sections_simplified (import_names (imports_of t)) (export_names (exports_of t)) k t
 
 -- The component with its k-th item made simpler: a component in it takes the place of the whole, and any other item is made simpler in its
--- place. There is none where there is no k-th item, and where it has no simpler form.
+-- place. There is none if there is no k-th item, or if it has no simpler form.
 abbrev pub simplified : ℕ → Tree → Option Tree
 simplified k t = elim (component_at k t) [ None ↦ sections_of k t | Some u ↦ Some u ]

@@ -7,7 +7,7 @@ use Rattle.smith_edit.specs.declared.removal.Removal.{Removal}
 use Rattle.smith_edit.specs.declared.scope.Scope.{Scope}
 use Rattle.smith_edit.specs.declared.walk.Walk.{Walk as Inside}
 
--- what is removed from here on, what became of the entries of this scope, and of those of the scopes around it, innermost first
+-- what is removed from here on, what became of the entries of this scope, and of the scopes around it, innermost first
 pub record Walk : Type 0 where
   pub removal : Removal
   pub own : Scope

@@ -4,7 +4,7 @@ ghost use Rattle.std.specs.Prelude.{◌≡◌, IfOk, OnOk};
 ghost use Rattle.std.specs.Option.{option_map};
 ghost use Rattle.smith_format.specs.Shown.{shown_func};
 ghost use Rattle.smith_syntax.specs.Entries.{ModuleDecl, exports, imports};
-ghost use Rattle.smith_read_types.specs.Nodes.{shown_core_node, shown_module_node};
+ghost use Rattle.smith_read.specs.Nodes.{shown_core_node, shown_module_node};
 ghost use Rattle.smith_edit.specs.Edited.{after_module_decl, core_edited, entity_edited, function_edited};
 ghost use Rattle.smith_edit.specs.Edited.{module_decl_edited, rows};
 ghost use Rattle.smith_edit.specs.Items.{core_items, function_items, module_decl_items};
@@ -16,7 +16,7 @@ use crate::rows::{Row, rows};
 use crate::scope::Scope;
 use crate::walk::Walk;
 use smith_format::{EntityType, FuncType, TagType};
-use smith_read_types::{CoreNode, ModuleNode};
+use smith_read::{CoreNode, ModuleNode};
 use std::alloc::AllocError;
 
 fn function(walk: &mut Walk, ty: &FuncType) -> Result<FuncType, AllocError>
@@ -47,7 +47,7 @@ fn entity(types: &Renumbering, to: EntityType) -> Option<EntityType>
     }
 }
 
-// What is imported by two names; none where it refers to what is removed.
+// What is imported by two names; none if it refers to what is removed.
 fn import(
     walk: &Walk,
     module_name: &str,
@@ -69,7 +69,7 @@ fn import(
     }))
 }
 
-// What is exported by a name; none where it refers to what is removed.
+// What is exported by a name; none if it refers to what is removed.
 fn export(walk: &Walk, name: &str, to: EntityType) -> Result<Option<ModuleNode>, AllocError>
     ensures { IfOk result (λ r. option_map shown_module_node r
         ≡ option_map (exports name.now) (entity_edited walk.now.own.core_types to)) }

@@ -4,13 +4,14 @@ ghost use Rattle.std.specs.Prelude.{◌≡◌, ◌+◌, fold, map, IfOk, OnOk};
 ghost use Rattle.smith_syntax.specs.Entries.{ImportEntry};
 ghost use Rattle.smith_tree.specs.Tree.{Canon, ExportEntry};
 ghost use Rattle.smith_tree.specs.Spaces.{Spaces, after_canon, after_export, after_import, after_part, no_spaces};
-ghost use Rattle.smith_read.specs.PartNodes.{shown_canon_node, shown_export_node, shown_import_node, shown_part_node};
+ghost use Rattle.smith_read.specs.PartNodes.{shown_import_node, shown_part_node};
+ghost use Rattle.smith_tree.specs.Shown.{shown_canon, shown_export};
 ghost use Rattle.smith_edit.specs.Counts.{counts_of};
 ghost use Rattle.smith_edit.specs.Edits.{following};
 
 use crate::renumbering::Renumbering;
 use crate::scope::Scope;
-use smith_read::{CanonNode, ExportNode, ImportNode, PartNode};
+use smith_read::{Export, Func, ImportNode, PartNode};
 use smith_syntax::ComponentTypeRef;
 use std::alloc::{AllocError, Global};
 
@@ -49,17 +50,17 @@ trait Counted: Drop {
             → OnOk result (counts.new ≡ counts_of (after s (shown self.now))) };
 }
 
-impl Counted for CanonNode {
+impl Counted for Func {
     ghost Shown = { Canon };
 
-    ghost shown = { shown_canon_node };
+    ghost shown = { shown_canon };
 
     ghost after = { after_canon };
 
     fn count(&self, counts: &mut Counts) -> Result<(), AllocError> {
         match self {
-            CanonNode::Lift { .. } => counts.functions = sum(counts.functions, 1)?,
-            CanonNode::Lower { .. } => counts.core_functions = sum(counts.core_functions, 1)?,
+            Func::CanonLift { .. } => counts.functions = sum(counts.functions, 1)?,
+            Func::CanonLower { .. } => counts.core_functions = sum(counts.core_functions, 1)?,
         }
         Ok(())
     }
@@ -86,16 +87,16 @@ impl Counted for ImportNode {
     }
 }
 
-impl Counted for ExportNode {
+impl Counted for Export {
     ghost Shown = { ExportEntry };
 
-    ghost shown = { shown_export_node };
+    ghost shown = { shown_export };
 
     ghost after = { after_export };
 
     // An export of nothing is none.
     fn count(&self, counts: &mut Counts) -> Result<(), AllocError> {
-        if (self.func as usize) < counts.functions {
+        if (self.func_index as usize) < counts.functions {
             counts.functions = sum(counts.functions, 1)?;
         }
         Ok(())
@@ -131,7 +132,7 @@ impl Counts {
             → OnOk result (self.new ≡ counts_of (after_part s (shown_part_node part.now))) }
     {
         match part {
-            PartNode::Custom { .. } | PartNode::CoreModule(_) | PartNode::Component(_) => Ok(()),
+            PartNode::Custom(_) | PartNode::CoreModule(_) | PartNode::Component(_) => Ok(()),
             PartNode::CoreTypes(types) => {
                 self.core_types = sum(self.core_types, types.len())?;
                 Ok(())

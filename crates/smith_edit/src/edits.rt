@@ -20,16 +20,16 @@ use smith_read::{ComponentTree, PartNode};
 use std::alloc::{AllocError, Global};
 
 /// The component without its `k`-th item, and without all that refers to what is removed; every other index is
-/// renumbered. There is none where there is no `k`-th item.
+/// renumbered. There is none if there is no `k`-th item.
 ///
 /// Items are counted from 0 in the order of the component's bytes: each section, each entry of a section, each
 /// declaration of a type, and each member of a type of values, of functions and of core functions. A section is removed
-/// with its entries, and a compound type with its last member. Where the type of a function loses a parameter or its
+/// with its entries, and a compound type with its last member. If the type of a function loses a parameter or its
 /// result, its lowers and its lifts are removed. An index that refers to nothing remains as it is.
 ///
-/// Nothing else is removed, and what is left keeps its order. So a component that is well formed remains so, and has no
+/// Nothing else is removed, and the rest keeps its order. So a component that is well formed remains so, and has no
 /// more bytes. It takes time and memory in proportion to the component, and stack in proportion to its depth. `Err` is
-/// returned where an allocation fails, and where an index would exceed 4,294,967,295.
+/// returned if an allocation fails, or if an index would exceed 4,294,967,295.
 pub fn without(
     alloc: Global,
     tree: &ComponentTree,
@@ -68,12 +68,12 @@ pub(crate) fn names(alloc: Global, parts: &[PartNode]) -> Result<Taken, AllocErr
     Ok(taken)
 }
 
-/// The sections of the first component, and then those of the second: its indexes follow those of the first, and a name
-/// of an import or an export that is taken already is made new, with digits at its end. An index that refers to nothing
-/// remains as it is.
+/// The sections of the first component, and then the second's: its indexes follow the first's, and a name of an import
+/// or an export that is taken already is made new, with digits at its end. An index that refers to nothing remains as
+/// it is.
 ///
 /// So two components that are well formed are joined to one that is. It uses stack in proportion to the depth of the
-/// second. `Err` is returned where an allocation fails, and where an index would exceed 4,294,967,295.
+/// second. `Err` is returned if an allocation fails, or if an index would exceed 4,294,967,295.
 pub fn joined(
     alloc: Global,
     left: ComponentTree,

@@ -5,8 +5,8 @@ ghost use Rattle.smith_format.specs.Shown.{shown_func};
 ghost use Rattle.smith_syntax.specs.Entries.{CoreEntry, Entry, ModuleDecl, in_order};
 ghost use Rattle.smith_syntax.specs.Shown.{shown_defined};
 ghost use Rattle.smith_tree.specs.Tree.{tree_of};
-ghost use Rattle.smith_read_types.specs.Nodes.{shown_core_node, shown_module_node};
-ghost use Rattle.smith_read_types.specs.TypeNodes.{shown_decl_node, shown_type_node};
+ghost use Rattle.smith_read.specs.Nodes.{shown_core_node, shown_module_node};
+ghost use Rattle.smith_read.specs.TypeNodes.{shown_decl_node, shown_type_node};
 ghost use Rattle.smith_read.specs.PartNodes.{shown_part_node, shown_tree};
 ghost use Rattle.smith_edit.specs.Items.{core_items, decl_items, decls_items, entry_items, function_items};
 ghost use Rattle.smith_edit.specs.Items.{module_decl_items, part_items, row_items, signature_items, tree_items};
@@ -14,8 +14,7 @@ ghost use Rattle.smith_edit.specs.Items.{value_items};
 
 use crate::counts::sum;
 use smith_format::FuncType as CoreFuncType;
-use smith_read::{ComponentTree, PartNode};
-use smith_read_types::{CoreNode, DeclNode, ModuleNode, TypeNode};
+use smith_read::{ComponentTree, CoreNode, DeclNode, ModuleNode, PartNode, TypeNode};
 use smith_syntax::{DefinedType, FuncType};
 use std::alloc::AllocError;
 
@@ -72,7 +71,7 @@ impl HasItems for TypeNode {
     }
 }
 
-/// Those of entries in order, each with itself.
+/// The items of entries in order, each with itself.
 pub(crate) fn row_items<T: HasItems>(items: &[T]) -> Result<usize, AllocError>
     ensures { IfOk result (λ n. n ≡ row_items T.inside (map T.shown items.now)) }
 {
@@ -90,7 +89,7 @@ fn function_items(ty: &CoreFuncType) -> Result<usize, AllocError>
     sum(ty.params.len(), ty.results.len())
 }
 
-/// Those of a core type.
+/// The items of a core type.
 pub(crate) fn core_items(node: &CoreNode) -> Result<usize, AllocError>
     ensures { IfOk result (λ n. n ≡ core_items (shown_core_node node.now)) }
 {
@@ -122,9 +121,9 @@ fn signature_items(ty: &FuncType) -> usize
     ty.params.len() + usize::from(ty.result.is_some())
 }
 
-/// Those of a type.
+/// The items of a type.
 #[cycle(counting)]
-#[tactic(auto, using(smith_read_types::proofs::ShownNodes::shown_nodes))]
+#[tactic(auto, using(smith_read::proofs::ShownNodes::shown_nodes))]
 pub(crate) fn type_items(node: &TypeNode) -> Result<usize, AllocError>
     ensures { IfOk result (λ n. n ≡ entry_items (shown_type_node node.now)) }
 {
@@ -136,7 +135,7 @@ pub(crate) fn type_items(node: &TypeNode) -> Result<usize, AllocError>
 }
 
 #[cycle(counting)]
-#[tactic(auto, using(smith_read_types::proofs::ShownNodes::shown_nodes))]
+#[tactic(auto, using(smith_read::proofs::ShownNodes::shown_nodes))]
 fn declaration_items(node: &DeclNode) -> Result<usize, AllocError>
     ensures { IfOk result (λ n. n ≡ decl_items (shown_decl_node node.now)) }
 {
@@ -162,14 +161,14 @@ fn declarations_items(nodes: &[DeclNode]) -> Result<usize, AllocError>
     Ok(count)
 }
 
-/// Those of a section.
+/// The items of a section.
 #[cycle(counting_parts)]
 #[tactic(auto, using(crate::proofs::PartNodes::part_nodes))]
 pub(crate) fn part_items(node: &PartNode) -> Result<usize, AllocError>
     ensures { IfOk result (λ n. n ≡ part_items (shown_part_node node.now)) }
 {
     match node {
-        PartNode::Custom { .. } | PartNode::CoreModule(_) => Ok(0),
+        PartNode::Custom(_) | PartNode::CoreModule(_) => Ok(0),
         PartNode::CoreTypes(entries) => row_items(entries),
         PartNode::Component(nodes) => parts_items(nodes),
         PartNode::Types(entries) => row_items(entries),
@@ -193,8 +192,8 @@ fn parts_items(nodes: &[PartNode]) -> Result<usize, AllocError>
 
 /// How many items a component has: `without` takes each number below this, and no other.
 ///
-/// It takes time in proportion to the component, and stack in proportion to its depth. `Err` is returned where the
-/// number would exceed what a `usize` holds.
+/// It takes time in proportion to the component, and stack in proportion to its depth. `Err` is returned if the number
+/// would exceed what a `usize` holds.
 pub fn item_count(tree: &ComponentTree) -> Result<usize, AllocError>
     ensures { IfOk result (λ n. n ≡ tree_items (shown_tree tree.now)) }
 {

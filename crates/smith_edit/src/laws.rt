@@ -65,7 +65,7 @@ pub fn members_go_with_their_types()
         → (removes r ≡ true) ⊎ IsValueGone s v }
 {}
 
-/// An entry that is left is not gone for those that refer to it, and stays so.
+/// An entry that is left is not gone for what refers to it, and stays so.
 pub fn what_is_left_is_not_gone()
     ensures types { (s : Scope) (e new : Entry)
         → ¬ IsGone (after_type s e (Some new)).types (length s.types.entries) }
@@ -87,7 +87,7 @@ pub fn what_is_left_is_not_gone()
         → entry_at (with_entry s f) i ≡ entry_at s i }
 {}
 
-/// A component without an item has no more bytes, where the component has an encoding.
+/// A component without an item has no more bytes, if the component has an encoding.
 pub fn bytes_are_no_more()
     ensures { (k : ℕ) (tree less : Tree) (bytes : List ℕ) → without k tree ≡ Some less → Spells tree bytes
         → (fewer : List ℕ) × Spells less fewer × (length fewer ≤ length bytes) }
@@ -98,7 +98,7 @@ pub fn items_are_no_more()
     ensures { (k : ℕ) (tree simpler : Tree) → simplified k tree ≡ Some simpler → tree_items simpler ≤ tree_items tree }
 {}
 
-/// A component with an item made simpler has no more bytes, where the component has an encoding.
+/// A component with an item made simpler has no more bytes, if the component has an encoding.
 pub fn simpler_bytes_are_no_more()
     ensures { (k : ℕ) (tree simpler : Tree) (bytes : List ℕ) → simplified k tree ≡ Some simpler → Spells tree bytes
         → (fewer : List ℕ) × Spells simpler fewer × (length fewer ≤ length bytes) }
@@ -109,7 +109,7 @@ pub fn nothing_is_added()
     ensures { (tree : Tree) → joined tree ends ≡ tree }
 {}
 
-/// A component without an item is well formed, where the component is.
+/// A component without an item is well formed, if the component is.
 pub fn components_stay_well_formed()
     ensures { (k : ℕ) (tree less : Tree) → without k tree ≡ Some less → WellFormed tree → WellFormed less }
 {}

@@ -31,7 +31,7 @@ pub(crate) trait Member: Drop {
 
     ghost edits: { PlainRenumbering → Shown → Option Shown };
 
-    /// The member with new indexes; none where it refers to what is removed.
+    /// The member with new indexes; none if it refers to what is removed.
     fn edited(&self, alloc: Global, types: &Renumbering) -> Result<Option<Self>, AllocError>
         ensures { IfOk result (λ r. option_map shown r ≡ edits types.now (shown self.now)) };
 }
@@ -146,7 +146,7 @@ pub(crate) fn members<T: Member>(walk: &mut Walk, items: &[T]) -> Result<Vec<T>,
     Ok(left)
 }
 
-// The members that are left of those of a compound type; none where none is left of those that there were.
+// The members that are left of a compound type; none if it had some and none is left.
 fn left_of<T: Member>(walk: &mut Walk, items: &[T]) -> Result<Option<Vec<T>>, AllocError>
     ensures left { IfOk result (λ r. option_map (λ v. map T.shown v.items) r ≡ left_of (map T.shown items.now)
         (members (T.edits walk.old.own.types) walk.old.removal (map T.shown items.now))) }
@@ -242,7 +242,7 @@ pub(crate) fn enum_of(variants: Option<Vec<String>>) -> Option<DefinedType>
     }
 }
 
-/// A type of values; none where it refers to what is removed, or has no members left.
+/// A type of values; none if it refers to what is removed, or has no members left.
 pub(crate) fn defined(walk: &mut Walk, ty: &DefinedType) -> Result<Option<DefinedType>, AllocError>
     ensures edited { IfOk result (λ r. option_map shown_defined r
         ≡ defined_edited walk.old.own.types walk.old.removal (shown_defined ty.now)) }

@@ -4,13 +4,14 @@ ghost use Rattle.std.specs.Prelude.{◌≡◌, ◌∷◌, ◌++◌, [], ℕ, Lis
 ghost use Rattle.smith_syntax.specs.Entries.{ImportEntry};
 ghost use Rattle.smith_tree.specs.Tree.{ExportEntry, exports_in, imports_in};
 ghost use Rattle.smith_tree.specs.WellFormed.{export_names, import_names};
-ghost use Rattle.smith_read.specs.PartNodes.{shown_export_node, shown_import_node, shown_part_node};
+ghost use Rattle.smith_read.specs.PartNodes.{shown_import_node, shown_part_node};
+ghost use Rattle.smith_tree.specs.Shown.{shown_export};
 ghost use Rattle.smith_edit.specs.Edits.{all_renamed, export_renamed, import_renamed, new_name, part_renamed};
 ghost use Rattle.smith_edit.specs.Names.{Knows, KnowsBoth, export_is_renamed, export_is_same};
 ghost use Rattle.smith_edit.specs.Names.{import_is_renamed, import_is_same};
 
 use crate::counts::sum;
-use smith_read::{ExportNode, ImportNode, PartNode};
+use smith_read::{Export, ImportNode, PartNode};
 use std::alloc::{AllocError, Global};
 use std::collections::BTreeSet;
 
@@ -61,10 +62,10 @@ impl Named for ImportNode {
     }
 }
 
-impl Named for ExportNode {
+impl Named for Export {
     ghost Shown = { ExportEntry };
 
-    ghost shown = { shown_export_node };
+    ghost shown = { shown_export };
 
     ghost name = { λ e. e.name };
 
@@ -78,10 +79,10 @@ impl Named for ExportNode {
         self.name.as_str()
     }
 
-    fn renamed(&self, label: String) -> ExportNode {
-        ExportNode {
+    fn renamed(&self, label: String) -> Export {
+        Export {
             name: label,
-            func: self.func,
+            func_index: self.func_index,
         }
     }
 }

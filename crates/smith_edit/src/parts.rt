@@ -4,9 +4,10 @@ ghost use Rattle.std.specs.Prelude.{◌≡◌, None, Some, map, if◌then◌else
 ghost use Rattle.std.specs.Option.{option_map};
 ghost use Rattle.smith_syntax.specs.Entries.{CoreEntry, Entry, ImportEntry};
 ghost use Rattle.smith_tree.specs.Tree.{Canon, ExportEntry, tree_of};
-ghost use Rattle.smith_read_types.specs.Nodes.{shown_core_node};
-ghost use Rattle.smith_read_types.specs.TypeNodes.{shown_type_node};
-ghost use Rattle.smith_read.specs.PartNodes.{shown_canon_node, shown_export_node, shown_import_node, shown_part_node};
+ghost use Rattle.smith_read.specs.Nodes.{shown_core_node};
+ghost use Rattle.smith_read.specs.TypeNodes.{shown_type_node};
+ghost use Rattle.smith_read.specs.PartNodes.{shown_import_node, shown_part_node};
+ghost use Rattle.smith_tree.specs.Shown.{shown_canon, shown_export};
 ghost use Rattle.smith_edit.specs.Edited.{after_canon, after_core, after_export, after_import, after_part};
 ghost use Rattle.smith_edit.specs.Edited.{after_section, after_type, canon_edited, core_row, export_edited};
 ghost use Rattle.smith_edit.specs.Edited.{import_edited, part_edited, tree_edited, type_row, within};
@@ -21,7 +22,7 @@ use crate::rows::{Row, push_some, rows};
 use crate::scope::Scope;
 use crate::types::{reference, type_edited};
 use crate::walk::Walk;
-use smith_read::{CanonNode, CoreNode, ExportNode, ImportNode, PartNode, TypeNode};
+use smith_read::{CoreNode, CustomSection, Export, Func, ImportNode, PartNode, TypeNode};
 use smith_syntax::ComponentTypeRef;
 use std::alloc::AllocError;
 
@@ -46,7 +47,7 @@ impl Row for CoreNode {
 }
 
 // How many parameters and results a type of functions has.
-#[tactic(auto, using(smith_read_types::proofs::ShownNodes::shown_nodes))]
+#[tactic(auto, using(smith_read::proofs::ShownNodes::shown_nodes))]
 fn function_members(node: &TypeNode) -> usize
     ensures { result ≡ function_members (shown_type_node node.now) }
 {
@@ -81,10 +82,10 @@ impl Row for TypeNode {
     }
 }
 
-impl Row for CanonNode {
+impl Row for Func {
     ghost Shown = { Canon };
 
-    ghost shown = { shown_canon_node };
+    ghost shown = { shown_canon };
 
     ghost items = { none_inside };
 
@@ -92,27 +93,33 @@ impl Row for CanonNode {
 
     ghost adds = { after_canon };
 
-    fn edited(&self, walk: &mut Walk) -> Result<Option<CanonNode>, AllocError> {
+    fn edited(&self, walk: &mut Walk) -> Result<Option<Func>, AllocError> {
         match self {
-            CanonNode::Lift { core_func, ty } => {
-                let core_func = walk.own.core_functions.kept_index(*core_func);
-                match (core_func, walk.own.types.kept_index(*ty)) {
-                    (Some(core_func), Some(ty)) => Ok(Some(CanonNode::Lift { core_func, ty })),
+            Func::CanonLift {
+                func_ty,
+                core_func_index,
+            } => {
+                let core_func = walk.own.core_functions.kept_index(*core_func_index);
+                match (core_func, walk.own.types.kept_index(*func_ty)) {
+                    (Some(core_func_index), Some(func_ty)) => Ok(Some(Func::CanonLift {
+                        func_ty,
+                        core_func_index,
+                    })),
                     _ => Ok(None),
                 }
             }
-            CanonNode::Lower { func } => match walk.own.functions.kept_index(*func) {
-                Some(func) => Ok(Some(CanonNode::Lower { func })),
+            Func::CanonLower { func_index } => match walk.own.functions.kept_index(*func_index) {
+                Some(func_index) => Ok(Some(Func::CanonLower { func_index })),
                 None => Ok(None),
             },
         }
     }
 
-    fn add(&self, new: &Option<CanonNode>, own: &mut Scope) -> Result<(), AllocError> {
+    fn add(&self, new: &Option<Func>, own: &mut Scope) -> Result<(), AllocError> {
         let fate = Fate::Kept.remains_if(new.is_some());
         match self {
-            CanonNode::Lift { .. } => own.functions.add(fate),
-            CanonNode::Lower { .. } => own.core_functions.add(fate),
+            Func::CanonLift { .. } => own.functions.add(fate),
+            Func::CanonLower { .. } => own.core_functions.add(fate),
         }
     }
 }
@@ -152,10 +159,10 @@ impl Row for ImportNode {
     }
 }
 
-impl Row for ExportNode {
+impl Row for Export {
     ghost Shown = { ExportEntry };
 
-    ghost shown = { shown_export_node };
+    ghost shown = { shown_export };
 
     ghost items = { none_inside };
 
@@ -163,18 +170,18 @@ impl Row for ExportNode {
 
     ghost adds = { after_export };
 
-    fn edited(&self, walk: &mut Walk) -> Result<Option<ExportNode>, AllocError> {
-        match walk.own.functions.new_index(self.func) {
-            Some(func) => {
+    fn edited(&self, walk: &mut Walk) -> Result<Option<Export>, AllocError> {
+        match walk.own.functions.new_index(self.func_index) {
+            Some(func_index) => {
                 let name = String::from_str(walk.alloc, self.name.as_str())?;
-                Ok(Some(ExportNode { name, func }))
+                Ok(Some(Export { name, func_index }))
             }
             None => Ok(None),
         }
     }
 
-    fn add(&self, new: &Option<ExportNode>, own: &mut Scope) -> Result<(), AllocError> {
-        own.functions.add_like(self.func, new.is_some())
+    fn add(&self, new: &Option<Export>, own: &mut Scope) -> Result<(), AllocError> {
+        own.functions.add_like(self.func_index, new.is_some())
     }
 }
 
@@ -187,10 +194,10 @@ pub(crate) fn part(walk: &mut Walk, node: &PartNode) -> Result<PartNode, AllocEr
     ensures walk { OnOk result (shown_walk walk.new ≡ after_part (shown_walk walk.old) (shown_part_node node.now)) }
 {
     match node {
-        PartNode::Custom { name, contents } => {
-            let name = String::from_str(walk.alloc, name.as_str())?;
-            let contents = Vec::from_slice(walk.alloc, contents)?;
-            Ok(PartNode::Custom { name, contents })
+        PartNode::Custom(section) => {
+            let name = String::from_str(walk.alloc, section.name.as_str())?;
+            let bytes = Vec::from_slice(walk.alloc, &section.bytes)?;
+            Ok(PartNode::Custom(CustomSection { name, bytes }))
         }
         PartNode::CoreModule(text) => {
             Ok(PartNode::CoreModule(Vec::from_slice(walk.alloc, text)?))

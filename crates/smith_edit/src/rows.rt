@@ -1,4 +1,4 @@
-//! Entries in order, each edited by what became of those before it.
+//! Entries in order, each edited by what became of the ones before it.
 
 ghost use Rattle.std.specs.Prelude.{◌≡◌, ◌+◌, ◌++◌, ℕ, Option, map, IfOk, OnOk};
 ghost use Rattle.std.specs.Option.{option_map, option_to_list};
@@ -22,7 +22,7 @@ pub(crate) trait Row: Drop {
 
     ghost adds: { PlainScope → Shown → Option Shown → PlainScope };
 
-    /// The entry with new indexes; none where it refers to what is removed.
+    /// The entry with new indexes; none if it refers to what is removed.
     fn edited(&self, walk: &mut Walk) -> Result<Option<Self>, AllocError>
         ensures edited { IfOk result (λ r. option_map shown r ≡ edits (shown_walk walk.old) (shown self.now)) }
         ensures walk { OnOk result (shown_walk walk.new ≡ skipped (items (shown self.now)) (shown_walk walk.old)) };

@@ -32,8 +32,7 @@ fn copied(alloc: Global, nodes: &[PartNode]) -> Result<Option<ComponentTree>, Al
     }
 }
 
-/// The component with its `k`-th item made simpler; none where there is no `k`-th item, or where it has no simpler
-/// form.
+/// The component with its `k`-th item made simpler; none if there is no `k`-th item, or if it has no simpler form.
 ///
 /// Items are counted as `without` counts them. These have a simpler form:
 ///
@@ -42,14 +41,14 @@ fn copied(alloc: Global, nodes: &[PartNode]) -> Result<Option<ComponentTree>, Al
 /// - a component inside the component, at any depth: that one, in place of the whole. Its indexes stay, so that an
 ///   outer alias of what was around it names nothing.
 /// - a type of values in a section, or declared by a type of components or instances: `bool`, unless it is that.
-/// - an import, an export, a field, a case, a flag, a label of an enum or a parameter of a component function: with
-///   the first of the names a, b, .., z, aa, ab, .. that none of its kind beside it has, where that is shorter than
-///   its own. Names in types of core modules stay.
+/// - an import, an export, a field, a case, a flag, a label of an enum or a parameter of a component function: with the
+///   first of the names a, b, .., z, aa, ab, .. that none of its kind beside it has, if that is shorter than its own.
+///   Names in types of core modules stay.
 ///
-/// The component that results has no more items and no more bytes, but is not always well formed: where a type becomes
+/// The component that results has no more items and no more bytes, but is not always well formed: when a type becomes
 /// `bool`, functions may no longer flatten as before. It takes memory and, except for sorting the names beside the one
-/// that changes, time in proportion to the component, and stack in proportion to its depth. `Err` is returned where an
-/// allocation fails, and where there are more items than a `usize` counts.
+/// that changes, time in proportion to the component, and stack in proportion to its depth. `Err` is returned if an
+/// allocation fails, or if there are more items than a `usize` counts.
 pub fn simplified(
     alloc: Global,
     tree: &ComponentTree,

@@ -4,7 +4,7 @@ ghost use Rattle.std.specs.Prelude.{◌≡◌, ◌+◌, None, map, if◌then◌e
 ghost use Rattle.std.specs.Option.{option_map};
 ghost use Rattle.smith_syntax.specs.Entries.{in_order};
 ghost use Rattle.smith_syntax.specs.Signature.{named};
-ghost use Rattle.smith_read_types.specs.TypeNodes.{shown_decl_node, shown_type_node};
+ghost use Rattle.smith_read.specs.TypeNodes.{shown_decl_node, shown_type_node};
 ghost use Rattle.smith_edit.specs.Edited.{after_decl, decl_edited, decls_edited, entry_edited, ref_edited};
 ghost use Rattle.smith_edit.specs.Items.{decl_items, decls_items, entry_items};
 ghost use Rattle.smith_edit.specs.Removal.{past, removes};
@@ -16,11 +16,11 @@ use crate::renumbering::Fate;
 use crate::rows::push_some;
 use crate::scope::Scope;
 use crate::walk::Walk;
-use smith_read_types::{DeclNode, TypeNode};
+use smith_read::{DeclNode, TypeNode};
 use smith_syntax::ComponentTypeRef;
 use std::alloc::AllocError;
 
-/// What an import or an export is of; none where that is removed.
+/// What an import or an export is of; none if that is removed.
 pub(crate) fn reference(own: &Scope, to: ComponentTypeRef) -> Option<ComponentTypeRef>
     ensures { result ≡ ref_edited own.now to }
 {
@@ -48,9 +48,9 @@ pub(crate) fn reference(own: &Scope, to: ComponentTypeRef) -> Option<ComponentTy
     }
 }
 
-/// A type; none where it refers to what is removed, or has no members left.
+/// A type; none if it refers to what is removed, or has no members left.
 #[cycle(editing)]
-#[tactic(auto, using(smith_read_types::proofs::ShownNodes::shown_nodes))]
+#[tactic(auto, using(smith_read::proofs::ShownNodes::shown_nodes))]
 pub(crate) fn type_edited(walk: &mut Walk, node: &TypeNode) -> Result<Option<TypeNode>, AllocError>
     ensures edited { IfOk result (λ r. option_map shown_type_node r
         ≡ entry_edited (shown_type_node node.now) (shown_walk walk.old)) }
@@ -78,7 +78,7 @@ pub(crate) fn type_edited(walk: &mut Walk, node: &TypeNode) -> Result<Option<Typ
     }
 }
 
-// The name and what it is of; none where that is removed.
+// The name and what it is of; none if that is removed.
 fn named(
     walk: &Walk,
     name: &str,
@@ -92,9 +92,9 @@ fn named(
     }
 }
 
-// A declaration; none where it refers to what is removed.
+// A declaration; none if it refers to what is removed.
 #[cycle(editing)]
-#[tactic(auto, using(smith_read_types::proofs::ShownNodes::shown_nodes))]
+#[tactic(auto, using(smith_read::proofs::ShownNodes::shown_nodes))]
 fn declaration(walk: &mut Walk, node: &DeclNode) -> Result<Option<DeclNode>, AllocError>
     ensures edited { IfOk result (λ r. option_map shown_decl_node r
         ≡ decl_edited (shown_decl_node node.now) (shown_walk walk.old)) }
@@ -133,7 +133,7 @@ fn declaration(walk: &mut Walk, node: &DeclNode) -> Result<Option<DeclNode>, All
 }
 
 // Adds a declaration to its index space, after it was edited.
-#[tactic(auto, using(smith_read_types::proofs::ShownNodes::shown_nodes))]
+#[tactic(auto, using(smith_read::proofs::ShownNodes::shown_nodes))]
 fn add(node: &DeclNode, new: &Option<DeclNode>, own: &mut Scope) -> Result<(), AllocError>
     ensures { OnOk result (own.new
         ≡ after_decl own.old (shown_decl_node node.now) (option_map shown_decl_node new.now)) }

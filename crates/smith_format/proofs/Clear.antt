@@ -75,7 +75,7 @@ clear_byte f same =
           record { same = same x y (let z = a.same in cc); rests = a.rests };
     }
 
--- encodings are distinguished by their bytes, regardless of what follows them
+-- encodings are distinguished by their bytes, whatever follows them
 pub closed : {A : Type 0} (f : A → List ℕ) → ((x y : A) (a c : List ℕ) → f x ++ a ≡ f y ++ c → (x ≡ y) × (a ≡ c)) → IsClear (λ x. Some (f x))
 closed f told =
     record {

@@ -1,4 +1,4 @@
--- Core types that are read: what is left, that they are as they should be, and that they are determined.
+-- Core types that are read: the rest, that they are as they should be, and that they are determined.
 use Rattle.std.proofs.Common.{◌≡◌, ◌≤◌, ◌⊎◌, inl, inr, ℕ, zero, suc, ◌+◌, ◌-◌, List, [], ◌∷◌, Bool, true, false, length, refl, sym, ap, ◌∙◌, subst, arith}
 use Rattle.std.specs.List.{AllByRecursion, Contains}
 use Rattle.std.specs.Prelude.{Option, Some, None, IfSome, slice_get}

@@ -1,4 +1,4 @@
--- Core function types, limits and memory types are read where their scripts are.
+-- Core function types, limits and memory types are read from their scripts.
 use Rattle.std.proofs.Common.{◌≡◌, ◌≤◌, ◌^◌, ℕ, ◌+◌, ◌-◌, List, ◌++◌, length, refl, sym, ap, subst, arith, append_assoc, Option, Some, None}
 use Rattle.std.specs.Prelude.{IfSome}
 use Rattle.std.proofs.lemmas.Bool.{false≢true}
@@ -23,7 +23,7 @@ use Rattle.smith_format.specs.declared.types.ValType.{ValType}
 use Rattle.smith_format.specs.declared.types.ValType.TheVariants.{I32, I64, F32, F64, V128, Ref}
 use Rattle.smith_format.proofs.CoreReading.{function_unique}
 
--- the derived equalities return true exactly where both are the same
+-- the derived equalities return true exactly if both are the same
 pub ref_Decides : (r o : RefType) → Decides (references.eq r o) (r ≡ o)
 ref_Decides FuncRef FuncRef = (λ _. refl, λ _. refl)
 ref_Decides ExternRef ExternRef = (λ _. refl, λ _. refl)
@@ -58,7 +58,7 @@ function_read valtypes max_results f rest h many =
       results = values_read valtypes max_results f.1 rest many h.few_results h.results;
     }
 
--- what is read where a script is
+-- what is read from a script
 pub function_scripted : (valtypes : List ValType) (max_results : ℕ) (f g : Function) (bytes rest left : List ℕ) → FormedFunction valtypes max_results f
     → length valtypes ≤ 2 ^ 64 → bytes ≡ script_function valtypes max_results f ++ rest → ReadsFunction valtypes max_results bytes g left
     → (g ≡ f) × (left ≡ rest)

@@ -184,7 +184,7 @@ sized_long : (id : ℕ) (p : Piece) → (sized id p ≡ None) ⊎ (piece_length 
 sized_long id None = inl (sized_nothing id)
 sized_long id (Some b) = sized_cases id b (cases_lt (length b) (2 ^ 32))
 
--- where there is no room for them
+-- if there is no room for them
 full_section : (old mid : Vec ℕ Global) (id : ℕ) (p : Piece) (n : ℕ) → vec_capacity old ≤ vec_capacity mid → vec_len mid ≡ vec_len old + n → n ≤ 2
     → (m : ℕ) → m + n ≤ piece_length p + 2 → vec_capacity mid < vec_len mid + m
     → (sized id p ≡ None) ⊎ (vec_capacity old < vec_len old + piece_length (sized id p))

@@ -56,7 +56,7 @@ pub length_then : (r : Option ℕ) {m n : ℕ} {p q : Piece} → SomeIff r (m + 
 length_then (Some k) {m} {n} {p} {q} s t w = (subst (λ (l : ℕ). Takes l (p ⊕ q)) (sym s.1) (takes_then t w), let e = s.1 in omega (arith, s.0))
 length_then None {m} {n} s t w = too_much_long (takes_then t w) (omega (arith, s))
 
--- Something after its length has an encoding where what it holds has one of at most 4,294,967,295 bytes.
+-- Something after its length has an encoding if what it holds has one of at most 4,294,967,295 bytes.
 pub framed_cases : (p : Piece) → ((framed p ≡ None) × TakesTooMuch p)
     ⊎ (Takes (piece_length p) p × (piece_length p < 2 ^ 32) × Takes (length (unsigned (piece_length p)) + piece_length p) (framed p))
 framed_cases None = inl (framed_nothing, too_much_none (λ i. None))
@@ -134,7 +134,7 @@ pub measures_none : (r : Result ℕ Error) (e : Error) {p : Piece} → IsErrAnd 
 measures_none (Ok n) e is f g = absurd is
 measures_none (Err y) e is f g = (is ∙ f, g)
 
--- where there is no encoding
+-- if there is no encoding
 pub u_none_where : (n : ℕ) → (u n ≡ None) ↔ (2 ^ 32 ≤ n)
 u_none_where n = (λ e. by_size (u_cases n) e, u_none n)
   where

@@ -25,7 +25,7 @@ use Rattle.smith_format.specs.declared.types.ValType.TheVariants.{I32, I64, F32,
 use Rattle.smith_format.proofs.Piece.{left_none, right_none, none_join}
 use Rattle.smith_format.proofs.Sizes.{each_none, framed_cases, framed_none, u_none_where, number_none_where, s_index_none_where, text_none_where}
 
--- two pieces have no encoding where one of them has none
+-- two pieces have no encoding exactly if one of them has none
 pub join_none : {P Q : Type 0} (p q : Piece) → (p ≡ None) ↔ P → (q ≡ None) ↔ Q → (p ⊕ q ≡ None) ↔ (P ⊎ Q)
 join_none {P} {Q} p q f g = (λ e. elim (none_join p q e) [ inl n ↦ inl (f.0 n) | inr n ↦ inr (g.0 n) ], back)
   where

@@ -14,7 +14,7 @@ pub record Agree {A : Type 0} (x y : A) (p q : Piece) : Type 0 where
   pub rests : Rests p q
 
 -- Bytes that begin with an encoding of this sort begin with only one: no encoding of it is a prefix of another, and each ends
--- by itself, regardless of what follows it.
+-- by itself, whatever follows it.
 pub record IsClear {A : Type 0} (f : A → Piece) : Type 0 where
   pub law : (x y : A) (p q : Piece) (b : List ℕ) → f x ⊕ p ≡ Some b → f y ⊕ q ≡ Some b → Agree x y p q
 

@@ -18,7 +18,7 @@ pub record FormedMemory (m : MemoryType) : Type 0 where
   pub shared : m.shared ≡ false
   pub memory64 : m.memory64 ≡ false
 
--- a table of indexes of 32 bits: of functions, or of things from outside where there are references to those
+-- a table of indexes of 32 bits: of functions, or of things from outside if there are references to those
 pub record FormedTable (references : Bool) (t : TableType) : Type 0 where
   pub element : (t.element_type ≡ FuncRef) ⊎ ((references ≡ true) × (t.element_type ≡ ExternRef))
   pub limits : FormedLimits t.minimum t.maximum

@@ -17,7 +17,7 @@ pub record ReadsBetween (low high : ℕ) (bytes : List ℕ) (n : ℕ) (rest : Li
   pub is : n ≡ low + place
   pub reads : Reads (high - low + 1) bytes place rest
 
--- a boolean, and a maximum from the minimum to 20 where it is true
+-- a boolean, and a maximum from the minimum to 20 if it is true
 pub data ReadsMaximum (minimum : ℕ) : List ℕ → Option ℕ → List ℕ → Type 0 where
   unbounded : {bytes rest : List ℕ} → Flips bytes false rest → ReadsMaximum minimum bytes None rest
   bounded : {bytes mid : List ℕ} {n : ℕ} {rest : List ℕ} → Flips bytes true mid → ReadsBetween minimum 20 mid n rest → ReadsMaximum minimum bytes (Some n) rest
@@ -34,13 +34,13 @@ pub record ReadsMemory (bytes : List ℕ) (m : MemoryType) (rest : List ℕ) : T
   pub shared : m.shared ≡ false
   pub memory64 : m.memory64 ≡ false
 
--- What a table holds: a choice of two where there are reference types as value types, otherwise functions, with no byte
+-- What a table holds: a choice of two if there are reference types as value types, otherwise functions, with no byte
 -- read.
 pub data ReadsElement : Bool → List ℕ → RefType → List ℕ → Type 0 where
   only_functions : {bytes : List ℕ} → ReadsElement false bytes FuncRef bytes
   either : {bytes : List ℕ} {t : RefType} {rest : List ℕ} → ReadsAmong (FuncRef ∷ ExternRef ∷ []) bytes t rest → ReadsElement true bytes t rest
 
--- a table type (Types, Table Types), where there are reference types as value types or not
+-- a table type (Types, Table Types), whether or not there are reference types as value types
 pub record ReadsTable (references : Bool) (bytes : List ℕ) (t : TableType) (rest : List ℕ) : Type 0 where
   pub mid : List ℕ
   pub element : ReadsElement references bytes t.element_type mid

@@ -11,7 +11,7 @@ use Rattle.smith_format.specs.declared.types.MemoryType.{MemoryType}
 use Rattle.smith_format.specs.declared.types.TableType.{TableType}
 use Rattle.smith_format.specs.declared.types.TagType.{TagType}
 
--- a bit of a byte: its value where it is set
+-- a bit of a byte: its value if it is set
 abbrev pub bit : Bool → ℕ → ℕ
 bit true value = value
 bit false value = 0
@@ -20,7 +20,7 @@ abbrev pub has_maximum : Option ℕ → Bool
 has_maximum None = false
 has_maximum (Some n) = true
 
--- the maximum, where there is one
+-- the maximum, if there is one
 abbrev pub maximum : Option ℕ → Piece
 maximum None = bytes []
 maximum (Some n) = number n
@@ -69,7 +69,7 @@ kind_of (Memory m) = kind.Memory
 kind_of (Global g) = kind.Global
 kind_of (Tag t) = kind.Tag
 
--- its byte where it is exported (Modules, Export Section)
+-- its byte when it is exported (Modules, Export Section)
 abbrev pub kind_byte : ExportKind → ℕ
 kind_byte kind.Func = 0x00
 kind_byte kind.Table = 0x01

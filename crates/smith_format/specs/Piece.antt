@@ -4,7 +4,7 @@ use Rattle.std.specs.Str.{is_utf8}
 use Rattle.std.specs.Prelude.{ℕ, ◌^◌, List, [], ◌∷◌, ◌++◌, length, Option, Some, None, nat_lt, if◌then◌else◌, ℤ, pos}
 use Rattle.smith_format.specs.Numbers.{unsigned, signed}
 
--- the bytes of something, or None where it has no encoding
+-- the bytes of something, or None if it has no encoding
 abbrev pub Piece : Type 0
 Piece = Option (List ℕ)
 
@@ -15,7 +15,7 @@ None ⊕ q = None
 (Some a) ⊕ None = None
 (Some a) ⊕ (Some b) = Some (a ++ b)
 
--- the bytes of a piece, and none where it has no encoding
+-- the bytes of a piece, and none if it has no encoding
 abbrev pub bytes_of : Piece → List ℕ
 bytes_of None = []
 bytes_of (Some b) = b

@@ -1,4 +1,5 @@
--- What has no encoding, since a count, the length of a text or an index in it exceeds 4,294,967,295, or a bound of limits 64 bits.
+-- What has no encoding, because a count, the length of a text or an index in it exceeds 4,294,967,295, or a bound of
+-- limits 64 bits.
 use Rattle.std.specs.Prelude.{ℕ, ◌^◌, ◌<◌, ◌≤◌, ◌⊎◌, List, length, Option, Some, None}
 use Rattle.std.specs.List.{Any, AllByRecursion}
 use Rattle.std.specs.Str.{IsUtf8}

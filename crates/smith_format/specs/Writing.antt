@@ -7,7 +7,7 @@ use Rattle.smith_input.specs.declared.error.Error.{Error}
 use Rattle.smith_input.specs.declared.error.Error.TheVariants.{TooLong, OutOfMemory}
 use Rattle.smith_format.specs.Piece.{Piece, ◌⊕◌}
 
--- how many bytes the encoding has, and 0 where there is none
+-- how many bytes the encoding has, and 0 if there is none
 abbrev pub piece_length : Piece → ℕ
 piece_length None = 0
 piece_length (Some b) = length b
@@ -28,9 +28,9 @@ pub record Gains (old new : Vec ℕ Global) (p : Piece) : Type 0 where
   pub begins : Begins old new
   pub length : vec_len new ≡ vec_len old + piece_length p
 
--- A writer of the piece may return this error. What is too long has no encoding. It is out of memory only where old had no
--- room for the encoding; a piece of several parts that has none may be refused so too, for the parts before the one that is
--- too long.
+-- A writer of the piece may return this error. What is too long has no encoding. It is out of memory only if old had no
+-- room for the encoding. A piece of several parts that has no encoding may be refused so too, for the parts before the
+-- one that is too long.
 pub record IsDue (e : Error) (old : Vec ℕ Global) (p : Piece) : Type 0 where
   pub only : (e ≡ TooLong) ⊎ (e ≡ OutOfMemory)
   pub too_long : e ≡ TooLong → p ≡ None
@@ -46,8 +46,8 @@ abbrev pub Appends : {A : Type 0} → Result A Error → Vec ℕ Global → Vec 
 Appends (Ok _) old new p = Gains old new p
 Appends (Err e) old new p = Keeps old new × IsDue e old p
 
--- A writer is out of memory only for a piece that has an encoding: what is too long is refused as too long, regardless of the
--- room.
+-- A writer is out of memory only for a piece that has an encoding: what is too long is refused as too long, however
+-- much room there is.
 abbrev pub WantsMemoryFor : {A : Type 0} → Result A Error → Piece → Type 0
 WantsMemoryFor r p = IfErr r (λ e. e ≡ OutOfMemory → ¬ (p ≡ None))
 
@@ -60,12 +60,12 @@ pub record Takes (n : ℕ) (p : Piece) : Type 0 where
 pub record TakesTooMuch (p : Piece) : Type 0 where
   pub is : (p ≡ None) ⊎ (2 ^ 32 ≤ piece_length p)
 
--- The length of the piece's encoding, or None exactly where it has none of at most 4,294,967,295 bytes.
+-- The length of the piece's encoding, or None exactly if it has none of at most 4,294,967,295 bytes.
 abbrev pub IsLengthOf : Option ℕ → Piece → Type 0
 IsLengthOf (Some n) p = Takes n p × (n < 2 ^ 32)
 IsLengthOf None p = TakesTooMuch p
 
--- The length of the piece's encoding, or TooLong exactly where it has none.
+-- The length of the piece's encoding, or TooLong exactly if it has none.
 abbrev pub Measures : Result ℕ Error → Piece → Type 0
 Measures (Ok n) p = Takes n p
 Measures (Err e) p = (e ≡ TooLong) × (p ≡ None)

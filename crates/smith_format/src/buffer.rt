@@ -1,5 +1,5 @@
-//! What is put at the end of a buffer. No writer lowers the capacity of the buffer, and none takes memory where the
-//! buffer has room for what it writes.
+//! What is put at the end of a buffer. No writer lowers the capacity of the buffer, and none takes memory if the buffer
+//! has room for what it writes.
 #![tactic(auto, using(crate::proofs::Steps::writing))]
 
 ghost use Rattle.std.specs.Prelude.{◌≡◌, ℕ};
@@ -22,7 +22,7 @@ pub trait Spelled<Format> {
     fn put(&self, out: &mut Vec<u8>) -> Result<(), Error>
         ensures { Puts result out.old out.new (piece self.now) };
 
-    /// The length of the encoding; None exactly where it has none of at most 4,294,967,295 bytes.
+    /// The length of the encoding; None exactly if it has none of at most 4,294,967,295 bytes.
     fn spelled_len(&self) -> Option<u32>
         ensures { IsLengthOf result (piece self.now) };
 }

@@ -4,18 +4,18 @@ ghost use Rattle.std.specs.Prelude.{◌≡◌, ◌↔◌, true, IsOk, IfErr};
 
 use smith_input::Error;
 
-/// The limits of what is built. Every number counts things, but `max_type_size`, which is the fuel of a type.
+/// The limits of what is built. Every number counts things, except `max_type_size`, which is the fuel of a type.
 ///
-/// What a component is missing of a minimum is added when it is finished, regardless of the input. So a large minimum
-/// costs time and memory in proportion to it, for each component.
+/// The entries that a component lacks for a minimum are added when it is finished, whatever the input. So a large
+/// minimum costs time and memory in proportion to it, for each component.
 #[derive(Debug, Clone, Copy, PartialEq, Eq)]
 pub struct Config {
     /// The fewest types of a component. They can always be added.
     pub min_types: usize,
-    /// The fewest imports of a component. Where they can not be added, it is refused with `MinimumNotMet`.
+    /// The fewest imports of a component. If they cannot be added, it is refused with `MinimumNotMet`.
     pub min_imports: usize,
-    /// The fewest functions of a component: imported ones, lifts and lowers together. Where they can not be added, it
-    /// is refused with `MinimumNotMet`.
+    /// The fewest functions of a component: imported ones, lifts and lowers together. If they cannot be added, it is
+    /// refused with `MinimumNotMet`.
     pub min_funcs: usize,
     /// The fewest memories of a core module.
     pub min_memories: usize,
@@ -45,7 +45,7 @@ pub struct Config {
     pub allow_floats: bool,
     /// Whether core modules count their data segments in a section.
     pub bulk_memory_enabled: bool,
-    /// The most memories of a core module, and those that a module type imports and exports.
+    /// The most memories of a core module, and the most that a module type imports and exports.
     pub max_memories: usize,
     /// The most core modules of the whole tree, embedded and imported.
     pub max_modules: usize,
@@ -55,9 +55,9 @@ pub struct Config {
     pub max_instances: usize,
     /// How deep components nest, the root at 1. A limit of 0 counts as 1.
     pub max_nesting_depth: usize,
-    /// The fuel of a type: its members and declarations at all depths are at most so many.
+    /// The fuel of a type: the most members and declarations that it has at all depths.
     pub max_type_size: u32,
-    /// How many sections a component has at least when the input finishes it. Where no input is left, it is finished
+    /// The fewest sections that a component has when the input finishes it. If no input is left, it is finished
     /// whatever it has.
     pub finish_after: usize,
     /// Whether a validator accepts each component: what it imports and exports is of types that it names, and effective
@@ -118,10 +118,10 @@ impl Config {
             && self.max_memories <= 100
     }
 
-    /// Accepts limits that fit together: no minimum exceeds its maximum, counts that are written are at most
-    /// 4,294,967,295, those of functions and of exports together, and the nesting depth is at most 1000. Where
-    /// components must validate, there are at most 500,000 types, 1,000,000 functions and exports together, 1,000
-    /// modules, components and instances each, and 100 memories. Others are refused with `InconsistentLimits`.
+    /// Accepts limits that fit together: no minimum exceeds its maximum, written counts are at most 4,294,967,295,
+    /// functions and exports counted together, and the nesting depth is at most 1000. If components must validate,
+    /// there are at most 500,000 types, 1,000,000 functions and exports together, 1,000 modules, components and
+    /// instances each, and 100 memories. Others are refused with `InconsistentLimits`.
     pub fn check(&self) -> Result<(), Error>
         ensures accepts { IsOk result ↔ IsConsistent self.now }
         ensures refuses { IfErr result (λ e. e ≡ Error.InconsistentLimits) }

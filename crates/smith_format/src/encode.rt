@@ -1,6 +1,6 @@
 //! Value types and function types in the binary format (core specification, Binary Format, Types), and the lengths of
-//! their encodings. No writer lowers the capacity of its buffer, and none takes memory where the buffer has room for
-//! what it writes.
+//! their encodings. No writer lowers the capacity of its buffer, and none takes memory if the buffer has room for what
+//! it writes.
 #![tactic(auto, using(crate::proofs::Steps::writing, crate::proofs::Sizes::measuring))]
 
 ghost use Rattle.std.specs.Prelude.{◌≡◌, ◌≢◌, ◌≤◌};
@@ -58,7 +58,7 @@ fn number_code(ty: ValType) -> u8
     }
 }
 
-// It is inlined, since lists of value types are what is written most.
+// It is inlined, since lists of value types are written most often.
 #[inline(always)]
 pub(crate) fn put_core_val(out: &mut Vec<u8>, ty: ValType) -> Result<(), Error>
     ensures { Puts result out.old out.new (core_val ty) }
@@ -127,14 +127,14 @@ impl Spelled<CoreFormat> for FuncType {
     }
 }
 
-/// Appends a function type. It is too long where a count in it exceeds 4,294,967,295. Public only for the crates above.
+/// Appends a function type. It is too long if a count in it exceeds 4,294,967,295. Public only for the crates above.
 pub fn write_func_type(out: &mut Vec<u8>, ty: &FuncType) -> Result<(), Error>
     ensures { Appends result out.old out.new (core_function (shown_func ty.now)) }
 {
     write_spelled(out, ty)
 }
 
-/// The length of a function type's encoding; None exactly where it has none of at most 4,294,967,295 bytes. Public only
+/// The length of a function type's encoding; None exactly if it has none of at most 4,294,967,295 bytes. Public only
 /// for the crates above.
 pub fn func_type_len(ty: &FuncType) -> Option<u32>
     ensures { IsLengthOf result (core_function (shown_func ty.now)) }

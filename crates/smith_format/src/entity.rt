@@ -1,6 +1,6 @@
 //! Imports of a core module and what it imports or exports, in the binary format (core specification, Binary Format,
 //! Types and Import Section), and the lengths of their encodings. No writer lowers the capacity of its buffer, and none
-//! takes memory where the buffer has room for what it writes.
+//! takes memory if the buffer has room for what it writes.
 #![tactic(auto, using(crate::proofs::Steps::writing, crate::proofs::Sizes::measuring))]
 
 ghost use Rattle.std.specs.Prelude.{◌≡◌, ◌≤◌, Bool};
@@ -200,15 +200,15 @@ impl Spelled<CoreFormat> for Import {
     }
 }
 
-/// Appends an import. Too long where the length of a name exceeds 4,294,967,295. Public only for the crates above.
+/// Appends an import. It is too long if the length of a name exceeds 4,294,967,295. Public only for the crates above.
 pub fn write_core_import(out: &mut Vec<u8>, import: &Import) -> Result<(), Error>
     ensures { Appends result out.old out.new (core_import (shown_import import.now)) }
 {
     write_spelled(out, import)
 }
 
-/// The length of an import's encoding; None exactly where it has none of at most 4,294,967,295 bytes. Public only for
-/// the crates above.
+/// The length of an import's encoding; None exactly if it has none of at most 4,294,967,295 bytes. Public only for the
+/// crates above.
 pub fn core_import_len(import: &Import) -> Option<u32>
     ensures { IsLengthOf result (core_import (shown_import import.now)) }
 {

@@ -1,4 +1,4 @@
-//! Fuel, which bounds how large a type becomes that is made from the input.
+//! Fuel, which bounds how large a type made from the input becomes.
 
 ghost use Rattle.std.specs.Prelude.{◌≡◌, ◌-◌};
 

@@ -38,7 +38,7 @@ pub fn signed_numbers()
     ensures less { (z : ℤ) → z <ℤ negsuc 63 → signed z ≡ (128 + low_bits z) ∷ signed (high_bits z) }
 {}
 
-/// No encoding of a number is a prefix of another of its sort, and two readings with anything after are one.
+/// No encoding of a number is a prefix of another of its sort, and two readings are one, whatever follows.
 pub fn numbers_are_clear()
     ensures unsigned { IsClear number }
     ensures signed { IsClear s }
@@ -62,15 +62,15 @@ pub fn sections_are_clear<T>()
     ensures contents { (id : ℕ) → IsClear (λ c. sized id (bytes c)) }
 {}
 
-/// Bytes that are read in one way with anything after are so by themselves, and bytes as they are may fill the
-/// rest.
+/// Bytes that are read in one way, whatever follows, are read in one way by themselves too, and bytes as they are may
+/// fill the rest.
 pub fn contents_are_exact<T>()
     ensures clear { (f : T → Piece) → IsClear f → IsExact f }
     ensures filled { (f : T → Piece) → IsClear f → IsExact (λ (x : T × List ℕ). f x.0 ⊕ raw x.1) }
 {}
 
-/// A number has no encoding as a length, a count or an index exactly where it exceeds 4,294,967,295; nor has a
-/// text or a section exactly where its length does.
+/// A number has no encoding as a length, a count or an index exactly if it exceeds 4,294,967,295; a text or a section
+/// has none exactly if its length does.
 pub fn too_long_has_no_encoding()
     ensures count { (n : ℕ) → (u n ≡ None) ↔ (2 ^ 32 ≤ n) }
     ensures index { (n : ℕ) → (s_index n ≡ None) ↔ (2 ^ 32 ≤ n) }
@@ -78,7 +78,7 @@ pub fn too_long_has_no_encoding()
     ensures section { (id : ℕ) (c : List ℕ) → (sized id (bytes c) ≡ None) ↔ (2 ^ 32 ≤ length c) }
 {}
 
-/// A list has no encoding exactly where its count exceeds 4,294,967,295 or one of its members has none.
+/// A list has no encoding exactly if its count exceeds 4,294,967,295 or one of its members has none.
 pub fn long_lists_have_no_encoding<T>()
     ensures { (f : T → Piece) (xs : List T) → (many f xs ≡ None) ↔ ((2 ^ 32 ≤ length xs) ⊎ Any (λ x. f x ≡ None) xs) }
 {}
@@ -88,9 +88,9 @@ pub fn bytes_have_an_encoding()
     ensures { (bs : List ℕ) → AllByRecursion (λ b. b < 256) bs → ¬ (raw bs ≡ None) }
 {}
 
-/// A core type has no encoding exactly where a count or an index in it exceeds 4,294,967,295; nor has what a core
-/// module imports or exports, or where a bound of its limits exceeds 64 bits, which those of the program never do; nor
-/// an import exactly where that has none or the length of a name exceeds 4,294,967,295.
+/// A core type has no encoding exactly if a count or an index in it exceeds 4,294,967,295. What a core module imports
+/// or exports has none exactly if that holds, or if a bound of its limits exceeds 64 bits, which never happens in the
+/// program. An import has none exactly if what it imports has none or the length of a name exceeds 4,294,967,295.
 pub fn long_core_types_have_no_encoding()
     ensures values { (v : ValType) → (core_val v ≡ None) ↔ ValTooLong v }
     ensures functions { (f : Function) → (core_function f ≡ None) ↔ FunctionTooLong f }
@@ -98,8 +98,8 @@ pub fn long_core_types_have_no_encoding()
     ensures imports { (i : CoreImport) → IsUtf8 i.0 → IsUtf8 i.1 → (core_import i ≡ None) ↔ ImportTooLong i }
 {}
 
-/// No encoding of a core type is a prefix of another of its sort, and two readings with anything after are one; the
-/// same for what a core module imports or exports, and for its imports.
+/// No encoding of a core type is a prefix of another of its sort, and two readings are one, whatever follows. The same
+/// holds for what a core module imports or exports, and for its imports.
 pub fn core_types_are_clear()
     ensures values { IsClear core_val }
     ensures functions { IsClear core_function }
@@ -107,7 +107,7 @@ pub fn core_types_are_clear()
     ensures imports { IsClear core_import }
 {}
 
-/// The bytes alone decide which core type is read, and what is left.
+/// The bytes alone decide which core type is read, and the rest.
 pub fn core_types_are_decided()
     ensures memories { IsDecided ReadsMemory }
     ensures tables { (references : Bool) → IsDecided (ReadsTable references) }
@@ -115,7 +115,8 @@ pub fn core_types_are_decided()
     ensures functions { (valtypes : List ValType) (max_results : ℕ) → IsDecided (ReadsFunction valtypes max_results) }
 {}
 
-/// The script of a function type of these value types is read as that type, and that of a memory type as it.
+/// The script of a function type of these value types is read as that type, and the script of a memory type as that
+/// memory type.
 pub fn core_scripts_are_read()
     ensures functions { (valtypes : List ValType) (max_results : ℕ) (f : Function)
         → FormedFunction valtypes max_results f

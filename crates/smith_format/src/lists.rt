@@ -21,7 +21,7 @@ pub fn put_many<Format, T: Spelled<Format>>(out: &mut Vec<u8>, items: &[T]) -> R
     Ok(())
 }
 
-/// The length of a list's encoding; None exactly where it has none of at most 4,294,967,295 bytes. Public only for the
+/// The length of a list's encoding; None exactly if it has none of at most 4,294,967,295 bytes. Public only for the
 /// crates above.
 pub fn many_len<Format, T: Spelled<Format>>(items: &[T]) -> Option<u32>
     ensures { IsLengthOf result (many T.piece items.now) }

@@ -47,7 +47,7 @@ pub fn arbitrary_memtype(u: &mut Unstructured, _config: &Config) -> MemoryType
     }
 }
 
-// What a table holds: functions, or things from outside where there may be references to those.
+// What a table holds: functions, or things from outside if there may be references to those.
 fn element_type(u: &mut Unstructured, references: bool) -> RefType
     ensures reads { ReadsElement references u.old result u.new }
     ensures tail { IsTail u.new u.old }
@@ -59,7 +59,7 @@ fn element_type(u: &mut Unstructured, references: bool) -> RefType
     }
 }
 
-/// A table type: what it holds, and limits as those of a memory. It has indexes of 32 bits.
+/// A table type: what it holds, and limits like a memory's. It has indexes of 32 bits.
 pub fn arbitrary_table_type(u: &mut Unstructured, config: &Config) -> TableType
     ensures reads { ReadsTable config.now.reference_types_enabled u.old result u.new }
     ensures formed { FormedTable config.now.reference_types_enabled result }
@@ -132,7 +132,7 @@ pub fn arbitrary_func_type(
     Ok(FuncType { params, results })
 }
 
-/// A function type of the configured value types, with as many results as the limits allow at most. It fails only when
+/// A function type of the configured value types, with at most as many results as the limits allow. It fails only when
 /// out of memory. Public only for the crates above.
 #[inline(always)]
 pub fn configured_func_type(

@@ -164,7 +164,7 @@ pub fn type_index_len(index: u32) -> u32
     s64_len(i64::from(index))
 }
 
-/// Appends a length or a count. It is too long where it exceeds 4,294,967,295. Public only for the crates above.
+/// Appends a length or a count. It is too long if it exceeds 4,294,967,295. Public only for the crates above.
 pub fn write_count(out: &mut Vec<u8>, count: usize) -> Result<(), Error>
     ensures written { Appends result out.old out.new (u count) }
     ensures full { WantsMemoryFor result (u count) }
@@ -175,7 +175,7 @@ pub fn write_count(out: &mut Vec<u8>, count: usize) -> Result<(), Error>
     write_u32(out, count as u32)
 }
 
-/// The length of a written length or count; None exactly where that exceeds 4,294,967,295. Public only for the crates
+/// The length of a written length or count; None exactly if that exceeds 4,294,967,295. Public only for the crates
 /// above.
 pub fn count_len(count: usize) -> Option<u32>
     ensures { IsLengthOf result (u count) }

@@ -11,7 +11,7 @@ use smith_input::Error;
 
 const MOST: usize = u32::MAX as usize;
 
-/// Appends bytes that fill what is left of a section. Public only for the crates above.
+/// Appends bytes that fill the rest of a section. Public only for the crates above.
 pub fn write_raw(out: &mut Vec<u8>, rest: &[u8]) -> Result<(), Error>
     ensures written { Appends result out.old out.new (raw rest.now) }
     ensures full { WantsMemoryFor result (raw rest.now) }
@@ -19,7 +19,7 @@ pub fn write_raw(out: &mut Vec<u8>, rest: &[u8]) -> Result<(), Error>
     write_bytes(out, rest)
 }
 
-/// The length of bytes; None exactly where it exceeds 4,294,967,295. Public only for the crates above.
+/// The length of bytes; None exactly if it exceeds 4,294,967,295. Public only for the crates above.
 pub fn raw_len(contents: &[u8]) -> Option<u32>
     ensures { IsLengthOf result (raw contents.now) }
 {
@@ -34,7 +34,7 @@ fn put_text(out: &mut Vec<u8>, name: &str) -> Result<(), Error>
     write_bytes(out, name.as_bytes())
 }
 
-/// The length of a text after its length; None exactly where it has no encoding of at most 4,294,967,295 bytes.
+/// The length of a text after its length; None exactly if it has no encoding of at most 4,294,967,295 bytes.
 pub fn text_len(name: &str) -> Option<u32>
     ensures { IsLengthOf result (text name.now) }
 {
@@ -54,7 +54,7 @@ impl<'a> Spelled<CoreFormat> for &'a str {
     }
 }
 
-/// Appends a text after its length. It is too long where the length exceeds 4,294,967,295.
+/// Appends a text after its length. It is too long if the length exceeds 4,294,967,295.
 pub fn write_text(out: &mut Vec<u8>, name: &str) -> Result<(), Error>
     ensures written { Appends result out.old out.new (text name.now) }
     ensures full { WantsMemoryFor result (text name.now) }
@@ -126,7 +126,7 @@ impl<'a> Spelled<CoreFormat> for Section<'a> {
     }
 }
 
-/// Appends a section: its id, the length of its contents, and the contents. It is too long where the length exceeds
+/// Appends a section: its id, the length of its contents, and the contents. It is too long if the length exceeds
 /// 4,294,967,295.
 pub fn write_section(out: &mut Vec<u8>, id: u8, contents: &[u8]) -> Result<(), Error>
     ensures written { Appends result out.old out.new (sized id (bytes contents.now)) }

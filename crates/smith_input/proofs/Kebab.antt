@@ -138,7 +138,7 @@ kebab_appended text ds a k (suc n) = kebab_more ds a (kebab_appended text ds a k
 pub kebab_is_kept : (has : List ℕ → Bool) (size : ℕ) (text name : List ℕ) → Kebab text → IsMadeUnique has size text name → Kebab name
 kebab_is_kept has size text name k u = rw (u.name_is) (kebab_appended text (decimal size) (digits_in_word (decimal size) (are_digits size)) k u.times)
 
--- what is left, and that all is determined
+-- the rest, and that all is determined
 each_tail : {n : ℕ} {bytes ks rest : List ℕ} → ReadsEach n bytes ks rest → IsTail rest bytes
 each_tail (none {bytes = bytes}) = tail_same bytes
 each_tail (next r rs) = tail_trans (each_tail rs) (reads_tail r)

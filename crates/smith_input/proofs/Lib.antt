@@ -1,5 +1,6 @@
 pub mod Choices
 pub mod Digits
+pub mod DistinctNames
 pub mod Kebab
 pub mod Lists
 pub mod Loops

@@ -7,7 +7,7 @@ use Rattle.std.specs.Option.{option_to_list}
 use Rattle.std.specs.Prelude.{Option, Some, None, slice_get}
 
 module _ {A : Type 0} (P : A → Type 0) where
-  -- What holds of all items of two lists in a row holds of those of each, and the other way round.
+  -- What holds of all items of two lists in a row holds of all items of each, and the other way round.
   pub all_front : (xs ys : List A) → AllByRecursion P (xs ++ ys) → AllByRecursion P xs
   all_front [] ys h = tt
   all_front (x ∷ xs) ys h = (h.0, all_front xs ys h.1)

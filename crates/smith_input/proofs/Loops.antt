@@ -10,7 +10,7 @@ use Rattle.smith_input.specs.Reading.{More, IsTail}
 use Rattle.smith_input.proofs.Reading.{tail_trans, more_tail, more_unique, more_full, more_within, more_past, more_one, more_zero, more_first}
 
 module _ {S A : Type 0} {Ends : S → List ℕ → List ℕ → S → Type 0} {Item : S → List ℕ → A → List ℕ → S → Type 0} {min max : ℕ} where
-  -- What a loop leaves is a tail, where its items and its own end leave tails.
+  -- What a loop leaves is a tail, if its items and its own end leave tails.
   pub loop_tail : ((s : S) (b r : List ℕ) (t : S) → Ends s b r t → IsTail r b)
       → ((s : S) (b : List ℕ) (x : A) (r : List ℕ) (t : S) → Item s b x r t → IsTail r b)
       → (done : ℕ) (s : S) (b : List ℕ) (xs : List A) (rest : List ℕ) (t : S) → Loop Ends Item min max done s b xs rest t → IsTail rest b
@@ -42,7 +42,7 @@ module _ {S A : Type 0} {Ends : S → List ℕ → List ℕ → S → Type 0} {I
   loop_few done s b xs rest u h (an_item {t = t} {after = after} {xs = ys} m i l) =
       let lt : done < max = more_within m in omega (arith, loop_few (done + 1) t after ys rest u (omega (arith, lt)) l)
 
-  -- The bytes and the state decide a loop, where they decide its items and its own end, and which of both it is.
+  -- The bytes and the state decide a loop, if they decide its items and its own end, and which of both it is.
   pub loop_same : ((s : S) (b r q : List ℕ) (t u : S) → Ends s b r t → Ends s b q u → (r ≡ q) × (t ≡ u))
       → ((s : S) (b : List ℕ) (x : A) (r q : List ℕ) (t u : S) → Ends s b r t → Item s b x q u → ⊥)
       → ((s : S) (b : List ℕ) (x y : A) (r q : List ℕ) (t u : S) → Item s b x r t → Item s b y q u → (x ≡ y) × (r ≡ q) × (t ≡ u))
@@ -100,7 +100,7 @@ pub along_all : {S A : Type 0} (P : A → Type 0) (next : S → A → S) (s : S)
 along_all P next s [] all = tt
 along_all P next s (x ∷ xs) all = (all.0, along_all P next (next s x) xs all.1)
 
--- A script of a loop is read as its items, where each item's script is read as that item in the state before it.
+-- A script of a loop is read as its items, if each item's script is read as that item in the state before it.
 pub loop_read : {S A : Type 0} {Ends : S → List ℕ → List ℕ → S → Type 0} {Item : S → List ℕ → A → List ℕ → S → Type 0} {min max : ℕ} (script : S → A → List ℕ)
     (next : S → A → S) (P : S → A → Type 0)
     → ((s : S) (x : A) (rest : List ℕ) → P s x → Item s (script s x ++ rest) x rest (next s x))
@@ -128,18 +128,18 @@ module _ {S A : Type 0} (Ends : S → List ℕ → List ℕ → S → Type 0) (I
   pub begins : (so_far : List A) → so_far ≡ [] → Onward so_far 0 first start
   begins so_far none = λ xs rest t l. subst (λ ys. Loop Ends Item min max 0 first start (ys ++ xs) rest t) (sym none) l
 
-  -- where the answer is false
+  -- if the answer is false
   pub stops : (so_far : List A) (done : ℕ) (s : S) (b rest : List ℕ) (answer : Bool) → answer ≡ false → More done min max b answer rest → Onward so_far done s b
       → Loop Ends Item min max 0 first start so_far rest s
   stops so_far done s b rest answer e m onward =
       subst (λ xs. Loop Ends Item min max 0 first start xs rest s) (append-nil so_far)
       (onward [] rest s (no_more (subst (λ a. More done min max b a rest) e m) refl))
 
-  -- where all turns are made
+  -- if all turns are made
   pub ends_full : (so_far : List A) (done : ℕ) (s : S) (b : List ℕ) → max ≤ done → Onward so_far done s b → Loop Ends Item min max 0 first start so_far b s
   ends_full so_far done s b full onward = stops so_far done s b b false refl (more_full b full) onward
 
-  -- where the loop ends by itself
+  -- if the loop ends by itself
   pub ends_early : (so_far : List A) (done : ℕ) (s t : S) (b mid rest : List ℕ) (answer : Bool) → answer ≡ true → More done min max b answer mid
       → Ends s mid rest t → Onward so_far done s b → Loop Ends Item min max 0 first start so_far rest t
   ends_early so_far done s t b mid rest answer e m end onward =

@@ -39,7 +39,7 @@ times_few : (text ds : List ℕ) → 0 < length ds → (n : ℕ) → n ≤ lengt
 times_few text ds some zero = omega arith
 times_few text ds some (suc n) = omega (arith, some, times_few text ds some n, length-append (appended text ds n) ds)
 
--- The first text that can be read: a nearer one has all its stages among those of one further off.
+-- The first text that can be read: a nearer one has all its stages among the stages of one further off.
 module _ (can_read : List ℕ → Bool) where
   -- it is found after no more digits than any other
   record Found (text ds : List ℕ) (fuel times : ℕ) : Type 0 where

@@ -51,7 +51,7 @@ has_code false c (inl (inl l)) = letter_code false c l
 has_code false c (inl (inr d)) = digit_code c d
 has_code false c (inr e) = subst (λ k. (code k < 37) × (character false (code k) ≡ k)) (sym e) (omega arith, refl)
 
--- that many choices produce the whole name: no more characters are left, or an `a` where a word must begin
+-- that many choices produce the whole name: no more characters are left, or an `a` if a word must begin
 abbrev Suffices : ℕ → Bool → List ℕ → Type 0
 Suffices zero begins cs = cs ≡ characters begins []
 Suffices (suc n) begins [] = Unit {0}

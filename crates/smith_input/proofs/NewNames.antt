@@ -1,4 +1,4 @@
--- Names that are new among those that were read before them.
+-- Names that are new among the names read before them.
 use Rattle.std.proofs.Common.{◌≡◌, ℕ, ◌^◌, ◌<◌, ◌≤◌, ◌||◌, Bool, true, false, List, [], ◌∷◌, ◌++◌, length, refl, sym, ap, ◌∙◌, subst, arith, length-append}
 use Rattle.std.proofs.Common.{⊎_elim, bytes_eq}
 use Rattle.std.specs.declared.string.String.{String}
@@ -32,7 +32,7 @@ holds_more {names = names} {name = name} h g = record {
   size = omega (arith, g.size, h.size, length-append names (name ∷ []));
 }
 
--- the names that there are decide what a text is made
+-- the existing names decide what a text becomes
 
 earlier : (has : List ℕ → Bool) (size : ℕ) (text a b : List ℕ) (u : IsMadeUnique has size text a) (v : IsMadeUnique has size text b) → u.times < v.times → ⊥
 earlier has size text a b u v l =

@@ -1,4 +1,4 @@
--- Bytes and texts that are read: what is left, that they are determined, and that spelled ones are read.
+-- Bytes and texts that are read: the rest, that they are determined, and that spelled ones are read.
 use Rattle.std.proofs.Common.{◌≡◌, ℕ, ◌+◌, ◌-◌, min, ◌<◌, ◌≤◌, ◌^◌, true, false, List, [], ◌∷◌, ◌++◌, length, take, drop, slice_index, refl, sym, ap, subst}
 use Rattle.std.proofs.Common.{◌∙◌, arith, ⊎_elim}
 use Rattle.std.proofs.lemmas.Bool.{cases_lt}
@@ -38,7 +38,7 @@ bytes_read (x ∷ xs) rest = follows (flips_one (x ∷ script_bytes xs ++ rest))
 pub text_tail : {max : ℕ} {bytes text rest : List ℕ} → ReadsText max bytes text rest → IsTail rest bytes
 text_tail {text = text} r = tail_trans (length text, r.left) (reads_tail r.counted)
 
--- where all is UTF-8, all is the longest prefix
+-- if all is UTF-8, all is the longest prefix
 pub longest_all : (bytes : List ℕ) → IsUtf8 bytes → IsLongestText bytes bytes
 longest_all bytes u = record { utf8 = u; front = sym (take_all (length bytes) bytes (omega arith)); longest = λ n h k. absurd (omega arith) }
 
@@ -47,7 +47,7 @@ longest_front bytes text n e v =
     let len : length text ≡ n = omega (arith, ap length e, length-take n bytes, v.short) in
     record { utf8 = subst IsUtf8 (sym e) v.front; front = e ∙ ap (λ k. take k bytes) (sym len); longest = λ m h _. v.longest m (omega arith) }
 
--- a text by its length, cut to what is left
+-- a text by its length, cut to the remaining bytes
 pub text_cut : {max count k len : ℕ} {bytes after left text got rest : List ℕ} → count ≡ 0 + k → Reads (max - 0 + 1) bytes k after → left ≡ after
     → len ≡ min count (length left) → IsLongestText (take len left) text → got ≡ text → rest ≡ drop (length text) after → ReadsText max bytes got rest
 text_cut {max} {count} {k} {len} {bytes} {after} {left} {text} {got} {rest} c r l m t g d =

@@ -1,4 +1,4 @@
--- What is left of a list from a place on, and what it has of a name.
+-- The rest of a list from a place on, and what it has of a name.
 use Rattle.std.proofs.Common.{◌≡◌, ℕ, suc, ◌+◌, ◌<◌, ◌≤◌, ◌||◌, true, false, List, [], ◌∷◌, length, map, ap, sym, ◌∙◌, get_or, add-one, arith, bytes_eq}
 use Rattle.std.proofs.Math.ListN.{drop}
 use Rattle.std.proofs.Math.Seq.{drop-cons}

@@ -94,7 +94,7 @@ small_loop script next min max done s [] all = small_end done max
 small_loop script next min max done s (x ∷ xs) all =
     small_join (small_join (small_asked min done) all.0) (small_loop script next min max (done + 1) (next s x) xs all.1)
 
--- where the state does not matter
+-- if the state does not matter
 pub small_turns : {S A : Type 0} (script : S → A → List ℕ) (next : S → A → S) (min max done : ℕ) (s : S) (xs : List A)
     → AllByRecursion (λ x. (t : S) → Small (script t x)) xs → Small (script_loop script next min max done s xs)
 small_turns script next min max done s [] all = small_end done max

@@ -66,7 +66,7 @@ tabulated f at (suc n) (suc k) h = tabulated f (suc at) n k (omega arith) ∙ ap
 abbrev pub reciprocal : ℕ → ℕ
 reciprocal n = 65536 / n + 1
 
--- A byte is divided by a number of at most 256 where it is multiplied by the reciprocal of that.
+-- Multiplying a byte by the reciprocal of a number of at most 256 divides it by that number.
 pub quotient_is : (n byte : ℕ) → 1 < n → n ≤ 256 → byte < 256 → byte * reciprocal n / 65536 ≡ byte / n
 quotient_is n byte some most small =
     let k = byte / n in

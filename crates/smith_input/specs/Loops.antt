@@ -2,8 +2,8 @@
 use Rattle.std.specs.Prelude.{◌≡◌, ℕ, ◌+◌, true, false, List, [], ◌∷◌}
 use Rattle.smith_input.specs.Reading.{More}
 
--- A loop that asks before each turn, `done` turns being made before. Item s bytes x rest t: in the state s the bytes produce
--- the item x, and leave rest and the state t. Ends s bytes rest t: the loop ends by itself where the answer is true.
+-- A loop that asks before each turn, after `done` turns. Item s bytes x rest t: in the state s the bytes produce the
+-- item x, and leave rest and the state t. Ends s bytes rest t: the loop ends by itself if the answer is true.
 pub data Loop {S A : Type 0} (Ends : S → List ℕ → List ℕ → S → Type 0) (Item : S → List ℕ → A → List ℕ → S → Type 0) (min max : ℕ) : ℕ → S → List ℕ → List A
     → List ℕ → S → Type 0 where
   no_more : {done : ℕ} {s t : S} {bytes rest : List ℕ} → More done min max bytes false rest → t ≡ s → Loop Ends Item min max done s bytes [] rest t

@@ -14,7 +14,7 @@ last_word_is_a name = ends_with nat_eq (codes "-" ++ name) (codes "-a")
 abbrev pub is_within : ℕ → List ℕ → Bool
 is_within max name = nat_le (length name) (if last_word_is_a name then max + 1 else max)
 
--- Can a text be read at a length of at most max, being UTF-8?
+-- Can a text, which is UTF-8, be read at a length of at most max?
 abbrev pub is_short : ℕ → List ℕ → Bool
 is_short max text = nat_le (length text) max
 
@@ -26,7 +26,7 @@ IsMadeOf can_read names name = (text : List ℕ) × (can_read text ≡ true) × 
 abbrev pub IsReachable : ℕ → List (List ℕ) → List ℕ → Type 0
 IsReachable max names name = IsMadeOf (is_within max) names name
 
--- Each of these names is so after the names there and those of them before it.
+-- Each of these names is reachable after the names there and the ones before it.
 abbrev pub AreReachable : ℕ → List (List ℕ) → List (List ℕ) → Type 0
 AreReachable max before [] = Unit {0}
 AreReachable max before (n ∷ ns) = IsReachable max before n × AreReachable max (before ++ n ∷ []) ns
@@ -35,17 +35,17 @@ AreReachable max before (n ∷ ns) = IsReachable max before n × AreReachable ma
 abbrev pub IsReachableText : ℕ → List (List ℕ) → List ℕ → Type 0
 IsReachableText max names name = IsMadeOf (is_short max) names name
 
--- the first that can be read: the name, or what is left of it where that many bytes at the end are left out, again and again
+-- the first that can be read: the name, or the name without that many bytes at its end, again and again
 abbrev pub first_readable : (List ℕ → Bool) → ℕ → ℕ → List ℕ → List ℕ
 first_readable can_read digits zero name = name
 first_readable can_read digits (suc fuel) name =
     if can_read name then name else first_readable can_read digits fuel (take (length name - digits) name)
 
--- the longest text that can be read and becomes the name, that many names being there
+-- the longest text that can be read and becomes the name, if there are that many names
 abbrev pub stem_of : (List ℕ → Bool) → ℕ → List ℕ → List ℕ
 stem_of can_read count name = first_readable can_read (length (decimal count)) (length name) name
 
--- the script of a name in kebab case that can be read, max being below 2 ^ 64: at most max characters are chosen
+-- the script of a name in kebab case that can be read, with max below 2 ^ 64: at most max characters are chosen
 abbrev pub script_within : ℕ → List ℕ → List ℕ
 script_within max name = script_name max (take max name)
 

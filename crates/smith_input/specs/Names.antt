@@ -1,4 +1,4 @@
--- Names in kebab case, as they are read, and made unique among those that there are.
+-- Names in kebab case, as they are read, and made unique among the existing names.
 use Rattle.std.specs.Prelude.{◌≡◌, ℕ, ◌+◌, ◌-◌, ◌||◌, Bool, true, nat_eq, nat_lt, if◌then◌else◌, List, [], ◌∷◌, ◌++◌, length, bytes_eq}
 use Rattle.std.specs.Prelude.{codes}
 use Rattle.std.specs.BTreeSet.{BTreeSet, contains_text, btree_set_len}
@@ -19,13 +19,13 @@ character begins k =
     if nat_lt k 26 then 97 + k else (if nat_lt k 36 then (if begins then 97 + (k - 26) else 48 + (k - 26)) else (if begins then 97 else 45))
 
 -- The characters of the choices, where a word must begin or goes on at the first. A word must begin after each hyphen;
--- where one must begin after the last choice, an a is there.
+-- if one must begin after the last choice, an a is there.
 abbrev pub characters : Bool → List ℕ → List ℕ
 characters begins [] = if begins then 97 ∷ [] else []
 characters begins (k ∷ ks) = character begins k ∷ characters (nat_eq (character begins k) 45) ks
 
 -- A name in kebab case: a length of at most max is read, and a choice for each place. A word must begin at the first.
--- The length is not cut to the bytes that are left.
+-- The length is not cut to the remaining bytes.
 pub record ReadsKebab (max : ℕ) (bytes name rest : List ℕ) : Type 0 where
   pub after_count : List ℕ
   pub choices : List ℕ
@@ -46,7 +46,7 @@ pub record GainsName {A : Type 0} (old new : BTreeSet (String A)) (name : List �
   pub has : (q : List ℕ) → contains_text new q ≡ (bytes_eq name q || contains_text old q)
   pub size : btree_set_len new ≡ btree_set_len old + 1
 
--- A URL: the host, and a name in kebab case that is read, made unique among the names of a set, and gained by that.
+-- A URL: the host, and a name in kebab case that is read, made unique among the names of a set, and gained by the set.
 abbrev pub ReadsUrl : {A : Type 0} → ℕ → BTreeSet (String A) → BTreeSet (String A) → List ℕ → List ℕ → List ℕ → Type 0
 ReadsUrl max old new bytes url rest =
     (text name : List ℕ) × (url ≡ codes "https://example.com/" ++ name) × ReadsKebab max bytes text rest × IsUniqueIn old text name × Kebab name
@@ -57,7 +57,7 @@ pub record Holds {A : Type 0} (set : BTreeSet (String A)) (names : List (List �
   pub has : (q : List ℕ) → contains_text set q ≡ is_among names q
   pub size : btree_set_len set ≡ length names
 
--- A name in kebab case that is read, and made unique among those that were read before it.
+-- A name in kebab case that is read, and made unique among the names read before it.
 pub record ReadsNew (max : ℕ) (names : List (List ℕ)) (bytes name rest : List ℕ) : Type 0 where
   pub text : List ℕ
   pub reads : ReadsKebab max bytes text rest

@@ -1,4 +1,4 @@
--- Names that are made different from those that there are.
+-- Names that are made different from the existing names.
 use Rattle.std.specs.Prelude.{◌≡◌, ℕ, zero, suc, ◌<◌, Bool, true, false, bytes_eq, List, ◌++◌, length}
 use Rattle.std.specs.Fmt.{decimal}
 use Rattle.std.specs.List.{list_any}
@@ -8,8 +8,8 @@ abbrev pub appended : List ℕ → List ℕ → ℕ → List ℕ
 appended text more zero = text
 appended text more (suc n) = appended text more n ++ more
 
--- A text that was read is made a name that is none of the names that there are: their number is appended in decimal
--- digits, again and again while what is there so far is one of them.
+-- A text that was read is made a name that is none of the existing names: their number is appended in decimal digits,
+-- again and again while the text so far is one of them.
 pub record IsMadeUnique (has : List ℕ → Bool) (size : ℕ) (text name : List ℕ) : Type 0 where
   pub times : ℕ
   pub name_is : name ≡ appended text (decimal size) times

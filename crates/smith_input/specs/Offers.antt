@@ -1,7 +1,7 @@
 -- What is offered: items, each with its condition.
 use Rattle.std.specs.Prelude.{Bool, List, [], ◌∷◌, if◌then◌else◌}
 
--- these, where the condition holds
+-- these, if the condition holds
 abbrev pub offered : {A : Type 0} → Bool → List A → List A
 offered condition xs = if condition then xs else []
 

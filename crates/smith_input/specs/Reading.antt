@@ -37,7 +37,7 @@ pub record More (done min max : ℕ) (bytes : List ℕ) (answer : Bool) (rest : 
 abbrev pub IsTail : List ℕ → List ℕ → Type 0
 IsTail rest bytes = (n : ℕ) × (rest ≡ drop n bytes)
 
--- The bytes alone decide what is read, and what is left.
+-- The bytes alone decide what is read, and the rest.
 abbrev pub IsDecided : {A : Type 0} → (List ℕ → A → List ℕ → Type 0) → Type 0
 IsDecided {A} Read = (bytes : List ℕ) (x y : A) (left rest : List ℕ) → Read bytes x left → Read bytes y rest → (x ≡ y) × (left ≡ rest)
 
@@ -45,6 +45,6 @@ IsDecided {A} Read = (bytes : List ℕ) (x y : A) (left rest : List ℕ) → Rea
 abbrev pub LeavesTail : {A : Type 0} → (List ℕ → A → List ℕ → Type 0) → Type 0
 LeavesTail {A} Read = (bytes : List ℕ) (x : A) (rest : List ℕ) → Read bytes x rest → IsTail rest bytes
 
--- This script, followed by any bytes, is read as x, and those bytes are left.
+-- This script, followed by any bytes, is read as x and leaves those bytes.
 abbrev pub IsReadAs : {A : Type 0} → (List ℕ → A → List ℕ → Type 0) → List ℕ → A → Type 0
 IsReadAs Read script x = (rest : List ℕ) → Read (script ++ rest) x rest

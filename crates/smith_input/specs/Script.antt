@@ -6,17 +6,17 @@ use Rattle.std.specs.Prelude.{ℕ, zero, suc, ◌+◌, ◌-◌, ◌/◌, ◌^◌
 abbrev pub AreBytes : List ℕ → Type 0
 AreBytes bs = AllByRecursion (λ b. b < 256) bs
 
--- k in w bytes, most significant first, k being below 256 ^ w
+-- k in w bytes, most significant first, with k below 256 ^ w
 abbrev pub big_endian : ℕ → ℕ → List ℕ
 big_endian zero k = []
 big_endian (suc w) k = (k / 256 ^ w) ∷ big_endian w (k % 256 ^ w)
 
--- how many bytes distinguish n things, n being at most 256 ^ fuel
+-- how many bytes distinguish n things, with n at most 256 ^ fuel
 abbrev pub width_within : ℕ → ℕ → ℕ
 width_within zero n = 0
 width_within (suc fuel) n = if nat_le n 1 then 0 else suc (width_within fuel ((n + 255) / 256))
 
--- The bytes of a choice of k among n, n being at most 2 ^ 64: the fewest that distinguish n things.
+-- The bytes of a choice of k among n, with n at most 2 ^ 64: the fewest that distinguish n things.
 unfoldable pub pick : ℕ → ℕ → List ℕ
 pick n k = big_endian (width_within 8 n) k
 
@@ -29,11 +29,11 @@ rank_of eq (y ∷ ys) x = if eq y x then zero else suc (rank_of eq ys x)
 abbrev pub script_among : {A : Type 0} → (A → A → Bool) → List A → A → List ℕ
 script_among eq xs x = pick (length xs) (rank_of eq xs x)
 
--- the end of a loop that has made that many turns: a byte where it might make another
+-- the end of a loop that has made that many turns: a byte if it might make another
 abbrev pub script_end : ℕ → ℕ → List ℕ
 script_end done max = if nat_lt done max then 0 ∷ [] else []
 
--- a byte before each turn of a loop, but before those that its minimum forces
+-- a byte before each turn of a loop, except the turns that its minimum forces
 abbrev pub script_more : ℕ → ℕ → List ℕ
 script_more min done = if nat_lt done min then [] else 1 ∷ []
 
@@ -48,7 +48,7 @@ abbrev pub script_bytes : List ℕ → List ℕ
 script_bytes [] = 0 ∷ []
 script_bytes (x ∷ xs) = 1 ∷ x ∷ script_bytes xs
 
--- the text after its length, max being below 2 ^ 64
+-- the text after its length, with max below 2 ^ 64
 abbrev pub script_text : ℕ → List ℕ → List ℕ
 script_text max text = pick (max + 1) (length text) ++ text
 
@@ -62,6 +62,6 @@ abbrev pub script_characters : List ℕ → List ℕ
 script_characters [] = []
 script_characters (c ∷ cs) = pick 37 (code c) ++ script_characters cs
 
--- a name's length and the choices of its characters, max being below 2 ^ 64
+-- a name's length and the choices of its characters, with max below 2 ^ 64
 abbrev pub script_name : ℕ → List ℕ → List ℕ
 script_name max name = pick (max + 1) (length name) ++ script_characters name

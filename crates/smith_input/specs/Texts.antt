@@ -15,14 +15,14 @@ pub data ReadsBytes : List ℕ → List ℕ → List ℕ → Type 0 where
   follows : {bytes mid low rest : List ℕ} {value : ℕ} {values : List ℕ} → Flips bytes true mid → ReadsByte mid value low → ReadsBytes low values rest
       → ReadsBytes bytes (value ∷ values) rest
 
--- The text is a prefix of the bytes that is UTF-8, and no longer prefix is.
+-- The text is the longest prefix of the bytes that is UTF-8.
 pub record IsLongestText (bytes text : List ℕ) : Type 0 where
   pub utf8 : IsUtf8 text
   pub front : text ≡ take (length text) bytes
   pub longest : (n : ℕ) → length text < n → n ≤ length bytes → ¬ (IsUtf8 (take n bytes))
 
--- A text of at most max bytes: a length is read, and the longest text that begins that many next bytes, or all that are
--- left where they are fewer, is taken. The others stay unread.
+-- A text of at most max bytes: a length is read, and the longest text that begins that many next bytes, or all the
+-- remaining bytes if they are fewer, is taken. The others stay unread.
 pub record ReadsText (max : ℕ) (bytes text rest : List ℕ) : Type 0 where
   pub count : ℕ
   pub after_count : List ℕ

@@ -20,7 +20,7 @@ pub enum Error {
     /// An allocation failed.
     #[error("out of memory")]
     OutOfMemory,
-    /// The parts that a module was to be made of disagree.
+    /// The parts to make a module of disagree.
     #[error("the parts of a module disagree")]
     PartsDisagree,
 }

@@ -57,27 +57,27 @@ pub fn name_is_read()
         → IsReadAs (ReadsKebab max) (script_name max name) name }
 {}
 
-/// A name that none of the names is equal to stays as it was read.
+/// A name that equals none of the names stays as it was read.
 pub fn new_name_is_kept()
     ensures { (has : List ℕ → Bool) (size : ℕ) (text : List ℕ) → has text ≡ false → IsMadeUnique has size text text }
 {}
 
-/// The bytes alone decide which bytes of any length are read, and what is left.
+/// The bytes alone decide which bytes of any length are read, and the rest.
 pub fn bytes_are_decided()
     ensures { IsDecided ReadsBytes }
 {}
 
-/// The bytes alone decide which text is read, and what is left.
+/// The bytes alone decide which text is read, and the rest.
 pub fn texts_are_decided()
     ensures { (max : ℕ) → IsDecided (ReadsText max) }
 {}
 
-/// The bytes alone decide which name is read, and what is left.
+/// The bytes alone decide which name is read, and the rest.
 pub fn names_are_decided()
     ensures { (max : ℕ) → IsDecided (ReadsKebab max) }
 {}
 
-/// The names that there are decide what a text that was read is made.
+/// The existing names decide what a text that was read becomes.
 pub fn unique_names_are_decided()
     ensures { (has : List ℕ → Bool) (size : ℕ) (text a b : List ℕ) → IsMadeUnique has size text a
         → IsMadeUnique has size text b → a ≡ b }
@@ -122,7 +122,7 @@ pub fn kebab_names_are_exact()
         ↔ (Kebab name × (is_within max name ≡ true)) }
 {}
 
-/// Where some name that can be read becomes a new name, the new name's script is read as it.
+/// If some name that can be read becomes a new name, the new name's script is read as it.
 pub fn new_names_are_read()
     ensures { (max : ℕ) (names : List (List ℕ)) (name : List ℕ) → max < 2 ^ 64 → Kebab name
         → is_among names name ≡ false → IsReachable max names name
@@ -136,7 +136,7 @@ pub fn new_names_are_exact()
         ↔ (Kebab name × (is_among names name ≡ false) × IsReachable max names name) }
 {}
 
-/// Where some text that can be read becomes a new text, the new text's script is read as it.
+/// If some text that can be read becomes a new text, the new text's script is read as it.
 pub fn new_texts_are_read()
     ensures { (max : ℕ) (names : List (List ℕ)) (name : List ℕ) → max < 2 ^ 64 → IsUtf8 name
         → is_among names name ≡ false → IsReachableText max names name
@@ -158,7 +158,7 @@ pub fn new_name_scripts_are_bytes()
         → AreBytes name → IsReachableText max names name → AreBytes (script_new_text max (length names) name) }
 {}
 
-/// The script of a name of at most `max` bytes spells the name as it is, regardless of the names there.
+/// The script of a name of at most `max` bytes spells the name as it is, whatever names there are.
 pub fn short_names_stay()
     ensures names { (max count : ℕ) (name : List ℕ) → length name ≤ max
         → script_new max count name ≡ script_name max name }

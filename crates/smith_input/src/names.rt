@@ -21,8 +21,8 @@ pub const MAX_NAME_LEN: usize = 100;
 
 const HOST: &str = "https://example.com/";
 
-// The character of each byte where a word begins, and where it goes on: that of the byte's remainder by 37. Tables take
-// no division, and no branch, which no processor could foresee here.
+// The character of each byte where a word begins, and where it goes on: the character of the byte's remainder by 37.
+// Tables take no division, and no branch, which no processor could foresee here.
 const BEGINNINGS: &[u8; 256] =
     b"abcdefghijklmnopqrstuvwxyzabcdefghijaabcdefghijklmnopqrstuvwxyzabcdefghija\
     abcdefghijklmnopqrstuvwxyzabcdefghijaabcdefghijklmnopqrstuvwxyzabcdefghija\
@@ -67,7 +67,7 @@ fn kebab_string(alloc: Global, max: usize, u: &mut Unstructured) -> Result<Strin
     Ok(unsafe { String::from_utf8_unchecked(name) })
 }
 
-/// Names that there are. Public only for the crates above.
+/// The existing names. Public only for the crates above.
 pub trait TakenNames {
     ghost texts: { Self → List (List ℕ) };
 
@@ -217,8 +217,8 @@ pub fn unique_string(
 }
 
 /// A name in kebab case that was not in the set before, and is in it afterwards: one of at most `max` characters is
-/// read, with one more `a` at its end where a word is missing there, and while the set has it, the decimal digits of
-/// the set's size are appended. So it may be longer than `max`. The only error is `OutOfMemory`, and the set is then as
+/// read, with one more `a` at its end if a word is missing there, and while the set has it, the decimal digits of the
+/// set's size are appended. So it may be longer than `max`. The only error is `OutOfMemory`, and the set is then as
 /// before.
 #[inline(always)]
 pub fn unique_kebab_string(

@@ -19,7 +19,7 @@ fn count_offers<T: Copy>(offers: &[(bool, T)]) -> usize
     count
 }
 
-// The item at that place among those that are offered, or none past the last.
+// The item at that place among the offered ones, or none past the last.
 fn offer_at<T: Copy>(offers: &[(bool, T)], place: usize) -> Option<T>
     ensures { result ≡ slice_get (offers_of offers.now) place }
 {
@@ -35,8 +35,8 @@ fn offer_at<T: Copy>(offers: &[(bool, T)], place: usize) -> Option<T>
     None
 }
 
-/// One of the items whose condition holds, by a choice among their places; none exactly where none does, and then
-/// nothing is read. No memory is taken.
+/// One of the items whose condition holds, by a choice among their places; none exactly if none does, and then nothing
+/// is read. No memory is taken.
 pub fn choose_offered<T: Copy>(u: &mut Unstructured, offers: &[(bool, T)]) -> Option<T>
     ensures { MatchOption result
         ((offers_of offers.now ≡ []) × (u.new ≡ u.old))

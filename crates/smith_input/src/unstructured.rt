@@ -7,8 +7,8 @@ ghost use Rattle.smith_input.specs.Reading.{IsWidth, Reads, Flips, More, spelled
 
 use std::marker::Model;
 
-/// A reader of bytes from the front. Contracts see the bytes that are left. A byte past the end counts as zero, and
-/// nothing is taken for it. No call fails or allocates.
+/// A reader of bytes from the front. Contracts see the remaining bytes. A byte past the end counts as zero, and nothing
+/// is taken for it. No call fails or allocates.
 #[derive(Drop)]
 pub struct Unstructured<'a> {
     bytes: &'a [u8],
@@ -82,7 +82,7 @@ impl<'a> Unstructured<'a> {
         Unstructured { bytes }
     }
 
-    /// The bytes left, borrowed for the life of the slice.
+    /// The remaining bytes, borrowed for the life of the slice.
     pub fn left(&self) -> &'a [u8]
         ensures { result.now ≡ self.now }
     {
@@ -108,7 +108,7 @@ impl<'a> Unstructured<'a> {
         *first
     }
 
-    // IsTooLarge over the next bytes.
+    // Skips the next bytes.
     pub(crate) fn skip(&mut self, count: usize)
         requires { count ≤ length self.old }
         ensures { self.new ≡ drop count self.old }
@@ -159,7 +159,7 @@ impl<'a> Unstructured<'a> {
     }
 
     /// A choice among `n`, from 0 to `n - 1`: the fewest bytes that tell `n` things apart are read, the most
-    /// significant first, and their number is taken modulo `n`. No byte is read where `n` is 1.
+    /// significant first, and their number is taken modulo `n`. No byte is read if `n` is 1.
     pub fn choose_index(&mut self, n: usize) -> usize
         requires { 0 < n }
         ensures { Reads n self.old result self.new }

@@ -32,7 +32,7 @@ pub unknown_in-entries : (es : List (String Global × Value))
 unknown_in-entries [] = refl
 unknown_in-entries (e ∷ es) = unknown_step (is_name (string_bytes e.0)) e.0 _ _ (unknown_in-entries es)
 
--- where nothing is found
+-- if nothing is found
 nothing_found : {T : Type 0} (b : Bool) (x : T) (rest : Option T) → cond b (Some x) rest ≡ None → (b ≡ false) × (rest ≡ None)
 nothing_found true x rest e = absurd (cc)
 nothing_found false x rest e = (refl, e)
@@ -43,7 +43,7 @@ none_of p (x ∷ xs) e =
     let one = nothing_found (p x) x (find p xs) e in
     (one.0, none_of p xs one.1)
 
--- Where nothing is wrong at any limit's name, nothing is at this one's.
+-- If nothing is wrong at any limit's name, nothing is wrong at this one's.
 pub right_at : (members : Members) (key : Key) → first_wrong members ≡ None → is_wrong members key ≡ false
 right_at members MinTypes e = assumption (none_of (is_wrong members) all_keys e)
 right_at members key e = assumption (none_of (is_wrong members) all_keys e)
@@ -91,7 +91,7 @@ refused r e P h p =
     let s = err_from_is_err_and r h in
     subst (λ x. IfErr x P) (sym s.1) (subst P (sym s.2) p)
 
--- What is set is at most what it may be, where the default is.
+-- What is set is at most what it may be, if the default is.
 abbrev IsAtMost : ℕ → Data → Type 0
 IsAtMost most (integer (pos n)) = n ≤ most
 IsAtMost most _ = ⊤

@@ -88,8 +88,8 @@ is_switch _ = false
 abbrev pub is_name : List ℕ → Bool
 is_name text = list_any (λ key. pointwise eqb (name_of key) text) all_keys
 
--- the greatest number that it may be, of itself: what is counted in 32 bits of the written bytes, how deep components nest, and otherwise
--- what 64 bits hold
+-- the greatest number that it may be by itself: what is counted in 32 bits of the written bytes, how deep components
+-- nest, and otherwise what 64 bits hold
 abbrev pub most_of : Key → ℕ
 most_of MaxTypes = 4294967295
 most_of MaxImports = 4294967295

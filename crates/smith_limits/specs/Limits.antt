@@ -4,7 +4,7 @@ use Rattle.std.specs.Prelude.{List, [], ◌∷◌, Option, Some, None, unwrap_or
 use Rattle.std.specs.List.{find}
 use Rattle.std.specs.Option.{is_some}
 use Rattle.toml.specs.Data.{Data, as_bool, as_integer, Members, no_members, member, get_member}
-use Rattle.smith_format.specs.Consistency.{max_u32}
+use Rattle.smith_format.specs.Consistency.{IsConsistent, IsDefault, max_u32}
 use Rattle.smith_format.specs.declared.config.Config.{Config}
 use Rattle.smith_limits.specs.Keys.{all_keys, is_name, is_switch, most_of, name_of, value_of}
 use Rattle.smith_limits.specs.declared.keys.Key.{Key}
@@ -108,7 +108,7 @@ is_apart config ValidComponents = config.must_validate && nat_lt 1000 config.max
 is_apart config ValidInstances = config.must_validate && nat_lt 1000 config.max_instances
 is_apart config ValidMemories = config.must_validate && nat_lt 100 config.max_memories
 
--- what may not fit where components must validate
+-- what may not fit if components must validate
 abbrev pub valid_pairs : List Pair
 valid_pairs = ValidTypes ∷ ValidExports ∷ ValidModules ∷ ValidComponents ∷ ValidInstances ∷ ValidMemories ∷ []
 
@@ -131,7 +131,14 @@ is_wrong members key = if is_switch key then is_no_switch (value_at members key)
 abbrev pub first_wrong : Members → Option Key
 first_wrong members = find (is_wrong members) all_keys
 
--- Why a table is refused. Where two limits do not fit together, each by itself is fine.
+-- Each key of the table is a limit, with a value that it may have. The table sets these limits, which fit together.
+pub record SetsLimits (members : Members) (config : Config) : Type 0 where
+  pub known : unknown_in members ≡ None
+  pub right : first_wrong members ≡ None
+  pub sets : (default : Config) → IsDefault default → Sets members default config
+  pub fits : IsConsistent config
+
+-- Why a table is refused. If two limits do not fit together, each by itself is fine.
 abbrev pub IsRefused : Members → Config → Fault → Type 0
 IsRefused members default (Unknown key) = unknown_in members ≡ Some (string_bytes key)
 IsRefused members default (At key wrong) = (first_wrong members ≡ Some key) × IsWrong members key wrong

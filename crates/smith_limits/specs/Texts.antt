@@ -3,20 +3,17 @@ use Rattle.std.specs.Prelude.{◌≡◌, ℕ, List, Some, None}
 use Rattle.toml.specs.Data.{Members}
 use Rattle.toml.specs.Errors.{IsBlank, IsWithin}
 use Rattle.toml.specs.Parse.{parse_document}
-use Rattle.smith_format.specs.Consistency.{IsConsistent, IsDefault}
+use Rattle.smith_format.specs.Consistency.{IsDefault}
 use Rattle.smith_format.specs.declared.config.Config.{Config}
-use Rattle.smith_limits.specs.Limits.{IsRefused, Sets, first_wrong, unknown_in}
+use Rattle.smith_limits.specs.Limits.{IsRefused, SetsLimits}
 use Rattle.smith_limits.specs.declared.text.TextFault.{TextFault}
 use Rattle.smith_limits.specs.declared.text.TextFault.TheVariants.{NotToml, Limits, OutOfMemory}
 
--- The text is a table of TOML whose every key is a limit, with a value that the limit may have. It sets these limits, which fit together.
+-- The text is a table of TOML that sets these limits.
 pub record SpellsLimits (text : List ℕ) (config : Config) : Type 0 where
   pub members : Members
   pub is : parse_document text ≡ Some members
-  pub known : unknown_in members ≡ None
-  pub right : first_wrong members ≡ None
-  pub sets : (default : Config) → IsDefault default → Sets members default config
-  pub fits : IsConsistent config
+  pub sets : SetsLimits members config
 
 -- Why a text spells no limits: it is not a table of TOML, with a place in the text, or its table sets none. Without memory nothing is known
 -- except that the text is more than white space and comments.

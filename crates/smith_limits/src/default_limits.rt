@@ -4,10 +4,10 @@
 pub const DEFAULT_LIMITS: &str = "\
 # The fewest types of a component. They can always be added.
 min_types = 0
-# The fewest imports of a component. Where they can not be added, it is refused with MinimumNotMet.
+# The fewest imports of a component. If they cannot be added, it is refused with MinimumNotMet.
 min_imports = 0
-# The fewest functions of a component: imported ones, lifts and lowers together. Where they can not be added, it is
-# refused with MinimumNotMet.
+# The fewest functions of a component: imported ones, lifts and lowers together. If they cannot be added, it is refused
+# with MinimumNotMet.
 min_funcs = 0
 # The fewest memories of a core module.
 min_memories = 0
@@ -25,7 +25,7 @@ max_globals = 100
 max_tables = 100
 # The most tags that a module type imports and exports.
 max_tags = 100
-# The most memories of a core module, and those that a module type imports and exports.
+# The most memories of a core module, and the most that a module type imports and exports.
 max_memories = 1
 # The most core modules of the whole tree, embedded and imported.
 max_modules = 10
@@ -35,7 +35,7 @@ max_components = 10
 max_instances = 10
 # How deep components nest, the root at 1. A limit of 0 counts as 1.
 max_nesting_depth = 10
-# The fuel of a type: its members and declarations at all depths are at most so many.
+# The fuel of a type: the most members and declarations that it has at all depths.
 max_type_size = 1000
 # Whether a core function may have several results.
 multi_value_enabled = true
@@ -52,7 +52,7 @@ bulk_memory_enabled = true
 # Whether a validator accepts each component: what it imports and exports is of types that it names, and effective sizes
 # and counts are below the bounds of wasmparser.
 must_validate = false
-# How many sections a component has at least when the input finishes it. Where no input is left, it is finished whatever
-# it has.
+# The fewest sections that a component has when the input finishes it. If no input is left, it is finished whatever it
+# has.
 finish_after = 0
 ";

@@ -142,7 +142,7 @@ impl Key {
         )
     }
 
-    /// The greatest number that it may be, of itself.
+    /// The greatest number that it may be by itself.
     pub fn most(self) -> usize
         ensures { result ≡ most_of self }
     {

@@ -9,7 +9,7 @@ ghost use Rattle.smith_format.specs.Consistency.{IsConsistent, IsDefault};
 ghost use Rattle.smith_limits.specs.Keys.{is_name};
 ghost use Rattle.smith_limits.specs.Limits.{first_apart, first_wrong, is_apart, lower_of};
 ghost use Rattle.smith_limits.specs.Limits.{unknown_in, upper_of, valid_pairs};
-ghost use Rattle.smith_limits.specs.Limits.{IsBounded, IsRefused, Sets};
+ghost use Rattle.smith_limits.specs.Limits.{IsBounded, IsRefused, Sets, SetsLimits};
 
 use crate::keys::{Key, Wrong, first_wrong, is_known, set_by, wrong_at};
 use smith_format::Config;
@@ -17,7 +17,7 @@ use std::alloc::{AllocError, Global};
 use std::fmt;
 use toml::Table;
 
-// What components may have that must validate: types, functions and exports together, modules, components and instances
+// What components that must validate may have: types, functions and exports together, modules, components and instances
 // each, and memories.
 const MOST_TYPES: usize = 500_000;
 
@@ -53,7 +53,7 @@ pub enum Pair {
 }
 
 impl Pair {
-    // The most that the first limit may be, if it is one of components that must validate.
+    // The most that the first limit may be, if it is a limit of components that must validate.
     fn most_valid(self) -> Option<usize> {
         match self {
             Pair::Types | Pair::Imports | Pair::Funcs | Pair::Exports => None,
@@ -172,7 +172,7 @@ fn check_values(table: &Table) -> Result<(), Fault>
     }
 }
 
-// The first limit that is greater than components may have that must validate, in the order of `Pair`.
+// The first limit that is greater than components that must validate may have, in the order of `Pair`.
 fn invalid(config: &Config) -> Option<Pair>
     requires { config.now.must_validate ≡ true }
     ensures { result ≡ find (is_apart config.now) valid_pairs }
@@ -224,11 +224,7 @@ pub fn apart(config: &Config) -> Option<Pair>
 
 /// The limits that a table sets. Each key sets the limit of its name, and what no key sets keeps its default.
 pub fn limits_of(alloc: Global, table: &Table) -> Result<Config, Fault>
-    ensures known { OnOk result (unknown_in (table_view table.now) ≡ None) }
-    ensures right { OnOk result (first_wrong (table_view table.now) ≡ None) }
-    ensures sets { IfOk result (λ c. (default : Config) → IsDefault default
-        → Sets (table_view table.now) default c) }
-    ensures fits { IfOk result IsConsistent }
+    ensures set { IfOk result (SetsLimits (table_view table.now)) }
     ensures refused { IfErr result (λ e. (default : Config) → IsDefault default
         → IsRefused (table_view table.now) default e) }
 {

@@ -13,8 +13,8 @@ use Rattle.smith_format.proofs.Piece.{joined, parts_are, right_nil, u_cases, u_f
 use Rattle.smith_syntax.specs.Grammar.{core_entry, entry, import_entry}
 use Rattle.smith_tree.specs.Grammar.{Spells, canon, component_text, export_entry, part, parts, preamble}
 use Rattle.smith_tree.specs.Tree.{Part, Tree, canons, component, core_module, core_types, custom, ends, exports, first, imports, types}
-use Rattle.smith_read_types.specs.Reading.{◌>>=◌, u_at}
-use Rattle.smith_read_types.proofs.Telling.{tells_u}
+use Rattle.smith_read.specs.Reading.{◌>>=◌, u_at}
+use Rattle.smith_read.proofs.Telling.{tells_u}
 use Rattle.smith_places.specs.Finding.{contents_in, entries_at, entries_before, first_of, front_in, section_at, sections_at}
 use Rattle.smith_places.proofs.Skipping.{framed_is, id_of, part_holds, part_sized}
 
@@ -37,7 +37,7 @@ spelled t b e =
     let i : b ≡ preamble ++ p.right = p.is ∙ ap (λ l. l ++ p.right) (sym (same_Some preamble p.left p.p_is)) in
     record { rest = p.right; is = p.q_is; found = ap sections_at i ∙ sections_found p.right; split = i }
 
--- ---- numbers take no fewer bytes where they are greater
+-- ---- numbers take no fewer bytes if they are greater
 
 longer : (k m n : ℕ) → n ≤ k → m ≤ n → length (unsigned m) ≤ length (unsigned n)
 longer zero m n h l = let e : m ≡ n = omega (arith, h, l) in omega (arith, ap (λ i. length (unsigned i)) e)
@@ -102,7 +102,7 @@ module _ {A : Type 0} (f : A → Piece) where
         read = tells_u.whole b (length xs, q.left ++ q.right) (ap (λ r. r ⊕ Some (q.left ++ q.right)) p.p_is ∙ joined _ _ ∙ ap Some (sym h));
       }
 
-  -- the front entries, and how long they are where they are written alone
+  -- the front entries, and how long they are when they are written alone
   module _ (of : List A → Part) (is : (xs : List A) → contents_in (of xs) ≡ many f xs) where
     counted : (xs : List A) (w : List ℕ) → component_text (first (of xs) ends) ≡ Some w → entries_at w ≡ option_map length (each f xs)
     counted xs w e =
@@ -122,7 +122,7 @@ module _ {A : Type 0} (f : A → Piece) where
         by_test true i = counted (take index xs) w (ap (λ r. component_text (first r ends)) (sym (same_Some _ _ i)) ∙ h)
         by_test false i = absurd cc
 
-    -- the front entries have an encoding where all have one
+    -- the front entries have an encoding if all have one
     pub encoded : (index : ℕ) (xs : List A) (b : List ℕ) → part (of xs) ≡ Some b → index < length xs
         → component_text (first (of (take index xs)) ends) ≡ None → ⊥
     encoded index xs b e l none =

@@ -1,8 +1,8 @@
 -- Errors that are passed on.
 use Rattle.std.proofs.Common.{◌≡◌, Option, None, Result, Ok, Err, IsErrAnd}
-use Rattle.smith_read_types.specs.Reading.{Fails, Gives}
-use Rattle.smith_read_types.specs.declared.error.Unread.{Unread}
-use Rattle.smith_read_types.specs.declared.error.Unread.TheVariants as error
+use Rattle.smith_read.specs.Reading.{Fails, Gives}
+use Rattle.smith_read.specs.declared.unread.Unread.{Unread}
+use Rattle.smith_read.specs.declared.unread.Unread.TheVariants as error
 use Rattle.smith_places.specs.Finding.{FailsWhere, GivesWhere}
 
 module _ {A B X : Type 0} (inner outer : Type 0) (view : X → B) where

@@ -10,34 +10,19 @@ use Rattle.smith_tree.specs.Depths.{scope_depth, scope_depth_in}
 use Rattle.smith_tree.specs.Grammar.{Spells, part, preamble}
 use Rattle.smith_tree.proofs.Clear.{spells_law}
 use Rattle.smith_tree.specs.Tree.{Part, canons, core_types, ends, exports, first, imports, parts_of, tree_of, types}
-use Rattle.smith_read_types.specs.Nodes.{shown_core_node}
-use Rattle.smith_read_types.specs.TypeNodes.{shown_type_node}
-use Rattle.smith_read_types.specs.declared.core_types.CoreNode.{CoreNode}
-use Rattle.smith_read_types.specs.declared.nodes.TypeNode.{TypeNode}
-use Rattle.smith_read.specs.PartNodes.{shown_canon_node, shown_export_node, shown_import_node, shown_part_node, shown_tree}
-use Rattle.smith_read.specs.declared.nodes.CanonNode.{CanonNode}
+use Rattle.smith_read.specs.Nodes.{shown_core_node}
+use Rattle.smith_read.specs.TypeNodes.{shown_type_node}
+use Rattle.smith_read.specs.declared.core_types.CoreNode.{CoreNode}
+use Rattle.smith_read.specs.declared.type_nodes.TypeNode.{TypeNode}
+use Rattle.smith_read.specs.PartNodes.{shown_import_node, shown_part_node, shown_tree}
+use Rattle.smith_tree.specs.Shown.{shown_canon, shown_export}
+use Rattle.smith_tree.specs.declared.entries.Func.{Func}
 use Rattle.smith_read.specs.declared.nodes.ComponentTree.{ComponentTree}
-use Rattle.smith_read.specs.declared.nodes.ExportNode.{ExportNode}
+use Rattle.smith_tree.specs.declared.entries.Export.{Export}
 use Rattle.smith_read.specs.declared.nodes.ImportNode.{ImportNode}
 use Rattle.smith_read.specs.declared.nodes.PartNode.{PartNode}
-use Rattle.smith_read.specs.declared.nodes.PartNode.TheFolds.{the_lemmas}
 use Rattle.smith_read.specs.declared.nodes.PartNode.TheVariants as node
 use Rattle.smith_places.specs.Finding.{first_of, front_in}
-
-pub shown_core_types : (ts : Vec CoreNode) → shown_part_node (node.CoreTypes ts) ≡ core_types (map shown_core_node ts.items)
-shown_core_types ts = search (rules, the_lemmas)
-
-pub shown_types : (ts : Vec TypeNode) → shown_part_node (node.Types ts) ≡ types (map shown_type_node ts.items)
-shown_types ts = search (rules, the_lemmas)
-
-pub shown_canons : (fs : Vec CanonNode) → shown_part_node (node.Canons fs) ≡ canons (map shown_canon_node fs.items)
-shown_canons fs = search (rules, the_lemmas)
-
-pub shown_imports : (is : Vec ImportNode) → shown_part_node (node.Imports is) ≡ imports (map shown_import_node is.items)
-shown_imports is = search (rules, the_lemmas)
-
-pub shown_exports : (es : Vec ExportNode) → shown_part_node (node.Exports es) ≡ exports (map shown_export_node es.items)
-shown_exports es = search (rules, the_lemmas)
 
 first_map : {A B : Type 0} (g : A → B) (index : ℕ) (xs : List A) → first_of index (map g xs) ≡ option_map (map g) (first_of index xs)
 first_map {A} {B} g index xs = rw (length-map xs g, take-map g index xs) (by_test (nat_lt index (length xs)))

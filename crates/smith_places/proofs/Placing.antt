@@ -9,7 +9,7 @@ use Rattle.smith_syntax.specs.Grammar.{core_entry, entry, import_entry}
 use Rattle.smith_tree.specs.Depths.{scope_depth, scope_depth_in}
 use Rattle.smith_tree.specs.Grammar.{Spells, canon, component_text, export_entry, part, parts, preamble}
 use Rattle.smith_tree.specs.Tree.{Part, Tree, canons, component, core_module, core_types, custom, exports, imports, parts_of, types}
-use Rattle.smith_read_types.specs.Reading.{◌>>=◌, u_at}
+use Rattle.smith_read.specs.Reading.{◌>>=◌, u_at}
 use Rattle.smith_places.specs.Finding.{behind_at, contents_before, contents_in, entries_before, first_of, is_one, section_at}
 use Rattle.smith_places.specs.Places.{before, before_entry, before_inside, before_section, list_before, offset_in, opened, sole_before}
 use Rattle.smith_places.proofs.Counting.{Rest, Split, spelled, split}
@@ -183,7 +183,7 @@ module _ (t : Tree) (k : ℕ) (b s : List ℕ) (is : parts t ≡ Some s) (b_is :
   parts_are_s : each part (parts_of t) ≡ Some s
   parts_are_s = sym (tree_each t) ∙ is
 
-  -- nothing is found where there is no such section
+  -- nothing is found if there is no such section
   pub missing : (path : List ℕ) (index : ℕ) → ((p : Part) → slice_get (parts_of t) k ≡ Some p → ⊥) → offset_in (k ∷ path) index t ≡ None
   missing path index absent = by_case path (slice_get (parts_of t) k) refl
     where
@@ -306,7 +306,7 @@ module _ (t : Tree) (k : ℕ) (b rest contents after : List ℕ) (id index : ℕ
   not_inside l path (imports is) absent = refl
   not_inside l path (exports es) absent = refl
 
-  -- of nothing, where there is no component
+  -- of nothing, if there is no component
   pub of_none : (l : ℕ) (path : List ℕ) → (id ≡ 4 → ⊥) → offset_in (k ∷ l ∷ path) index t ≡ None
   of_none l path absent =
       ap (λ o. option_map length (before_section k t ⊕ (o >>= before_inside (before (l ∷ path) index)))) h.get
@@ -328,7 +328,7 @@ module _ (t : Tree) (k : ℕ) (b rest contents after : List ℕ) (id index : ℕ
       by_case (exports es) f = absurd (omega (arith, f))
 
 module _ (t : Tree) (k : ℕ) (b rest contents after : List ℕ) (id index : ℕ) (h : Placed t k b rest id contents after) where
-  -- the same, where the indexes go on
+  -- the same, when the indexes go on
   pub inside_is : (inner : List ℕ) (c : Tree) → 0 < length inner → h.p ≡ component c
       → offset_in (k ∷ inner) index t ≡ option_map (shift t k b rest contents after id index h) (offset_in inner index c)
   inside_is [] c l e = absurd (omega (arith, l))

@@ -8,10 +8,10 @@ use Rattle.smith_format.proofs.Piece.{joined, left_none, parts_are}
 use Rattle.smith_tree.specs.Depths.{scope_depth, scope_depth_in}
 use Rattle.smith_tree.specs.Grammar.{part, parts}
 use Rattle.smith_tree.specs.Tree.{Part, Tree, canons, component, core_module, core_types, custom, ends, exports, first, imports, parts_of, types}
-use Rattle.smith_read_types.specs.Reading.{◌>>=◌, byte_at, frame_at}
-use Rattle.smith_read_types.specs.Tells.{TellsAll}
-use Rattle.smith_read_types.proofs.Telling.{bind_some, byte_read, parted}
-use Rattle.smith_read_types.proofs.TellingFrames.{tells_framed}
+use Rattle.smith_read.specs.Reading.{◌>>=◌, byte_at, frame_at}
+use Rattle.smith_read.specs.Tells.{TellsAll}
+use Rattle.smith_read.proofs.Telling.{bind_some, byte_read, parted}
+use Rattle.smith_read.proofs.TellingFrames.{tells_framed}
 use Rattle.smith_places.specs.Finding.{behind_at, contents_in, section_at}
 
 -- ---- one section
@@ -108,7 +108,7 @@ part_holds p b rest e = holds (id_of p) (id_low p) (contents_in p) b rest (ap (�
 
 -- ---- sections in a row
 
--- that section is there, after those before it
+-- that section is there, after the ones before it
 pub record At (ps : List Part) (k : ℕ) (b : List ℕ) (p : Part) : Type 0 where
   pub front : List ℕ
   pub whole : List ℕ

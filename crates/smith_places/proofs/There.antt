@@ -10,7 +10,7 @@ use Rattle.smith_format.proofs.Piece.{joined, parts_are, right_nil}
 use Rattle.smith_syntax.specs.Grammar.{core_entry, entry, import_entry}
 use Rattle.smith_tree.specs.Grammar.{Spells, canon, component_text, embedded, export_entry}
 use Rattle.smith_tree.specs.Tree.{Part, Tree, canons, component, core_module, core_types, custom, exports, imports, parts_of, types}
-use Rattle.smith_read_types.specs.Reading.{◌>>=◌}
+use Rattle.smith_read.specs.Reading.{◌>>=◌}
 use Rattle.smith_places.specs.Finding.{contents_before, contents_in}
 use Rattle.smith_places.specs.Places.{IsAtFront, entry_text, inside, list_before, offset_in, place_text, sole_before, sole_text}
 use Rattle.smith_places.proofs.Counting.{Rest, Split, spelled, split}

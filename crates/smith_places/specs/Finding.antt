@@ -5,9 +5,9 @@ use Rattle.smith_format.specs.Piece.{Piece, ◌⊕◌, each, many, raw, text}
 use Rattle.smith_syntax.specs.Grammar.{core_entry, entry, import_entry}
 use Rattle.smith_tree.specs.Grammar.{canon, component_text, embedded, export_entry}
 use Rattle.smith_tree.specs.Tree.{Part, canons, component, core_module, core_types, custom, exports, imports, types}
-use Rattle.smith_read_types.specs.Reading.{Found, ◌>>=◌, byte_at, frame_at, u_at}
-use Rattle.smith_read_types.specs.declared.error.Unread.{Unread}
-use Rattle.smith_read_types.specs.declared.error.Unread.TheVariants as error
+use Rattle.smith_read.specs.Reading.{Found, ◌>>=◌, byte_at, frame_at, u_at}
+use Rattle.smith_read.specs.declared.unread.Unread.{Unread}
+use Rattle.smith_read.specs.declared.unread.Unread.TheVariants as error
 use Rattle.smith_places.specs.Places.{list_before, sole_before}
 
 -- a section: its id and its contents
@@ -49,11 +49,11 @@ is_one (canons fs) = false
 is_one (imports is) = false
 is_one (exports es) = false
 
--- those of a list that precede one of them
+-- the items of a list that precede one of them
 abbrev pub first_of : {A : Type 0} → ℕ → List A → Option (List A)
 first_of index xs = if nat_lt index (length xs) then Some (take index xs) else None
 
--- the section with only those of its entries that precede one of them
+-- the section with only the entries that precede one of them
 abbrev pub front_in : ℕ → Part → Option Part
 front_in index (custom name contents) = None
 front_in index (core_module text) = None
@@ -86,13 +86,13 @@ contents_before index (canons fs) = list_before canon fs index
 contents_before index (imports is) = list_before import_entry is index
 contents_before index (exports es) = list_before export_entry es index
 
--- What a function failed with, where something holds if it failed for a reason other than being out of memory.
+-- What a function failed with. If that condition holds and the reason is not being out of memory, nothing is there.
 abbrev pub FailsWhere : {A : Type 0} → Type 0 → Unread → Option A → Type 0
 FailsWhere condition error.OutOfMemory there = Unit {0}
 FailsWhere condition (error.Malformed left reason) there = condition → there ≡ None
 
--- What a function returned, seen by a view, is what is there. Where that condition holds, it fails only where nothing is there, or when
--- out of memory.
+-- What a function returned, seen by a view, is what is there. If that condition holds, it fails only if nothing is there, or when out
+-- of memory.
 abbrev pub GivesWhere : {X A : Type 0} → Type 0 → (X → A) → Result X Unread → Option A → Type 0
 GivesWhere condition view (Ok x) there = there ≡ Some (view x)
 GivesWhere condition view (Err e) there = FailsWhere condition e there

@@ -4,7 +4,7 @@ use Rattle.smith_format.specs.Piece.{Piece, ◌⊕◌, byte, bytes, each, many, 
 use Rattle.smith_syntax.specs.Grammar.{core_entry, entry, import_entry}
 use Rattle.smith_tree.specs.Grammar.{canon, component_text, embedded, export_entry, part, preamble}
 use Rattle.smith_tree.specs.Tree.{Part, Tree, canons, component, core_module, core_types, custom, exports, imports, parts_of, types}
-use Rattle.smith_read_types.specs.Reading.{◌>>=◌}
+use Rattle.smith_read.specs.Reading.{◌>>=◌}
 
 -- a section up to that much of its contents: its id, the length of all of them, and that much
 abbrev pub opened : ℕ → Piece → Piece → Piece
@@ -30,7 +30,7 @@ before_entry index (canons fs) = opened 8 (many canon fs) (list_before canon fs 
 before_entry index (imports is) = opened 10 (many import_entry is) (list_before import_entry is index)
 before_entry index (exports es) = opened 11 (many export_entry es) (list_before export_entry es index)
 
--- what is found in the component that a section holds, and nothing where it holds none
+-- what is found in the component that a section holds, and nothing if it holds none
 abbrev pub inside : {A : Type 0} → (Tree → Option A) → Part → Option A
 inside found (custom name contents) = None
 inside found (core_module text) = None
@@ -50,7 +50,7 @@ abbrev pub before_section : ℕ → Tree → Piece
 before_section index t = bytes preamble ⊕ each part (take index (parts_of t))
 
 -- As much of a component as precedes an entry: the entry with that index in the section with the last of these indexes, the first being of
--- a section of the component, the next of a section of the component in that one, and so on. None where there is no such entry.
+-- a section of the component, the next of a section of the component in that one, and so on. None if there is no such entry.
 abbrev pub before : List ℕ → ℕ → Tree → Piece
 before [] index t = None
 before (k ∷ []) index t = before_section k t ⊕ (slice_get (parts_of t) k >>= before_entry index)

@@ -1,19 +1,20 @@
-//! Entries in the bytes of a section: those that precede one are written again, and their bytes are counted.
+//! Entries in the bytes of a section: the ones that precede one are written again, and their bytes are counted.
 
 ghost use Rattle.std.specs.Prelude.{◌≡◌, ◌≤◌, Some, length, option_map};
 ghost use Rattle.smith_tree.specs.Depths.{scope_depth_in};
 ghost use Rattle.smith_tree.specs.Grammar.{component_text, part};
 ghost use Rattle.smith_tree.specs.Tree.{Part, ends, first as section_then};
-ghost use Rattle.smith_read_types.specs.Reading.{Gives};
+ghost use Rattle.smith_read.specs.Reading.{Gives};
 ghost use Rattle.smith_read.specs.PartNodes.{shown_part_node};
 ghost use Rattle.smith_read.specs.Reads.{most_depth};
 ghost use Rattle.smith_places.specs.Finding.{GivesWhere, entries_at, entries_before, first_of, front_in};
 
 use crate::sections::{section_of, sections_of};
 use smith_core::COMPONENT_PREAMBLE;
-use smith_read::{ComponentTree, PartNode, ReadError, read};
-use smith_read_types::{Reason, Unread, count_of, malformed};
-use smith_write::{WriteError, write};
+use smith_read::{
+    ComponentTree, PartNode, ReadError, Reason, Unread, WriteError, count_of, malformed, read,
+    write,
+};
 use std::alloc::Global;
 
 // The section that these bytes are, read as the only one of a component.
@@ -46,7 +47,7 @@ fn written_alone(alloc: Global, section: PartNode) -> Result<Vec<u8>, Unread>
     }
 }
 
-// Those of a list that precede one of them.
+// The items of a list that precede one of them.
 fn first<T: Drop>(items: Vec<T>, entry: usize) -> Option<Vec<T>>
     ensures { option_map (λ v. v.items) result ≡ first_of entry items.items }
 {
@@ -58,12 +59,12 @@ fn first<T: Drop>(items: Vec<T>, entry: usize) -> Option<Vec<T>>
     Some(items)
 }
 
-// The section with only those of its entries that precede one of them.
+// The section with only the entries that precede one of them.
 fn front_of(section: PartNode, entry: usize) -> Option<PartNode>
     ensures { option_map shown_part_node result ≡ front_in entry (shown_part_node section) }
 {
     match section {
-        PartNode::Custom { .. } | PartNode::CoreModule(_) | PartNode::Component(_) => None,
+        PartNode::Custom(_) | PartNode::CoreModule(_) | PartNode::Component(_) => None,
         PartNode::CoreTypes(types) => Some(PartNode::CoreTypes(first(types, entry)?)),
         PartNode::Types(types) => Some(PartNode::Types(first(types, entry)?)),
         PartNode::Canons(canons) => Some(PartNode::Canons(first(canons, entry)?)),

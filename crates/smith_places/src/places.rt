@@ -4,14 +4,14 @@ ghost use Rattle.std.specs.Prelude.{◌≡◌, ◌≤◌, false, Some, IfOk, IfS
 ghost use Rattle.smith_tree.specs.Depths.{scope_depth, scope_depth_in};
 ghost use Rattle.smith_tree.specs.Grammar.{Spells, part};
 ghost use Rattle.smith_tree.specs.Tree.{Part, Tree};
-ghost use Rattle.smith_read_types.specs.Reading.{Gives};
+ghost use Rattle.smith_read.specs.Reading.{Gives};
 ghost use Rattle.smith_read.specs.Reads.{most_depth};
 ghost use Rattle.smith_places.specs.Finding.{GivesWhere, contents_before, contents_in, is_one};
 ghost use Rattle.smith_places.specs.Places.{offset_in, sole_before};
 
 use crate::entries::len_before;
 use crate::sections::{behind, section_of, sections_of};
-use smith_read_types::{Reason, Unread, count_of, malformed};
+use smith_read::{Reason, Unread, count_of, malformed};
 use std::alloc::{AllocError, Global};
 
 // The id of a section that holds a core module.
@@ -20,7 +20,7 @@ const CORE_MODULE_ID: u8 = 1;
 // The id of a section that holds a component.
 const COMPONENT_ID: u8 = 4;
 
-// Whether a section, which is all of these bytes, counts as one entry: that of a core module or of a component.
+// Whether a section, which is all of these bytes, counts as one entry: a core module or a component.
 fn is_one(section: &[u8]) -> bool
     ensures { (p : Part) → part p ≡ Some section.now → result ≡ is_one p }
 {
@@ -99,9 +99,9 @@ fn within(alloc: Global, bytes: &[u8], sections: &[usize], entry: usize) -> Resu
 }
 
 /// How many of the bytes that spell a component precede an entry in it: the offset of that entry. It is in the section
-/// with the last of the indexes, the first being that of a section of the component, the next that of a section of the
+/// with the last of the indexes, the first being the index of a section of the component, the next of a section of the
 /// component in that section, and so on. A core module and a component count as the one entry of their section. `None`
-/// where there is no such entry.
+/// if there is no such entry.
 ///
 /// It takes time and memory in proportion to the bytes, and stack in proportion to the number of indexes.
 pub fn offset_of(
@@ -113,7 +113,7 @@ pub fn offset_of(
     // The offset that is returned is right.
     ensures right { (component : Tree) → Spells component bytes.now
         → IfOk result (λ offset. IfSome offset (λ n. offset_in sections.now entry component ≡ Some n)) }
-    // One is returned where there is such an entry, if scopes are at most `MOST_DEPTH` of `smith_read` deep.
+    // One is returned if there is such an entry, and scopes are at most `MOST_DEPTH` of `smith_read` deep.
     ensures found { (component : Tree) → scope_depth component ≤ most_depth → Spells component bytes.now
         → IfOk result (λ offset. offset ≡ offset_in sections.now entry component) }
 {

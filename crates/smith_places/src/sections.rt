@@ -1,10 +1,10 @@
 //! Sections in a component's bytes, without what is in them.
 
-ghost use Rattle.smith_read_types.specs.Reading.{Gives};
+ghost use Rattle.smith_read.specs.Reading.{Gives};
 ghost use Rattle.smith_places.specs.Finding.{behind_at, section_at, sections_at};
 
 use smith_core::COMPONENT_PREAMBLE;
-use smith_read_types::{Reason, Unread, byte_of, frame_of, malformed};
+use smith_read::{Reason, Unread, byte_of, frame_of, malformed};
 
 /// A section at the front of some bytes.
 #[derive(Clone, Copy)]

@@ -1,8 +1,8 @@
 -- What the result of `read` says.
 use Rattle.std.proofs.Common.{◌≡◌, ℕ, List, length, Option, Some, None, Result, Ok, Err, refl, sym, ◌∙◌, subst, arith}
-use Rattle.smith_read_types.specs.Reading.{Fails, Gives}
-use Rattle.smith_read_types.specs.declared.error.Unread.{Unread}
-use Rattle.smith_read_types.specs.declared.error.Unread.TheVariants as inner
+use Rattle.smith_read.specs.Reading.{Fails, Gives}
+use Rattle.smith_read.specs.declared.unread.Unread.{Unread}
+use Rattle.smith_read.specs.declared.unread.Unread.TheVariants as inner
 use Rattle.smith_read.specs.Parts.{component_at}
 use Rattle.smith_read.specs.PartNodes.{shown_tree}
 use Rattle.smith_read.specs.Reads.{IsWithin, Reads, behind, most_depth, at_offset}

@@ -3,7 +3,7 @@ use Rattle.std.proofs.Common.{◌≡◌, ℕ, zero, suc, ◌+◌, ◌-◌, ◌<�
 use Rattle.std.proofs.Common.{append_assoc}
 use Rattle.std.proofs.lemmas.List.{append-nil}
 use Rattle.smith_tree.specs.Tree.{Tree, Part}
-use Rattle.smith_read_types.specs.Reading.{◌>>=◌}
+use Rattle.smith_read.specs.Reading.{◌>>=◌}
 use Rattle.smith_read.specs.Parts.{part_at, parts_at, contents_at, component_at}
 
 pub depth_none : (n : ℕ) (bs : List ℕ) → n ≡ 0 → component_at n bs ≡ None

@@ -3,3 +3,17 @@ pub mod TellingParts
 pub mod Shallow
 pub mod Answering
 pub mod PartNodes
+pub mod Digits
+pub mod Loops
+pub mod ShownNodes
+pub mod Levels
+pub mod Telling
+pub mod TellingTypes
+pub mod TellingCore
+pub mod TellingLevels
+pub mod TellingFrames
+pub mod TellingEntries
+pub mod Inner
+pub mod Leads
+pub mod WrittenTypes
+pub mod WrittenParts

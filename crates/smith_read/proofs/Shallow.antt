@@ -9,7 +9,7 @@ use Rattle.smith_syntax.specs.Nesting.{nesting, decl_nesting, decls_nesting}
 use Rattle.smith_tree.specs.Depths.{scope_depth, scope_depth_in}
 use Rattle.smith_tree.specs.Grammar.{preamble}
 use Rattle.smith_tree.specs.Tree.{Part, Tree, ends, first, custom, core_module, core_types, component, types, canons, imports, exports, most}
-use Rattle.smith_read_types.specs.Levels.{decl_in, decls_in, around, entry_in}
+use Rattle.smith_read.specs.Levels.{decl_in, decls_in, around, entry_in}
 use Rattle.smith_read.specs.Parts.{component_at, part_in, parts_in, component_in}
 use Rattle.smith_read.proofs.TellingParts.{tells_component}
 

@@ -1,3 +1,13 @@
 pub mod Parts
 pub mod PartNodes
 pub mod Reads
+pub mod Reading
+pub mod Tells
+pub mod Types
+pub mod CoreTypes
+pub mod Externs
+pub mod Nodes
+pub mod Levels
+pub mod TypeNodes
+pub mod SectionEntries
+pub mod Leads

@@ -5,34 +5,18 @@ use Rattle.smith_format.specs.Piece.{Piece, ◌⊕◌, bytes, raw, text, many, s
 use Rattle.smith_syntax.specs.Grammar.{core_entry, import_entry}
 use Rattle.smith_syntax.specs.Entries.{ImportEntry}
 use Rattle.smith_tree.specs.Grammar.{preamble, embedded, canon, export_entry}
-use Rattle.smith_tree.specs.Tree.{Canon, ExportEntry, lift, lower, Part, Tree, ends, first, custom, core_module, core_types, component, types, canons}
+use Rattle.smith_tree.specs.Tree.{Part, Tree, ends, first, custom, core_module, core_types, component, types, canons}
 use Rattle.smith_tree.specs.Tree.{imports, exports, tree_of}
-use Rattle.smith_read_types.specs.CoreTypes.{core_entry_at}
-use Rattle.smith_read_types.specs.Externs.{named_at}
-use Rattle.smith_read_types.specs.Levels.{entry_in, types_at}
-use Rattle.smith_read_types.specs.Reading.{Found, ◌>>=◌, seen, byte_at, behind, both_at, many_at, u_at, skip_at, text_at, all_of, framed_at}
-use Rattle.smith_read.specs.PartNodes.{export_of, import_of}
-
--- a value, and then that byte
-abbrev pub ended_at : {A : Type 0} → (List ℕ → Found A) → ℕ → List ℕ → Found A
-ended_at reading n bs = reading bs >>= λ x. skip_at n x.1 >>= λ rest. Some (x.0, rest)
+use Rattle.smith_read.specs.CoreTypes.{core_entry_at}
+use Rattle.smith_read.specs.Externs.{named_at}
+use Rattle.smith_read.specs.Levels.{entry_in, types_at}
+use Rattle.smith_read.specs.Reading.{Found, ◌>>=◌, seen, byte_at, many_at, text_at, all_of, framed_at}
+use Rattle.smith_read.specs.SectionEntries.{canon_at, export_at}
+use Rattle.smith_read.specs.PartNodes.{import_of}
 
 -- an import: a name, and what it is of
 unfoldable pub import_at : List ℕ → Found ImportEntry
 import_at bs = seen import_of (named_at bs)
-
--- an export: a name, and the index of a component function
-unfoldable pub export_at : List ℕ → Found ExportEntry
-export_at bs = seen export_of (behind 0x00 (both_at text_at (behind 0x01 (ended_at u_at 0x00))) bs)
-
-unfoldable pub canon_after : ℕ → List ℕ → Found Canon
-canon_after tag bs =
-    if tag == 0x00 then seen (λ x. lift x.0 x.1) (behind 0x00 (both_at u_at (behind 0x00 u_at)) bs)
-    else if tag == 0x01 then seen lower (behind 0x00 (ended_at u_at 0x00) bs)
-    else None
-
-unfoldable pub canon_at : List ℕ → Found Canon
-canon_at bs = byte_at bs >>= λ t. canon_after t.0 t.1
 
 -- the contents of sections
 unfoldable pub custom_all : List ℕ → Option (List ℕ × List ℕ)

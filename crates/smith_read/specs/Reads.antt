@@ -7,15 +7,15 @@ use Rattle.smith_read.specs.PartNodes.{shown_tree}
 use Rattle.smith_read.specs.declared.error.ReadError.{ReadError}
 use Rattle.smith_read.specs.declared.error.ReadError.TheVariants as error
 use Rattle.smith_read.specs.declared.nodes.ComponentTree.{ComponentTree}
-use Rattle.smith_read_types.specs.declared.error.Unread.{Unread}
-use Rattle.smith_read_types.specs.declared.error.Unread.TheVariants as inner
+use Rattle.smith_read.specs.declared.unread.Unread.{Unread}
+use Rattle.smith_read.specs.declared.unread.Unread.TheVariants as inner
 
 -- how deep scopes may be in what is read
 abbrev pub most_depth : ℕ
 most_depth = 1001
 
--- What is read is spelled by the bytes, and is no deeper than that. Where they spell a tree that is no deeper, nothing is refused, except
--- when out of memory.
+-- What is read is spelled by the bytes, and is no deeper than that. If they spell a tree that is no deeper, nothing is
+-- refused, except when out of memory.
 pub record Reads (result : Result ComponentTree ReadError) (bytes : List ℕ) : Type 0 where
   pub spelled : IfOk result (λ t. Spells (shown_tree t) bytes)
   pub shallow : IfOk result (λ t. scope_depth (shown_tree t) ≤ most_depth)
@@ -34,7 +34,7 @@ abbrev pub IsWithin : ℕ → ReadError → Type 0
 IsWithin length error.OutOfMemory = Unit {0}
 IsWithin length (error.Malformed offset reason) = offset ≤ length
 
--- the same result, where that many more bytes are left
+-- the same result, with that many more bytes left
 abbrev pub behind : {A : Type 0} → ℕ → Result A Unread → Result A Unread
 behind more (Ok x) = Ok x
 behind more (Err inner.OutOfMemory) = Err inner.OutOfMemory

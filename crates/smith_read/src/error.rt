@@ -3,7 +3,7 @@
 ghost use Rattle.std.specs.Prelude.{◌≡◌, length};
 ghost use Rattle.smith_read.specs.Reads.{behind, at_offset};
 
-use smith_read_types::{Reason, Unread};
+use crate::{Reason, Unread};
 
 /// Why bytes are not read as a component.
 #[derive(Debug, PartialEq, Eq, Drop, thiserror::Error)]

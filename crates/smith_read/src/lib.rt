@@ -1,12 +1,32 @@
-//! Components from their bytes.
+//! Components from their bytes, as trees of nodes, and back: readers and writers of numbers, texts, lists, types and
+//! sections.
 #![tactic(auto)]
 
+mod core_entries;
+mod core_types;
+mod entries;
 mod error;
+mod externs;
 pub mod laws;
+mod lists;
 mod nodes;
+mod numbers;
 mod parts;
+mod section_entries;
+mod type_nodes;
+mod types;
+mod unread;
+mod writing;
 
+pub use core_types::{CoreNode, ModuleNode};
+pub use entries::contents_of;
 pub use error::ReadError;
-pub use nodes::{CanonNode, ComponentTree, ExportNode, ImportNode, PartNode};
+pub use externs::named_of;
+pub use lists::{Readable, frame_of, many_of, read_text, skip};
+pub use nodes::{ComponentTree, ImportNode, PartNode};
+pub use numbers::{byte_of, count_of};
 pub use parts::{MOST_DEPTH, read};
-pub use smith_read_types::{CoreNode, DeclNode, ModuleNode, Reason, TypeNode};
+pub use smith_tree::{CustomSection, Export, Func};
+pub use type_nodes::{DeclNode, TypeNode};
+pub use unread::{Reason, Unread, malformed};
+pub use writing::{WriteError, write};

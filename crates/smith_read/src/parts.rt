@@ -4,20 +4,21 @@ ghost use Rattle.std.specs.Prelude.{length, map, string_bytes, IfErr};
 ghost use Rattle.smith_format.specs.Piece.{raw};
 ghost use Rattle.smith_syntax.specs.Entries.{ImportEntry};
 ghost use Rattle.smith_tree.specs.Grammar.{embedded};
-ghost use Rattle.smith_tree.specs.Tree.{Canon, ExportEntry, tree_of};
-ghost use Rattle.smith_read_types.specs.Reading.{Gives, skip_at};
-ghost use Rattle.smith_read.specs.Parts.{canon_at, component_at, custom_all, export_at, list_all_at, part_at};
+ghost use Rattle.smith_tree.specs.Tree.{tree_of};
+ghost use Rattle.smith_read.specs.Reading.{Gives};
+ghost use Rattle.smith_read.specs.Parts.{component_at, custom_all, list_all_at, part_at};
 ghost use Rattle.smith_read.specs.Parts.{import_at, parts_at, preamble_at, section_at};
-ghost use Rattle.smith_read.specs.PartNodes.{shown_canon_node, shown_export_node, shown_import_node, shown_part_node};
+ghost use Rattle.smith_read.specs.PartNodes.{shown_import_node, shown_part_node};
 ghost use Rattle.smith_read.specs.Reads.{IsWithin, Reads};
 
 use crate::error::{ReadError, placed, with_rest};
-use crate::nodes::{CanonNode, ComponentTree, ExportNode, ImportNode, PartNode};
-use smith_core::{COMPONENT_PREAMBLE, CORE_PREAMBLE};
-use smith_read_types::{
-    Readable, Reason, Unread, byte_of, contents_of, count_of, frame_of, malformed, many_of,
-    named_of, read_text, skip,
+use crate::nodes::{ComponentTree, ImportNode, PartNode};
+use crate::{
+    Readable, Reason, Unread, byte_of, contents_of, frame_of, malformed, many_of, named_of,
+    read_text,
 };
+use smith_core::{COMPONENT_PREAMBLE, CORE_PREAMBLE};
+use smith_tree::CustomSection;
 use std::alloc::Global;
 
 /// How deep scopes may be: one deeper than the nesting of components that a `Config` may allow, which is how deep
@@ -35,66 +36,6 @@ impl Readable for ImportNode {
     fn read(alloc: Global, bytes: &[u8]) -> Result<(ImportNode, &[u8]), Unread> {
         let ((name, to), rest) = named_of(alloc, bytes)?;
         Ok((ImportNode { name, to }, rest))
-    }
-}
-
-impl Readable for ExportNode {
-    ghost Shown = { ExportEntry };
-
-    ghost shown = { shown_export_node };
-
-    ghost reading = { export_at };
-
-    #[tactic(auto, unfolding(crate::specs::Parts::export_at))]
-    fn read(alloc: Global, bytes: &[u8]) -> Result<(ExportNode, &[u8]), Unread> {
-        let rest = skip(bytes, 0x00)?;
-        let (name, rest) = read_text(alloc, rest)?;
-        let rest = skip(rest, 0x01)?;
-        let (func, rest) = count_of(rest)?;
-        let rest = skip(rest, 0x00)?;
-        Ok((ExportNode { name, func }, rest))
-    }
-}
-
-// What follows an empty list of canonical options.
-#[tactic(auto, unfolding(smith_read_types::specs::Reading::skip_at))]
-fn no_options(bytes: &[u8]) -> Result<&[u8], Unread>
-    ensures { Gives (λ x. x.now) result (skip_at 0x00 bytes.now) }
-{
-    let (count, rest) = byte_of(bytes)?;
-    if count == 0x00 {
-        Ok(rest)
-    } else {
-        Err(malformed(bytes, Reason::Options))
-    }
-}
-
-impl Readable for CanonNode {
-    ghost Shown = { Canon };
-
-    ghost shown = { shown_canon_node };
-
-    ghost reading = { canon_at };
-
-    #[tactic(auto, unfolding(crate::specs::Parts::canon_at, crate::specs::Parts::canon_after))]
-    fn read(_alloc: Global, bytes: &[u8]) -> Result<(CanonNode, &[u8]), Unread> {
-        let (tag, rest) = byte_of(bytes)?;
-        match tag {
-            0x00 => {
-                let rest = skip(rest, 0x00)?;
-                let (core_func, rest) = count_of(rest)?;
-                let rest = no_options(rest)?;
-                let (ty, rest) = count_of(rest)?;
-                Ok((CanonNode::Lift { core_func, ty }, rest))
-            }
-            0x01 => {
-                let rest = skip(rest, 0x00)?;
-                let (func, rest) = count_of(rest)?;
-                let rest = no_options(rest)?;
-                Ok((CanonNode::Lower { func }, rest))
-            }
-            _ => Err(malformed(bytes, Reason::Byte)),
-        }
     }
 }
 
@@ -118,12 +59,12 @@ fn embedded_of(alloc: Global, bytes: &[u8]) -> Result<Vec<u8>, Unread>
 
 // The contents of a custom section.
 #[tactic(auto, unfolding(crate::specs::Parts::custom_all))]
-fn custom_of(alloc: Global, bytes: &[u8]) -> Result<(String, Vec<u8>), Unread>
-    ensures { Gives (λ x. (string_bytes x.0, x.1.items)) result (custom_all bytes.now) }
+fn custom_of(alloc: Global, bytes: &[u8]) -> Result<CustomSection, Unread>
+    ensures { Gives (λ s. (string_bytes s.name, s.bytes.items)) result (custom_all bytes.now) }
 {
     let (name, rest) = read_text(alloc, bytes)?;
-    let contents = raw_of(alloc, rest)?;
-    Ok((name, contents))
+    let bytes = raw_of(alloc, rest)?;
+    Ok(CustomSection { name, bytes })
 }
 
 // The contents of a section that is a list.
@@ -156,10 +97,7 @@ fn section_of(alloc: Global, depth: u32, id: u8, bytes: &[u8]) -> Result<PartNod
     ensures { Gives (λ x. shown_part_node x) result (section_at depth (component_at depth) id bytes.now) }
 {
     match id {
-        0 => {
-            let (name, contents) = custom_of(alloc, bytes)?;
-            Ok(PartNode::Custom { name, contents })
-        }
+        0 => Ok(PartNode::Custom(custom_of(alloc, bytes)?)),
         1 => Ok(PartNode::CoreModule(embedded_of(alloc, bytes)?)),
         3 => Ok(PartNode::CoreTypes(list_of(alloc, bytes)?)),
         4 => Ok(PartNode::Component(sections_of(alloc, depth, bytes)?)),

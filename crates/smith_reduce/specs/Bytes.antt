@@ -9,7 +9,7 @@ use Rattle.smith_reduce.specs.declared.error.JoinError.TheVariants as join_error
 use Rattle.smith_reduce.specs.declared.error.ReduceError.{ReduceError}
 use Rattle.smith_reduce.specs.declared.error.ReduceError.TheVariants as error
 
--- the component without its k-th item, or none where there is no k-th
+-- the component without its k-th item, or none if there is no k-th
 abbrev pub IsWithout : ℕ → Tree → Option (List ℕ) → Type 0
 IsWithout k t (Some bytes) = (less : Tree) × (without k t ≡ Some less) × Spells less bytes
 IsWithout k t None = without k t ≡ None

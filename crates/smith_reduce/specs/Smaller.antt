@@ -1,4 +1,4 @@
--- The components that are smaller than one by a step, and those of them that are wanted.
+-- The components that are smaller than one by a step, and the ones of them that are wanted.
 use Rattle.std.specs.Prelude.{◌≡◌, ℕ, ◌+◌, ◌-◌, ◌≤◌, ◌<◌, List, Option, None, Some, nat_lt, if◌then◌else◌}
 use Rattle.smith_format.specs.declared.config.Config.{Config}
 use Rattle.smith_tree.specs.Grammar.{Spells}
@@ -31,14 +31,14 @@ pub data HowMany (P : ℕ → Type 0) : ℕ → ℕ → Type 0 where
   counted : {n c : ℕ} → P n → HowMany P n c → HowMany P (n + 1) (c + 1)
   passed : {n c : ℕ} → (¬ P n) → HowMany P n c → HowMany P (n + 1) c
 
--- The bytes are those of a component that has the property, to which a step leads that has k before it that lead to one. There are none where
--- no more than k steps lead to one.
+-- The bytes are a component's that has the property, to which a step leads that has k before it that lead to one. There are none if no more
+-- than k steps lead to one.
 abbrev pub IsKth : (Tree → Type 0) → Tree → ℕ → Option (List ℕ) → Type 0
 IsKth P t k (Some bytes) = (n : ℕ) × LeadsTo P t n bytes × HowMany (Leads P t) n k
 IsKth P t k None = (c : ℕ) × (c ≤ k) × HowMany (Leads P t) (steps t) c
 
 -- This is the first step from that number on that leads to a component that has the property, by its number, and these are the component's
--- bytes. There is none where no step from there on leads to one.
+-- bytes. There is none if no step from there on leads to one.
 abbrev pub IsNext : (Tree → Type 0) → Tree → ℕ → Option (ℕ × List ℕ) → Type 0
 IsNext P t from (Some step) = (from ≤ step.0) × LeadsTo P t step.0 step.1 × ((n : ℕ) → from ≤ n → n < step.0 → ¬ Leads P t n)
 IsNext P t from None = (n : ℕ) → from ≤ n → ¬ Leads P t n

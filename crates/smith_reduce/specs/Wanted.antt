@@ -24,7 +24,7 @@ abbrev pub AreConsistent : Wanted → Type 0
 AreConsistent (wanted.Generated config) = IsConsistent config.now
 AreConsistent wanted.WellFormed = Unit {0}
 
--- the bytes to which a step leads, or none where it leads to nothing that is wanted
+-- the bytes to which a step leads, or none if it leads to nothing that is wanted
 abbrev pub IsLead : Wanted → Tree → ℕ → Option (List ℕ) → Type 0
 IsLead want t n (Some bytes) = LeadsTo (IsWanted want) t n bytes
 IsLead want t n None = ¬ Leads (IsWanted want) t n

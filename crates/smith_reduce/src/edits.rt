@@ -9,8 +9,7 @@ ghost use Rattle.smith_reduce.specs.Bytes.{AreJoined, IsJoinRefusal, IsReduceRef
 ghost use Rattle.smith_reduce.specs.declared.error.ReduceError.TheVariants.{InconsistentLimits};
 
 use crate::error::{JoinError, ReduceError};
-use smith_read::{ComponentTree, ReadError, read};
-use smith_write::{WriteError, write};
+use smith_read::{ComponentTree, ReadError, WriteError, read, write};
 use std::alloc::{AllocError, Global};
 
 /// The bytes of a component, if it has an encoding.
@@ -29,7 +28,7 @@ pub(crate) fn spelled(
 }
 
 /// The component that these bytes are, without its `k`-th item and without all that refers to it, as
-/// [`smith_edit::without`] counts and removes them. There is none where there is no `k`-th item.
+/// [`smith_edit::without`] counts and removes them. There is none if there is no `k`-th item.
 ///
 /// It takes time and memory in proportion to the bytes.
 pub fn without(alloc: Global, bytes: &[u8], k: usize) -> Result<Option<Vec<u8>>, ReduceError>
@@ -48,7 +47,7 @@ pub fn without(alloc: Global, bytes: &[u8], k: usize) -> Result<Option<Vec<u8>>,
     }
 }
 
-/// The sections of the first component, and then those of the second, as [`smith_edit::joined`] joins them.
+/// The sections of the first component, and then the second's, as [`smith_edit::joined`] joins them.
 ///
 /// It takes time in proportion to the bytes, times a logarithm for the names.
 pub fn joined(alloc: Global, first: &[u8], second: &[u8]) -> Result<Vec<u8>, JoinError>

@@ -9,7 +9,6 @@ ghost use Rattle.smith_reduce.specs.Bytes.{IsReduceRefusal};
 ghost use Rattle.smith_reduce.specs.Smaller.{HasScript, IsKth, IsNext, stepped, steps};
 ghost use Rattle.smith_reduce.specs.Wanted.{AreConsistent, IsLead, IsWanted, IsWhole};
 ghost use Rattle.smith_reduce.specs.declared.error.ReduceError.TheVariants.{InconsistentLimits};
-ghost use Rattle.smith_script.specs.declared.error.ScriptError.TheVariants.{OutOfMemory};
 
 use crate::edits::spelled;
 use crate::error::ReduceError;
@@ -17,22 +16,22 @@ use smith_check::{Judgement, judged};
 use smith_edit::{item_count, simplified, without};
 use smith_format::Config;
 use smith_read::{ComponentTree, read};
-use smith_script::{ScriptError, script};
+use smith_script::script_of;
 use std::alloc::{AllocError, Global};
 
 /// Which components are wanted.
 #[derive(Clone, Copy)]
 pub enum Wanted<'a> {
-    /// Those that have a script within the limits, so that an input produces them.
+    /// The ones that have a script within the limits, so that an input produces them.
     Generated(&'a Config),
-    /// Those that are well formed.
+    /// The well-formed ones.
     WellFormed,
 }
 
 /// A step, and the component to which it leads.
 #[derive(Debug, PartialEq, Eq, Drop)]
 pub struct Step {
-    /// Its number, from 0 over all steps, including those that lead to no wanted component.
+    /// Its number, from 0 over all steps, including the ones that lead to no wanted component.
     pub number: usize,
     /// The component's bytes.
     pub bytes: Vec<u8>,
@@ -45,16 +44,6 @@ struct Whole<'a> {
     items: usize,
 }
 
-// A refusal, other than when out of memory, says that there is no script.
-fn refused(error: ScriptError) -> Result<bool, AllocError>
-    ensures { IfOk result (λ r. (r ≡ false) × ¬ (error ≡ OutOfMemory)) }
-{
-    match error {
-        ScriptError::OutOfMemory => Err(AllocError),
-        _ => Ok(false),
-    }
-}
-
 // Does the component with these bytes have a script within the limits?
 fn has_script(
     alloc: Global,
@@ -65,9 +54,9 @@ fn has_script(
     requires { Spells (shown_tree component.now) bytes.now }
     ensures { IfOk result (λ r. Decides r (HasScript config.now (shown_tree component.now))) }
 {
-    match script(alloc, config, bytes) {
-        Ok(_script) => Ok(true),
-        Err(error) => refused(error),
+    match script_of(alloc, config, component, bytes)? {
+        Some(_script) => Ok(true),
+        None => Ok(false),
     }
 }
 
@@ -111,7 +100,7 @@ impl Whole<'_> {
         self.items.checked_add(self.items).ok_or(AllocError)
     }
 
-    // The component after a step: the first ones remove an item each, and those after them make one simpler.
+    // The component after a step: the first ones remove an item each, and the ones after them make one simpler.
     fn stepped(&self, alloc: Global, step: usize) -> Result<Option<ComponentTree>, AllocError>
         requires { IsWhole self.now }
         ensures { IfOk result (λ r. option_map shown_tree r ≡ stepped step (shown_tree self.now.component.now)) }
@@ -192,7 +181,7 @@ impl Whole<'_> {
     }
 }
 
-// The component of the bytes, where limits fit together.
+// The component of the bytes, if limits fit together.
 fn component_of(
     alloc: Global,
     wanted: Wanted<'_>,
@@ -210,7 +199,7 @@ fn component_of(
 }
 
 /// The `k`-th, from 0, of the components that are wanted and smaller than the one that these bytes are by a step. There
-/// is none where no more than `k` steps lead to a wanted component.
+/// is none if no more than `k` steps lead to a wanted component.
 ///
 /// The steps are, in this order: without each item, as [`smith_edit::without`] defines, and with each item made
 /// simpler, as [`smith_edit::simplified`] defines. Each takes the time of a script of the component, or of a judgement.
@@ -223,7 +212,7 @@ pub fn smaller(
     ensures answered { IfOk result
         (λ r. (t : Tree) × Spells t bytes.now × IsKth (IsWanted wanted.entry) t k (option_map (λ b. b.items) r)) }
     ensures refuses { IfErr result (IsReduceRefusal bytes.now) }
-    // Exactly where limits do not fit together, that is the refusal.
+    // Exactly if limits do not fit together, that is the refusal.
     ensures limits { IfErr result (λ e. (e ≡ InconsistentLimits) ↔ (¬ AreConsistent wanted.entry)) }
     ensures accepts { IfOk result (λ _. AreConsistent wanted.entry) }
 {
@@ -236,9 +225,9 @@ pub fn smaller(
 }
 
 /// The first step from that number on that leads to a component that is wanted and smaller than the one that these
-/// bytes are. There is none where no step from there on leads to one.
+/// bytes are. There is none if no step from there on leads to one.
 ///
-/// The steps and their order are those of [`smaller`], which counts only those that lead to a wanted component. Each
+/// The steps and their order are as in [`smaller`], which counts only the ones that lead to a wanted component. Each
 /// from that number up to the one that is returned takes the time of a script of the component, or of a judgement.
 pub fn next_smaller(
     alloc: Global,
@@ -249,7 +238,7 @@ pub fn next_smaller(
     ensures answered { IfOk result (λ r. (t : Tree) × Spells t bytes.now
         × IsNext (IsWanted wanted.entry) t from (option_map (λ s. (s.number, s.bytes.items)) r)) }
     ensures refuses { IfErr result (IsReduceRefusal bytes.now) }
-    // Exactly where limits do not fit together, that is the refusal.
+    // Exactly if limits do not fit together, that is the refusal.
     ensures limits { IfErr result (λ e. (e ≡ InconsistentLimits) ↔ (¬ AreConsistent wanted.entry)) }
     ensures accepts { IfOk result (λ _. AreConsistent wanted.entry) }
 {

@@ -13,7 +13,7 @@ use std::fmt;
 /// What a row asks of its bytes.
 #[derive(Clone, Copy, PartialEq, Eq)]
 pub enum Task {
-    /// What component is generated from them, and what is left.
+    /// Which component is generated from them, and which bytes are left.
     Component,
     /// The same, and that nothing is read of what follows them.
     Prefix,
@@ -39,7 +39,7 @@ pub enum Task {
     Texts,
     /// Whether the text of the default limits is the default.
     Defaults,
-    /// Whether a script is refused where the limits do not fit together.
+    /// Whether a script is refused if the limits do not fit together.
     Misfit,
     /// Whether a component with a core module of no bytes is written.
     Unwritten,
@@ -48,17 +48,17 @@ pub enum Task {
 // The bytes that follow a prefix, one after another, and are left.
 const RESTS: [&[u8]; 3] = [b"", b"\xff\x07", b"\x00\x03\x01"];
 
-// What was generated from an input, and what is left of it.
+// What was generated from an input, and the rest of the input.
 #[derive(Drop)]
 struct Generated {
     bytes: Result<Vec<u8>, Error>,
     left: Vec<u8>,
-    // Whether the component is measured and read back as what was generated, and found well formed, and valid where it
-    // has to be.
+    // Whether the component is measured and read back as what was generated, and found well formed, and valid if it has
+    // to be.
     agrees: bool,
 }
 
-// Are they found to be a well-formed component, and to validate where they have to?
+// Are they found to be a well-formed component, and to validate if they have to?
 fn is_well_judged(alloc: Global, limits: &Config, bytes: &[u8]) -> Result<bool, AllocError> {
     if limits.must_validate {
         return Ok(validate(alloc, bytes)? == Validity::Valid);
@@ -156,8 +156,7 @@ fn is_its_script(
     }
 }
 
-// What is generated from an input, with other bytes after it too where the task asks that, and whether it is the
-// script.
+// What is generated from an input, with other bytes after it too if the task asks that, and whether it is the script.
 fn generation(
     alloc: Global,
     limits: Config,
@@ -214,7 +213,7 @@ fn what_is_read(alloc: Global, bytes: &[u8]) -> Result<String, AllocError> {
     }
 }
 
-// What is read of each front, with one line for successive lengths of which the same is read.
+// What is read of each front, with one line for successive lengths that read the same.
 fn fronts(alloc: Global, bytes: &[u8]) -> Result<String, AllocError> {
     let mut answers = String::new(alloc);
     let mut first = 0usize;

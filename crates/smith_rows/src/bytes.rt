@@ -1,6 +1,7 @@
 //! Bytes as words of a row: two hexadecimal digits, `61*100` for a hundred of them, `( 01 2a )*127` for a group of
 //! bytes that repeats, `preamble` for the first eight bytes of a component, and `@nested` for the script of that plan.
 
+use crate::plans;
 use std::alloc::{AllocError, Global};
 use std::fmt;
 
@@ -16,17 +17,17 @@ const LONGEST_RUN: usize = 8;
 // The proved script of the plan with this name.
 fn proved_script(name: &str) -> Option<&'static [u8]> {
     match name {
-        "second_of_equal_types" => Some(smith_plans::second_of_equal_types()),
-        "lower_and_lift" => Some(smith_plans::lower_and_lift()),
-        "lower_of_a_lift" => Some(smith_plans::lower_of_a_lift()),
-        "lower_of_an_export" => Some(smith_plans::lower_of_an_export()),
-        "nested" => Some(smith_plans::nested()),
-        "scoped_type" => Some(smith_plans::scoped_type()),
+        "second_of_equal_types" => Some(plans::second_of_equal_types()),
+        "lower_and_lift" => Some(plans::lower_and_lift()),
+        "lower_of_a_lift" => Some(plans::lower_of_a_lift()),
+        "lower_of_an_export" => Some(plans::lower_of_an_export()),
+        "nested" => Some(plans::nested()),
+        "scoped_type" => Some(plans::scoped_type()),
         _ => None,
     }
 }
 
-// The bytes of a word that does not repeat. The bytes of `)` are those of its group.
+// The bytes of a word that does not repeat. `)` stands for the bytes of its group.
 fn word_bytes(alloc: Global, word: &str, group: &[u8]) -> Result<Option<Vec<u8>>, AllocError> {
     if word == ")" {
         return Ok(Some(Vec::from_slice(alloc, group)?));
@@ -102,7 +103,7 @@ fn run_len(bytes: &[u8]) -> usize {
     count
 }
 
-// The word of that many bytes, on a new line where the last one is full.
+// The word of that many bytes, on a new line if the last one is full.
 fn print_word<W: fmt::Write>(
     f: &mut fmt::Formatter<W>,
     words: usize,

@@ -2,8 +2,7 @@
 
 use crate::bytes::Printed;
 use smith_edit::{item_count, joined, simplified, without};
-use smith_read::{ComponentTree, read};
-use smith_write::write;
+use smith_read::{ComponentTree, read, write};
 use std::alloc::{AllocError, Global};
 
 fn written(alloc: Global, name: &'static str, tree: &ComponentTree) -> Result<String, AllocError> {

@@ -5,6 +5,7 @@
 mod answers;
 mod bytes;
 mod edits;
+mod plans;
 mod rows;
 mod texts;
 

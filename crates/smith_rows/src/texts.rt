@@ -3,9 +3,8 @@
 use crate::bytes::PREAMBLE;
 use smith_component::{Config, Error};
 use smith_limits::{DEFAULT_LIMITS, KEYS, limits_of};
-use smith_read::{ComponentTree, PartNode};
+use smith_read::{ComponentTree, PartNode, write};
 use smith_script::{Reason, ScriptError, Unkept, script};
-use smith_write::write;
 use std::alloc::{AllocError, Global};
 
 const ERRORS: [Error; 6] = [
@@ -77,7 +76,7 @@ pub fn defaults(alloc: Global) -> Result<String, AllocError> {
     format!(in alloc; "= sets each limit: {sets_each}, all of them the defaults: {are_defaults}\n")
 }
 
-/// What is returned for the script of the empty component where there must be more types than there may be.
+/// What is returned for the script of the empty component if there must be more types than there may be.
 pub fn misfit(alloc: Global, limits: &Config) -> Result<String, AllocError> {
     let misfit = Config {
         min_types: limits.max_types.saturating_add(1),

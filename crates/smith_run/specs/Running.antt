@@ -37,7 +37,7 @@ abbrev pub written_text : Form → List ℕ → ℕ → List ℕ
 written_text Raw bytes left = bytes
 written_text Page bytes left = page bytes left
 
--- The bytes of the component that is made of the input are written in the form. Where the input begins with the script of a plan, they
+-- The bytes of the component that is made of the input are written in the form. If the input begins with the script of a plan, they
 -- are the plan's bytes, and what is after the script is left.
 pub record Writes (config : Config) (form : Form) (input left : List ℕ) (before after : Option (List ℕ)) : Type 0 where
   pub component : Tree
@@ -69,7 +69,7 @@ status_of ReadFault = 2
 status_of InputTooLong = 2
 status_of WriteFault = 2
 
--- the same for how a run ended: 0 where it did not fail
+-- the same for how a run ended: 0 if it did not fail
 abbrev pub status_of_answer : {A : Type 0} → Result A RunError → ℕ
 status_of_answer (Ok _) = 0
 status_of_answer (Err error) = status_of error

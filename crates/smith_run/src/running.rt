@@ -224,7 +224,7 @@ pub fn run<R: Read, W: Write>(
 }
 
 /// As `convert`, within the limits given as overridden by the first bytes of the input, as `smith_swarm::swarm_limits`
-/// defines. The component is made of the bytes after those.
+/// defines. The component is made of the bytes after them.
 pub fn convert_swarm<R: Read, W: Write>(
     alloc: Global,
     reader: &mut R,

@@ -1,10 +1,15 @@
+pub mod Ascending
+pub mod ByKind
+pub mod Chosen
+pub mod Lists
 pub mod Marking
 pub mod ModuleSteps
+pub mod Naming
 pub mod OfferSteps
 pub mod Offered
 pub mod Parts
 pub mod Places
 pub mod Plain
+pub mod PlainTrees
 pub mod Rows
 pub mod Stack
-pub mod Tied

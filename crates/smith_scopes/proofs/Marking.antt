@@ -39,7 +39,7 @@ module _ (N K M L : Type 0) (own : Marked) (outer around : List Marked) where
   pub same_function : (s : Signature) → mark {N = N} {K = K} (function s) own outer ≡ mark {N = M} {K = L} (function s) own around
   same_function s = refl
 
--- What is added where nothing is kept does not matter.
+-- If nothing is kept, it does not matter what is added.
 
 kept_alike : {A : Type 0} (keeps : Bool) (xs : List A) (x y : A) → (keeps ≡ true → x ≡ y) → more_kept keeps xs (x ∷ []) ≡ more_kept keeps xs (y ∷ [])
 kept_alike true xs x y same = ap (λ z. xs ++ z ∷ []) (same refl)

@@ -5,39 +5,31 @@ use Rattle.std.proofs.lemmas.List.{map-append}
 use Rattle.std.proofs.lemmas.Option.{slice_get-map}
 use Rattle.std.specs.Option.{option_map, option_to_list}
 use Rattle.std.specs.Prelude.{slice_get}
-use Rattle.std.specs.declared.alloc.Global.{Global}
-use Rattle.std.specs.declared.rc.Rc.{Rc}
 use Rattle.smith_format.specs.CoreTypes.{Function}
 use Rattle.smith_input.proofs.Rests.{drop_past, rest_at}
 use Rattle.smith_syntax.specs.Entries.{CoreEntry, ModuleDecl, core_module}
 use Rattle.smith_syntax.specs.ModuleTypes.{adds, func_in}
-use Rattle.smith_syntax.specs.Shown.{shown_core, shown_decl}
 use Rattle.smith_syntax.specs.Sizes.{capped, core_size, function_size, module_size}
-use Rattle.smith_syntax.specs.declared.core_types.CoreType.{CoreType}
-use Rattle.smith_syntax.specs.declared.core_types.ModuleTypeDef.{ModuleTypeDef}
 use Rattle.smith_scopes.specs.ModuleSizes.{added_size, sizes_in}
-use Rattle.smith_scopes.specs.Scopes.{values_of}
-use Rattle.smith_scopes.specs.declared.scopes.module_sizes.ModuleSize.{ModuleSize}
+use Rattle.smith_scopes.specs.declared.module_sizes.ModuleSize.{ModuleSize}
 
 abbrev pub kept_size : Option Function → Option ℕ
 kept_size o = option_map (λ f. capped (function_size f)) o
 
--- the function type that a shared core type shows
-module _ (around : List (Rc CoreType Global)) (i : ℕ) (r : Rc CoreType Global) (is : slice_get around i ≡ Some r) where
-  pub core_at : (t : CoreType) → r.value ≡ t → slice_get (map shown_core (values_of around)) i ≡ Some (shown_core t)
-  core_at t e =
-      slice_get-map shown_core (values_of around) i
-      ∙ (ap (λ o. option_map shown_core o) (slice_get-map (λ s. s.value) around i ∙ ap (λ o. option_map (λ s. s.value) o) is)
-      ∙ ap (λ u. Some (shown_core u)) e)
-
-  pub size_at : (t : CoreType) → r.value ≡ t → kept_size (func_in (slice_get (map shown_core (values_of around)) i)) ≡ kept_size (func_in (Some (shown_core t)))
-  size_at t e = ap (λ o. kept_size (func_in o)) (core_at t e)
+-- the function type that a core type shows
+module _ {A C : Type 0} (tree : A → C) (shown : C → CoreEntry) (around : List A) (i : ℕ) (t : A) (is : slice_get around i ≡ Some t) where
+  pub size_at : (e : CoreEntry) → shown (tree t) ≡ e → kept_size (func_in (slice_get (map shown (map tree around)) i)) ≡ kept_size (func_in (Some e))
+  size_at e shows =
+      ap (λ o. kept_size (func_in o))
+      (slice_get-map shown (map tree around) i
+      ∙ (ap (λ o. option_map shown o) (slice_get-map tree around i ∙ ap (λ o. option_map tree o) is)
+      ∙ ap (λ u. Some u) shows))
 
 pub alias_added : (fs : List Function) (o : Option Function) → sizes_in fs ++ option_to_list (kept_size o) ≡ sizes_in (fs ++ option_to_list o)
 alias_added fs None = append-nil (sizes_in fs) ∙ ap sizes_in (sym (append-nil fs))
 alias_added fs (Some f) = sym (map-append (λ g. capped (function_size g)) fs (f ∷ []))
 
--- What was read and what is left are the whole.
+-- What was read and the rest are the whole.
 pub record Left (around : List CoreEntry) (all : List ModuleDecl) (m : ModuleSize) (rest : List ModuleDecl) : Type 0 where
   pub fs : List Function
   pub own_is : m.own.items ≡ sizes_in fs
@@ -65,14 +57,13 @@ module _ (around : List CoreEntry) (all : List ModuleDecl) (m : ModuleSize) (d :
 pub size_none : (around : List CoreEntry) (all : List ModuleDecl) (m : ModuleSize) → Left around all m [] → m.size ≡ capped (core_size around (core_module all))
 size_none around all m l = omega (arith, l.size_is, l.whole)
 
--- what is left of the declarations of a module type
-module _ (around : List CoreEntry) (ds : List ModuleTypeDef) (m : ModuleSize) (i : ℕ) where
+-- the rest of the declarations of a module type
+module _ {D : Type 0} (shown : D → ModuleDecl) (around : List CoreEntry) (ds : List D) (m : ModuleSize) (i : ℕ) where
   abbrev pub LeftFrom : Type 0
-  LeftFrom = Left around (map shown_decl ds) m (map shown_decl (drop i ds))
+  LeftFrom = Left around (map shown ds) m (map shown (drop i ds))
 
-  pub left_at : (d : ModuleTypeDef) → i < length ds → d ≡ get_or ds i d → LeftFrom
-      → Left around (map shown_decl ds) m (shown_decl d ∷ map shown_decl (drop (i + 1) ds))
-  left_at d h e l = subst (λ ys. Left around (map shown_decl ds) m (map shown_decl ys)) (rest_at ds i d h e) l
+  pub left_at : (d : D) → i < length ds → d ≡ get_or ds i d → LeftFrom → Left around (map shown ds) m (shown d ∷ map shown (drop (i + 1) ds))
+  left_at d h e l = subst (λ ys. Left around (map shown ds) m (map shown ys)) (rest_at ds i d h e) l
 
-  pub left_end : length ds ≤ i → LeftFrom → Left around (map shown_decl ds) m []
-  left_end h l = subst (λ ys. Left around (map shown_decl ds) m (map shown_decl ys)) (drop_past ds i h) l
+  pub left_end : length ds ≤ i → LeftFrom → Left around (map shown ds) m []
+  left_end h l = subst (λ ys. Left around (map shown ds) m (map shown ys)) (drop_past ds i h) l

@@ -4,16 +4,13 @@ use Rattle.std.proofs.Common.{length-append}
 use Rattle.std.proofs.lemmas.List.{length-map, map-append}
 use Rattle.smith_syntax.specs.Entries.{Entry}
 use Rattle.smith_syntax.specs.Usable.{marked_places}
-use Rattle.smith_syntax.specs.Scope.{with_type}
-use Rattle.smith_syntax.specs.Shown.{shown_type}
-use Rattle.smith_syntax.specs.declared.deftype.DefType.{DefType}
+use Rattle.smith_syntax.specs.Scope.{ScopeOf, with_type}
 use Rattle.smith_syntax.specs.declared.marks.Mark.{Mark}
 use Rattle.smith_scopes.specs.Kept.{AreKept, AreOffers, AreUses, Notes, SameOffers, is_offered, noted}
-use Rattle.smith_scopes.specs.Scopes.{Types}
-use Rattle.smith_scopes.specs.declared.scopes.kept.Kept.{Kept}
-use Rattle.smith_scopes.specs.declared.scopes.offers.Offer.TheVariants as offer
-use Rattle.smith_scopes.specs.declared.scopes.offers.Offers.{Offers}
-use Rattle.smith_scopes.specs.declared.scopes.offers.Uses.{Uses}
+use Rattle.smith_scopes.specs.declared.kept.Kept.{Kept}
+use Rattle.smith_scopes.specs.declared.offers.Offer.TheVariants as offer
+use Rattle.smith_scopes.specs.declared.offers.Offers.{Offers}
+use Rattle.smith_scopes.specs.declared.offers.Uses.{Uses}
 use Rattle.smith_scopes.proofs.Stack.{push_front}
 
 module _ {T : Type 0} (p : T → Mark → Bool) where
@@ -45,7 +42,7 @@ module _ (p : Entry → Mark → Bool) (types : List Entry) (marks : List Mark) 
       ∙ sym (marked_places-push p 0 types marks e m many)
 
 pub offers_noted : (types : List Entry) (marks : List Mark) (e : Entry) (m : Mark) (i : ℕ) → length marks ≡ length types → i ≡ length types
-    → {was old new : Offers ℕ} {u : Uses} → AreOffers was types marks → SameOffers was old → AreUses u e m → Notes old new u i
+    → {was old new : Offers} {u : Uses} → AreOffers was types marks → SameOffers was old → AreUses u e m → Notes old new u i
     → AreOffers new (types ++ e ∷ []) (marks ++ m ∷ [])
 offers_noted types marks e m i many at a s u n = record {
   values = row_noted (is_offered offer.Value) types marks e m i many at a.values s.values u.value n.values;
@@ -57,19 +54,19 @@ offers_noted types marks e m i many at a s u n = record {
 }
 
 -- What is kept of the types of a scope, with one more type.
-module _ (k n : Kept) (s t : Types) (kept : AreKept k (map shown_type s.types)) where
-  pub kept_more : (entry : DefType) (m : Mark) (i : ℕ) → i ≡ length s.types → t ≡ with_type s entry → {old : Offers ℕ} {u : Uses}
-      → SameOffers k.offers old → AreUses u (shown_type entry) m → Notes old n.offers u i → n.marks.items ≡ k.marks.items ++ m ∷ []
-      → AreKept n (map shown_type t.types)
-  kept_more entry m i at grown same uses notes to =
-      let many : i ≡ length (map shown_type s.types) = at ∙ sym (length-map s.types shown_type) in
-      let types : map shown_type t.types ≡ map shown_type s.types ++ shown_type entry ∷ [] =
-      ap (λ d. map shown_type d.types) grown ∙ map-append shown_type s.types (entry ∷ []) in
+module _ {T C : Type 0} (shown : T → Entry) (k n : Kept) (s t : ScopeOf T C) (kept : AreKept k (map shown s.types)) where
+  pub kept_more : (ty : T) (m : Mark) (i : ℕ) → i ≡ length s.types → t ≡ with_type s ty → {old : Offers} {u : Uses}
+      → SameOffers k.offers old → AreUses u (shown ty) m → Notes old n.offers u i → n.marks.items ≡ k.marks.items ++ m ∷ []
+      → AreKept n (map shown t.types)
+  kept_more ty m i at grown same uses notes to =
+      let many : i ≡ length (map shown s.types) = at ∙ sym (length-map s.types shown) in
+      let types : map shown t.types ≡ map shown s.types ++ shown ty ∷ [] =
+      ap (λ d. map shown d.types) grown ∙ map-append shown s.types (ty ∷ []) in
       let l : length n.marks.items ≡ length k.marks.items + 1 = ap length to ∙ length-append k.marks.items (m ∷ []) in
-      let more : length (map shown_type t.types) ≡ length (map shown_type s.types) + 1 =
-      ap length types ∙ length-append (map shown_type s.types) (shown_type entry ∷ []) in
+      let more : length (map shown t.types) ≡ length (map shown s.types) + 1 =
+      ap length types ∙ length-append (map shown s.types) (shown ty ∷ []) in
       record {
         offers_are = rw (types, to)
-            (offers_noted (map shown_type s.types) k.marks.items (shown_type entry) m i kept.as_many many kept.offers_are same uses notes);
+            (offers_noted (map shown s.types) k.marks.items (shown ty) m i kept.as_many many kept.offers_are same uses notes);
         as_many = omega (arith, l, more, kept.as_many);
       }

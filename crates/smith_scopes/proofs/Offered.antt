@@ -1,21 +1,21 @@
--- How many types may be used for what, and which they are where no marks are kept.
+-- How many types may be used for what, and which they are if no marks are kept.
 use Rattle.std.proofs.Common.{◌≡◌, ℕ, zero, suc, ◌+◌, ◌<◌, ◌≤◌, Bool, true, false, ◌&&◌, cond, List, [], ◌∷◌, length, map, refl, sym, ap, ◌∙◌, subst, arith}
-use Rattle.std.proofs.Common.{Some}
+use Rattle.std.proofs.Common.{None, Some}
 use Rattle.std.proofs.lemmas.List.{length-map}
 use Rattle.std.specs.Prelude.{slice_get, IfSome}
-use Rattle.smith_syntax.specs.Entries.{Entry}
+use Rattle.smith_syntax.specs.Entries.{CoreEntry, Entry}
+use Rattle.smith_syntax.specs.Marked.{MarkedOf, scope_in}
 use Rattle.smith_syntax.specs.Usable.{first_mark, later_marks, marked_places}
 use Rattle.smith_syntax.specs.Marks.{no_mark}
 use Rattle.smith_syntax.specs.Places.{places}
 use Rattle.smith_syntax.specs.Scope.{Scope, is_component, is_defined, is_func, is_instance}
-use Rattle.smith_syntax.specs.Shown.{shown_type}
 use Rattle.smith_syntax.specs.declared.marks.Mark.{Mark}
 use Rattle.smith_scopes.specs.Kept.{AreOffers, is_offered, kind_for, offered_places, row_for}
-use Rattle.smith_scopes.specs.Scopes.{Contents, kind_places, shown_marked, shown_scope}
-use Rattle.smith_scopes.specs.declared.scopes.Kind.{Kind}
-use Rattle.smith_scopes.specs.declared.scopes.offers.Offer.{Offer}
-use Rattle.smith_scopes.specs.declared.scopes.offers.Offer.TheVariants as offer
-use Rattle.smith_scopes.specs.declared.scopes.offers.Offers.{Offers}
+use Rattle.smith_scopes.specs.Positions.{kind_places, plain_marked, plain_scope}
+use Rattle.smith_scopes.specs.declared.kinds.Kind.{Kind}
+use Rattle.smith_scopes.specs.declared.offers.Offer.{Offer}
+use Rattle.smith_scopes.specs.declared.offers.Offer.TheVariants as offer
+use Rattle.smith_scopes.specs.declared.offers.Offers.{Offers}
 use Rattle.smith_scopes.proofs.Stack.{longer}
 
 module _ {T : Type 0} (p : T → Mark → Bool) where
@@ -25,7 +25,19 @@ module _ {T : Type 0} (p : T → Mark → Bool) where
       let h = longer (p t (first_mark ms)) i (marked_places p (i + 1) ts (later_marks ms)) (length ts) (length-marked_places (i + 1) ts (later_marks ms)) in
       omega (arith, h)
 
-  -- without marks the test of a type is that of the type alone
+  pub marked_within : (n : ℕ) (ts : List T) (ms : List Mark) (k i : ℕ) → slice_get (marked_places p n ts ms) k ≡ Some i → i < n + length ts
+  marked_within n [] ms k i h = absurd (let z : None ≡ Some i = h in cc)
+  marked_within n (t ∷ ts) ms k i h =
+      marked_here n ts (later_marks ms) i (λ j g. marked_within (n + 1) ts (later_marks ms) j i g) (p t (first_mark ms)) k h
+    where
+      marked_here : (n : ℕ) (ts : List T) (ms : List Mark) (i : ℕ)
+          → ((j : ℕ) → slice_get (marked_places p (n + 1) ts ms) j ≡ Some i → i < n + 1 + length ts) → (b : Bool) (k : ℕ)
+          → slice_get (cond b (n ∷ marked_places p (n + 1) ts ms) (marked_places p (n + 1) ts ms)) k ≡ Some i → i < n + suc (length ts)
+      marked_here n ts ms i later true zero g = let h : n ≡ i = cc in omega (arith, h)
+      marked_here n ts ms i later true (suc k) g = let h = later k g in omega (arith, h)
+      marked_here n ts ms i later false k g = let h = later k g in omega (arith, h)
+
+  -- without marks, the test of a type looks at the type alone
   pub unmarked_places : (q : T → Bool) → ((t : T) → p t no_mark ≡ q t) → (i : ℕ) (ts : List T) → marked_places p i ts [] ≡ places q i ts
   unmarked_places q is i [] = refl
   unmarked_places q is i (t ∷ ts) =
@@ -47,7 +59,7 @@ and_true : (b : Bool) → (b && true) ≡ b
 and_true true = refl
 and_true false = refl
 
--- where no marks are kept, what may be used for something is what is of its kind
+-- if no marks are kept, the types that may be used for something are exactly the types of its kind
 pub unmarked : (o : Offer) (s : Scope) → IfSome (kind_for o) (λ k. kind_places k s ≡ marked_places (is_offered o) 0 s.types [])
 unmarked offer.Value s = sym (unmarked_places (is_offered offer.Value) is_defined (λ t. and_true (is_defined t)) 0 s.types)
 unmarked offer.Import s = sym (unmarked_places (is_offered offer.Import) is_func (λ t. and_true (is_func t && true) ∙ and_true (is_func t)) 0 s.types)
@@ -56,19 +68,7 @@ unmarked offer.Equal s = tt
 unmarked offer.Component s = sym (unmarked_places (is_offered offer.Component) is_component (λ t. and_true (is_component t)) 0 s.types)
 unmarked offer.Instance s = sym (unmarked_places (is_offered offer.Instance) is_instance (λ t. and_true (is_instance t)) 0 s.types)
 
-pub offered_by_kind : (o : Offer) (k : Kind) → kind_for o ≡ Some k → (d : Contents) → d.marks ≡ []
-    → kind_places k (shown_scope d) ≡ offered_places o (shown_marked d)
-offered_by_kind o k is d none =
-    subst (λ r. IfSome r (λ k. kind_places k (shown_scope d) ≡ marked_places (is_offered o) 0 (map shown_type d.types) [])) is (unmarked o (shown_scope d))
-    ∙ ap (marked_places (is_offered o) 0 (map shown_type d.types)) (sym none)
-
--- and any type may be equal to another
-pub all_offered : (d : Contents) → d.marks ≡ [] → offered_places offer.Equal (shown_marked d) ≡ places (λ t. true) 0 (map shown_type d.types)
-all_offered d none =
-    ap (marked_places (is_offered offer.Equal) 0 (map shown_type d.types)) none
-    ∙ unmarked_places (is_offered offer.Equal) (λ t. true) (λ t. refl) 0 (map shown_type d.types)
-
-pub row_offered : (o : Offer) {rows : Offers ℕ} {types : List Entry} {marks : List Mark} → AreOffers rows types marks
+pub row_offered : (o : Offer) {rows : Offers} {types : List Entry} {marks : List Mark} → AreOffers rows types marks
     → row_for o rows ≡ marked_places (is_offered o) 0 types marks
 row_offered offer.Value a = a.values
 row_offered offer.Import a = a.imports
@@ -77,6 +77,26 @@ row_offered offer.Equal a = a.equals
 row_offered offer.Component a = a.components
 row_offered offer.Instance a = a.instances
 
-pub length-offered : (o : Offer) (d : Contents) → length (offered_places o (shown_marked d)) ≤ length d.types
-length-offered o d =
-    omega (arith, length-marked_places (is_offered o) 0 (map shown_type d.types) d.marks, length-map d.types shown_type)
+-- of a scope, given what types and core types show
+module _ {T C : Type 0} (shown : T → Entry) (core_shown : C → CoreEntry) (s : MarkedOf T C) where
+  pub offered_by_kind : (o : Offer) (k : Kind) → kind_for o ≡ Some k → s.marks ≡ []
+      → kind_places k (plain_scope shown core_shown (scope_in s)) ≡ offered_places o (plain_marked shown core_shown s)
+  offered_by_kind o k is none =
+      subst
+      (λ r. IfSome r (λ k. kind_places k (plain_scope shown core_shown (scope_in s)) ≡ marked_places (is_offered o) 0 (map shown s.types) [])) is
+      (unmarked o (plain_scope shown core_shown (scope_in s)))
+      ∙ ap (marked_places (is_offered o) 0 (map shown s.types)) (sym none)
+
+  -- and any type may be equal to another
+  pub all_offered : s.marks ≡ [] → offered_places offer.Equal (plain_marked shown core_shown s) ≡ places (λ t. true) 0 (map shown s.types)
+  all_offered none =
+      ap (marked_places (is_offered offer.Equal) 0 (map shown s.types)) none
+      ∙ unmarked_places (is_offered offer.Equal) (λ t. true) (λ t. refl) 0 (map shown s.types)
+
+  pub length-offered : (o : Offer) → length (offered_places o (plain_marked shown core_shown s)) ≤ length s.types
+  length-offered o = omega (arith, length-marked_places (is_offered o) 0 (map shown s.types) s.marks, length-map s.types shown)
+
+  -- what is offered is a type of the scope
+  pub offered_within : (o : Offer) (k i : ℕ) → slice_get (offered_places o (plain_marked shown core_shown s)) k ≡ Some i → i < length s.types
+  offered_within o k i h =
+      omega (arith, marked_within (is_offered o) 0 (map shown s.types) s.marks k i h, length-map s.types shown)

@@ -1,20 +1,16 @@
 -- What types of values and of functions are made of, member by member.
-use Rattle.std.proofs.Common.{◌≡◌, ℕ, ◌+◌, ◌<◌, ◌≤◌, List, [], ◌∷◌, ◌++◌, length, map, get_or, take, refl, sym, ap, ◌∙◌, sum, append-nil, arith, Some, Option}
+use Rattle.std.proofs.Common.{◌≡◌, ℕ, ◌+◌, ◌<◌, ◌≤◌, List, [], ◌∷◌, ◌++◌, length, map, get_or, take, refl, sym, ap, ◌∙◌, sum, append-nil, arith}
 use Rattle.std.specs.List.{flat_map}
-use Rattle.std.specs.Option.{option_to_list}
-use Rattle.std.specs.Prelude.{String, slice_get}
-use Rattle.std.specs.declared.alloc.Global.{Global}
+use Rattle.std.specs.Prelude.{slice_get}
 use Rattle.std.proofs.Common.{zero, suc, true, false, ◌⊎◌, inl, inr}
 use Rattle.std.proofs.lemmas.Grind.{flat_map-append}
 use Rattle.std.proofs.lemmas.List.{map-append, take_all, take_more}
-use Rattle.std.proofs.lemmas.List.Concat.{flat_map-cons, flat_map_single}
+use Rattle.std.proofs.lemmas.List.Concat.{flat_map-cons}
 use Rattle.std.proofs.lemmas.List.Sums.{sum_by-append}
-use Rattle.smith_syntax.specs.Marked.{reference_reach}
+use Rattle.smith_syntax.specs.Marked.{MarkedOf, reference_reach}
 use Rattle.smith_syntax.specs.declared.deftype.ComponentTypeRef.{ComponentTypeRef}
 use Rattle.smith_syntax.specs.declared.deftype.ComponentTypeRef.TheVariants as to
-use Rattle.smith_scopes.specs.Scopes.{Contents}
 use Rattle.smith_syntax.specs.Marks.{declared_mark, narrower, narrowest, no_mark, parts_of, sizes, value_reach}
-use Rattle.smith_syntax.specs.Signature.{named}
 use Rattle.smith_syntax.specs.Sizes.{capped, summed}
 use Rattle.smith_syntax.specs.declared.marks.Mark.{Mark}
 use Rattle.smith_syntax.specs.declared.marks.Reach.{Reach}
@@ -67,36 +63,13 @@ module _ {B : Type 0} (size : B → ℕ) (old new more : List B) where
       ap (λ bs. sum (map size bs)) n ∙ (ap sum (map-append size old more) ∙ sum_by-append (λ n. n) (map size old) (map size more)) in
       omega (arith, k, m, s)
 
--- the value types of members
-
-types_named : {B : Type 0} (ps : List (String Global × B)) → map (λ p. p.1) (map named ps) ≡ map (λ p. p.1) ps
-types_named [] = refl
-types_named (p ∷ ps) = ap (λ ys. p.1 ∷ ys) (types_named ps)
-
-same_map : {A : Type 0} (xs : List A) → map (λ x. x) xs ≡ xs
-same_map [] = refl
-same_map (x ∷ xs) = ap (λ ys. x ∷ ys) (same_map xs)
-
-pub field_types : (ps : List (String Global × ComponentValType)) → flat_map (λ p. option_to_list (Some p.1)) ps ≡ map (λ p. p.1) (map named ps)
-field_types ps = flat_map_single (λ p. p.1) ps ∙ sym (types_named ps)
-
-pub case_types : (ps : List (String Global × Option ComponentValType))
-    → flat_map (λ p. option_to_list p.1) ps ≡ flat_map (λ c. option_to_list c.1) (map named ps)
-case_types [] = refl
-case_types (p ∷ ps) =
-    flat_map-cons (λ q. option_to_list q.1) p ps
-    ∙ (ap (λ ys. option_to_list p.1 ++ ys) (case_types ps) ∙ sym (flat_map-cons (λ c. option_to_list c.1) (named p) (map named ps)))
-
-pub tuple_types : (vs : List ComponentValType) → flat_map (λ v. option_to_list (Some v)) vs ≡ vs
-tuple_types vs = flat_map_single (λ v. v) vs ∙ same_map vs
-
 -- a mark that may be missing
 pub parts_at : (marks : List Mark) (i : ℕ) → (get_or marks i no_mark).parts ≡ parts_of (slice_get marks i)
 parts_at [] i = refl
 parts_at (m ∷ ms) zero = refl
 parts_at (m ∷ ms) (suc i) = parts_at ms i
 
-pub reach_at : (d : Contents) (r : ComponentTypeRef) (i : ℕ) → (r ≡ to.Func i) ⊎ ((r ≡ to.TypeEq i) ⊎ (r ≡ to.Instance i))
+pub reach_at : {T C : Type 0} (d : MarkedOf T C) (r : ComponentTypeRef) (i : ℕ) → (r ≡ to.Func i) ⊎ ((r ≡ to.TypeEq i) ⊎ (r ≡ to.Instance i))
     → (get_or d.marks i no_mark).parts ≡ reference_reach d r
 reach_at d r i (inl e) = parts_at d.marks i ∙ sym (ap (reference_reach d) e)
 reach_at d r i (inr (inl e)) = parts_at d.marks i ∙ sym (ap (reference_reach d) e)

@@ -1,10 +1,11 @@
--- Places of a list: what is at those where a test holds.
+-- Places of a list: the items at which a test holds.
 use Rattle.std.proofs.Common.{◌≡◌, ◌⊎◌, inl, inr, ℕ, zero, suc, ◌+◌, ◌<◌, Bool, true, false, cond, List, [], ◌∷◌, ◌++◌, map, length, refl, ap, ◌∙◌, arith}
+use Rattle.std.proofs.lemmas.Option.{slice_get_within}
 use Rattle.std.specs.Prelude.{Some, None, slice_get}
 use Rattle.smith_syntax.specs.Places.{places}
 
 module _ {A : Type 0} (test : A → Bool) where
-  -- What is at a place where the test holds passes it.
+  -- The item at a place where the test holds passes it.
   abbrev StandsAt : List A → ℕ → ℕ → Type 0
   StandsAt es n i = (e : A) × (j : ℕ) × (i ≡ n + j) × (slice_get es j ≡ Some e) × (test e ≡ true)
 
@@ -26,6 +27,9 @@ module _ {A : Type 0} (test : A → Bool) where
       let p = stands_at es 0 k i h in
       let same : i ≡ p.1 = omega (arith, p.2) in
       (p.0, ap (slice_get es) same ∙ p.3, p.4)
+
+  pub place_within : (es : List A) (k i : ℕ) → slice_get (places test 0 es) k ≡ Some i → i < length es
+  place_within es k i h = let p = place_stands es k i h in slice_get_within es i p.0 p.1
 
 -- What a test accepts is among the places of what does.
 module _ {A : Type 0} (test : A → Bool) where

@@ -12,7 +12,7 @@ pub use Rattle.smith_input.proofs.Rests.{rest_at}
 pub pushed : {X A : Type 0} (shown : X → A) (old new : List X) (x : X) → new ≡ old ++ x ∷ [] → map shown new ≡ map shown old ++ shown x ∷ []
 pushed shown old new x e = ap (map shown) e ∙ map-append shown old (x ∷ [])
 
--- the rest of a list, from a place on where an item is known to be
+-- the rest of a list, from a place with a known item
 pub rest_from : {A : Type 0} (xs : List A) (i : ℕ) (x : A) → slice_get xs i ≡ Some x → drop i xs ≡ x ∷ drop (i + 1) xs
 rest_from xs i x e = rest_at xs i x (slice_get_within xs i x e) (sym (get_or_from_slice_get xs i x x e))
 

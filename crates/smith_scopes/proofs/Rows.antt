@@ -92,7 +92,7 @@ more_rows old new types ty count notes a = record {
         ∙ ap (λ row. row ++ cond b (length types ∷ []) []) (a.rows_are f)
         ∙ sym (places-snoc (has_signature f) types ty b is)
 
--- The rows of the first types stay so where more types are pushed.
+-- The rows of the first types stay so when more types are pushed.
 
 noted_within : (e : Equals) (types : List DefType) → AreFirst e types → e.noted ≤ length types
 noted_within e types a = let l = length-take e.noted types in omega (arith, l, a.count)
@@ -195,6 +195,15 @@ module _ (types : List (Rc DefType Global)) (equals : Option (Box Equals Global)
       let vs = values_of types in
       let here : AreRows e (take n vs) = subst (λ m. AreRows e (take m vs)) (sym count) (subst (λ d. AreRows d (take b.value.noted vs)) (sym same) first) in
       all_and_later types (has_signature f) n noted_before ∙ ap (λ r. r ++ places (has_signature f) n (drop n vs)) (sym (row_is (take n vs) here))
+
+-- the same of types that these are
+module _ (types : List (Rc DefType Global)) (all : List DefType) (listed : values_of types ≡ all) (equals : Option (Box Equals Global)) (b : Box Equals Global)
+    (is : equals ≡ Some b) (noted : AreNoted equals all) (e : Equals) (same : e ≡ b.value) (f : Signature) (row : List ℕ)
+    (row_is : (ts : List DefType) → AreRows e ts → row ≡ places (has_signature f) 0 ts) (n : ℕ) (count : n ≡ b.value.noted) where
+  pub all_and_row : places (has_signature f) 0 all ≡ row ++ places (has_signature f) n (drop n (values_of types))
+  all_and_row =
+      ap (places (has_signature f) 0) (sym listed)
+      ∙ row_and_later types equals b is (subst (AreNoted equals) (sym listed) noted) e same f row row_is n count
 
 pub slice_get-append_left : (xs ys : List ℕ) (k : ℕ) → k < length xs → slice_get (xs ++ ys) k ≡ slice_get xs k
 slice_get-append_left [] ys k h = absurd (omega (arith, h))

@@ -1,23 +1,21 @@
--- What the program keeps beside the types of a scope where marks are kept: what each type may be used for.
-use Rattle.std.specs.Prelude.{◌≡◌, ℕ, ◌<◌, ◌≤◌, Bool, true, false, List, [], ◌∷◌, ◌++◌, map, length, Option, None, Some, if◌then◌else◌}
+-- What the program keeps beside the types of a scope if marks are kept: what each type may be used for.
+use Rattle.std.specs.Prelude.{◌≡◌, ℕ, ◌<◌, Bool, true, false, List, [], ◌∷◌, ◌++◌, map, length, Option, None, Some, if◌then◌else◌}
 use Rattle.std.specs.Vec.{vec_capacity, vec_len}
 use Rattle.std.specs.declared.alloc.Global.{Global}
 use Rattle.std.specs.declared.boxed.Box.{Box}
 use Rattle.std.specs.declared.vec.Vec.{Vec}
-use Rattle.smith_format.specs.Consistency.{max_u32}
 use Rattle.smith_syntax.specs.Entries.{Entry}
 use Rattle.smith_syntax.specs.Marked.{Marked}
+use Rattle.smith_syntax.specs.Scope.{ScopeOf}
 use Rattle.smith_syntax.specs.Usable.{marked_places, is_value, is_importable, is_exportable, is_equatable, is_small_component, is_small_instance}
 use Rattle.smith_syntax.specs.declared.marks.Mark.{Mark}
-use Rattle.smith_syntax.specs.Shown.{shown_type}
-use Rattle.smith_scopes.specs.Scopes.{Types}
-use Rattle.smith_scopes.specs.declared.scopes.Kind.{Kind}
-use Rattle.smith_scopes.specs.declared.scopes.Kind.TheVariants as kind
-use Rattle.smith_scopes.specs.declared.scopes.kept.Kept.{Kept}
-use Rattle.smith_scopes.specs.declared.scopes.offers.Offer.{Offer}
-use Rattle.smith_scopes.specs.declared.scopes.offers.Offer.TheVariants as offer
-use Rattle.smith_scopes.specs.declared.scopes.offers.Offers.{Offers}
-use Rattle.smith_scopes.specs.declared.scopes.offers.Uses.{Uses}
+use Rattle.smith_scopes.specs.declared.kinds.Kind.{Kind}
+use Rattle.smith_scopes.specs.declared.kinds.Kind.TheVariants as kind
+use Rattle.smith_scopes.specs.declared.kept.Kept.{Kept}
+use Rattle.smith_scopes.specs.declared.offers.Offer.{Offer}
+use Rattle.smith_scopes.specs.declared.offers.Offer.TheVariants as offer
+use Rattle.smith_scopes.specs.declared.offers.Offers.{Offers}
+use Rattle.smith_scopes.specs.declared.offers.Uses.{Uses}
 
 -- May the type be used for it?
 abbrev pub is_offered : Offer → Entry → Mark → Bool
@@ -41,11 +39,11 @@ pub record AreUses (u : Uses) (e : Entry) (m : Mark) : Type 0 where
   pub component : u.component ≡ is_small_component e m
   pub instance : u.instance ≡ is_small_instance e m
 
-abbrev pub noted : {X : Type 0} → List X → Bool → X → List X
+abbrev pub noted : List ℕ → Bool → ℕ → List ℕ
 noted row holds i = if holds then row ++ i ∷ [] else row
 
 -- the rows with the index at the end of those that it belongs to
-pub record Notes {X : Type 0} (old new : Offers X) (u : Uses) (i : X) : Type 0 where
+pub record Notes (old new : Offers) (u : Uses) (i : ℕ) : Type 0 where
   pub values : new.values.items ≡ noted old.values.items u.value i
   pub imports : new.imports.items ≡ noted old.imports.items u.import i
   pub exports : new.exports.items ≡ noted old.exports.items u.export i
@@ -54,7 +52,7 @@ pub record Notes {X : Type 0} (old new : Offers X) (u : Uses) (i : X) : Type 0 w
   pub instances : new.instances.items ≡ noted old.instances.items u.instance i
 
 -- the rows as they were
-pub record SameOffers {X : Type 0} (old new : Offers X) : Type 0 where
+pub record SameOffers (old new : Offers) : Type 0 where
   pub values : new.values.items ≡ old.values.items
   pub imports : new.imports.items ≡ old.imports.items
   pub exports : new.exports.items ≡ old.exports.items
@@ -63,7 +61,7 @@ pub record SameOffers {X : Type 0} (old new : Offers X) : Type 0 where
   pub instances : new.instances.items ≡ old.instances.items
 
 -- no index in any
-pub record AreEmpty {X : Type 0} (o : Offers X) : Type 0 where
+pub record AreEmpty (o : Offers) : Type 0 where
   pub values : o.values.items ≡ []
   pub imports : o.imports.items ≡ []
   pub exports : o.exports.items ≡ []
@@ -76,7 +74,7 @@ abbrev pub HasRoom : {X Z : Type 0} → Vec X Z → Type 0
 HasRoom row = vec_len row < vec_capacity row
 
 -- each has room for one more index
-pub record HaveRoom {X : Type 0} (o : Offers X) : Type 0 where
+pub record HaveRoom (o : Offers) : Type 0 where
   pub values : HasRoom o.values
   pub imports : HasRoom o.imports
   pub exports : HasRoom o.exports
@@ -85,7 +83,7 @@ pub record HaveRoom {X : Type 0} (o : Offers X) : Type 0 where
   pub instances : HasRoom o.instances
 
 -- each row, of types of these marks
-pub record AreOffers (o : Offers ℕ) (types : List Entry) (marks : List Mark) : Type 0 where
+pub record AreOffers (o : Offers) (types : List Entry) (marks : List Mark) : Type 0 where
   pub values : o.values.items ≡ marked_places (is_offered offer.Value) 0 types marks
   pub imports : o.imports.items ≡ marked_places (is_offered offer.Import) 0 types marks
   pub exports : o.exports.items ≡ marked_places (is_offered offer.Export) 0 types marks
@@ -118,15 +116,14 @@ abbrev pub AreKeptIn : Option (Box Kept Global) → List Entry → Type 0
 AreKeptIn None types = types ≡ []
 AreKeptIn (Some k) types = AreKept k.value types
 
--- What is kept where anything is, and that nothing is kept where nothing is. An index has 32 bits.
-pub record IsKept (s : Types) (keeps : Bool) (kept : Option (Box Kept Global)) : Type 0 where
-  pub types_are : keeps ≡ true → AreKeptIn kept (map shown_type s.types)
+-- What is kept if anything is, and that nothing is kept otherwise.
+pub record IsKept {T C : Type 0} (plain : T → Entry) (s : ScopeOf T C) (keeps : Bool) (kept : Option (Box Kept Global)) : Type 0 where
+  pub types_are : keeps ≡ true → AreKeptIn kept (map plain s.types)
   pub no_marks : keeps ≡ false → marks_in kept ≡ []
-  pub few : length s.types ≤ max_u32
   pub as_many_core : keeps ≡ true → length (core_sizes_in kept) ≡ length s.core_types
   pub no_core_sizes : keeps ≡ false → core_sizes_in kept ≡ []
 
-abbrev pub row_for : {X : Type 0} → Offer → Offers X → List X
+abbrev pub row_for : Offer → Offers → List ℕ
 row_for offer.Value o = o.values.items
 row_for offer.Import o = o.imports.items
 row_for offer.Export o = o.exports.items
@@ -134,7 +131,7 @@ row_for offer.Equal o = o.equals.items
 row_for offer.Component o = o.components.items
 row_for offer.Instance o = o.instances.items
 
--- The kind of the types that may be used for it where no marks are kept: any may be equal to another.
+-- The kind of the types that may be used for it if no marks are kept: any may be equal to another.
 abbrev pub kind_for : Offer → Option Kind
 kind_for offer.Value = Some kind.Defined
 kind_for offer.Import = Some kind.Func

@@ -1,4 +1,10 @@
 pub mod Kept
 pub mod ModuleSizes
+pub mod Naming
+pub mod Nest
+pub mod NodeScopes
+pub mod Nodes
+pub mod Parts
+pub mod Positions
 pub mod Rows
 pub mod Scopes

@@ -34,12 +34,12 @@ module _ {Z S : Type 0} where
   abbrev pub NotesType : DefType → ℕ → HashMap Signature (Vec ℕ Z) S → HashMap Signature (Vec ℕ Z) S → Type 0
   NotesType ty i old new = (f : Signature) → row_of new f ≡ (if has_signature f ty then row_of old f ++ i ∷ [] else row_of old f)
 
--- The rows are those of these types, and of no more.
+-- The rows are of these types, and of no more.
 pub record AreRows (e : Equals) (types : List DefType) : Type 0 where
   pub count : e.noted ≡ length types
   pub rows_are : (f : Signature) → row_of e.rows f ≡ places (has_signature f) 0 types
 
--- They are those of the first of these types.
+-- They are of the first of these types.
 abbrev pub AreFirst : Equals → List DefType → Type 0
 AreFirst e types = AreRows e (take e.noted types)
 

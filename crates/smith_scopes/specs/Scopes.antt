@@ -5,19 +5,18 @@ use Rattle.std.specs.declared.boxed.Box.{Box}
 use Rattle.smith_format.specs.Consistency.{max_u32}
 use Rattle.smith_syntax.specs.Entries.{Signature}
 use Rattle.smith_syntax.specs.HasSignature.{has_signature}
-use Rattle.smith_syntax.specs.Scope.{ScopeOf, Scope, empty_scope, is_defined, is_func, is_component}
+use Rattle.smith_syntax.specs.Scope.{ScopeOf, Scope, empty_scope}
 use Rattle.smith_syntax.specs.Marked.{Marked, MarkedOf, empty_marked, first_marked, scope_in, with_marked, with_sized}
 use Rattle.smith_syntax.specs.Marks.{no_mark}
 use Rattle.smith_syntax.specs.declared.marks.Mark.{Mark}
-use Rattle.smith_syntax.specs.Places.{own_of, outer_of, places, is_core_func}
-use Rattle.smith_syntax.specs.Scope.{is_instance, is_core_module}
+use Rattle.smith_syntax.specs.Places.{own_of, outer_of, places}
 use Rattle.smith_syntax.specs.Shown.{shown_type, shown_core}
 use Rattle.smith_syntax.specs.declared.core_types.CoreType.{CoreType}
 use Rattle.smith_scopes.specs.Rows.{AreNoted}
 use Rattle.smith_scopes.specs.declared.scopes.equals.Equals.{Equals}
-use Rattle.smith_scopes.specs.declared.scopes.Kind.{Kind}
-use Rattle.smith_scopes.specs.declared.scopes.Kind.TheVariants as kind
 use Rattle.smith_syntax.specs.declared.deftype.DefType.{DefType}
+use Rattle.smith_scopes.specs.Positions.{plain_marked, plain_scope}
+pub use Rattle.smith_scopes.specs.Positions.{kind_places}
 pub use Rattle.smith_scopes.specs.Rows.{values_of}
 
 -- a scope of the program's own types
@@ -25,7 +24,7 @@ abbrev pub Types : Type 0
 Types = ScopeOf DefType CoreType
 
 abbrev pub shown_types : Types → Scope
-shown_types d = record { types = map shown_type d.types; core_types = map shown_core d.core_types }
+shown_types d = plain_scope shown_type shown_core d
 
 -- the same with what is kept of them
 abbrev pub Contents : Type 0
@@ -33,15 +32,7 @@ Contents = MarkedOf DefType CoreType
 
 -- these as plain trees
 abbrev pub shown_marked : Contents → Marked
-shown_marked d = record {
-  types = map shown_type d.types;
-  core_types = map shown_core d.core_types;
-  keeps = d.keeps;
-  marks = d.marks;
-  core_sizes = d.core_sizes;
-  exported = d.exported;
-  size = d.size;
-}
+shown_marked d = plain_marked shown_type shown_core d
 
 -- and without what is kept
 abbrev pub shown_scope : Contents → Scope
@@ -70,7 +61,7 @@ own_scope scopes = own_of (inward scopes)
 abbrev pub outer_scopes : List Contents → List Scope
 outer_scopes scopes = outer_of (inward scopes)
 
--- the scope of that count, where 0 is the last
+-- the scope of that count (0 is the last)
 abbrev pub scope_at : List Contents → ℕ → Contents
 scope_at scopes count = get_or (reverse scopes) count (empty_marked false)
 
@@ -81,7 +72,7 @@ last_of scopes = scope_at scopes 0
 abbrev pub lists_in : List Contents → List Types
 lists_in scopes = map scope_in scopes
 
--- those of the scope of that count, where 0 is the last
+-- the types of the scope of that count (0 is the last)
 abbrev pub lists_at : List Contents → ℕ → Types
 lists_at scopes count = get_or (reverse (lists_in scopes)) count empty_scope
 
@@ -106,30 +97,12 @@ AddsSized old ty n new = Changes (λ d. with_sized d ty n) old new
 abbrev pub AddsCoreType : List Contents → CoreType → List Contents → Type 0
 AddsCoreType old ty new = AddsSized old ty 0 new
 
--- the indexes of the entries of a kind, ascending
-abbrev pub kind_places : Kind → Scope → List ℕ
-kind_places kind.Defined s = places is_defined 0 s.types
-kind_places kind.Func s = places is_func 0 s.types
-kind_places kind.Component s = places is_component 0 s.types
-kind_places kind.Instance s = places is_instance 0 s.types
-kind_places kind.CoreFunc s = places is_core_func 0 s.core_types
-kind_places kind.CoreModule s = places is_core_module 0 s.core_types
-
--- The indexes of each kind, and the rows of the first types. An index has 32 bits.
-pub record IsTied (types : List DefType) (defined funcs components instances : List ℕ) (equals : Option (Box Equals Global)) : Type 0 where
-  pub defined_are : defined ≡ places is_defined 0 (map shown_type types)
-  pub funcs_are : funcs ≡ places is_func 0 (map shown_type types)
-  pub components_are : components ≡ places is_component 0 (map shown_type types)
-  pub instances_are : instances ≡ places is_instance 0 (map shown_type types)
-  pub equals_are : AreNoted equals types
-  pub few : length types ≤ max_u32
-
 -- the indexes of the function types of that signature, ascending
 abbrev pub equal_places : Signature → Types → List ℕ
 equal_places f d = places (has_signature f) 0 d.types
 
--- the indexes of each kind of core type
-pub record IsCoreTied (types : List CoreType) (funcs modules : List ℕ) : Type 0 where
-  pub funcs_are : funcs ≡ places is_core_func 0 (map shown_core types)
-  pub modules_are : modules ≡ places is_core_module 0 (map shown_core types)
-  pub few : length types ≤ max_u32
+-- What is known of a scope: the rows of the first types are theirs, and an index has 32 bits.
+pub record IsMade (s : Contents) (equals : Option (Box Equals Global)) : Type 0 where
+  pub equals_are : AreNoted equals s.types
+  pub few : length s.types ≤ max_u32
+  pub few_core : length s.core_types ≤ max_u32

@@ -26,7 +26,7 @@ module _ (config : Config) (t : Tree) (input bytes : List ℕ) (spells : Spells 
         let e : t ≡ component = (reading t).0 (subst (Spells t) (sym same) spells) in
         record { consistent = consistent; runs = subst (λ u. RunsTo config input u []) (sym e) (subst (RunsTo config input component) nothing run) }
 
-    -- Where it is generated, nothing is left, and the bytes are the same.
+    -- If it is generated, nothing is left, and the bytes are the same.
     pub nothing_left : IsGiven config t input → left ≡ []
     nothing_left g = (runs_to_same config input component t left [] run g.runs).1
 
@@ -36,7 +36,7 @@ module _ (config : Config) (t : Tree) (input bytes : List ℕ) (spells : Spells 
         let all : Spells t made = (reading t).1 (sym e) in
         let z : Some made ≡ Some bytes = sym all ∙ spells in cc
 
-  -- Where it is generated, nothing is refused, except when out of memory.
+  -- If it is generated, nothing is refused, except when out of memory.
   pub given_or_memory : IsGiven config t input → (e : Error) (left : List ℕ) → IsGenerateRefusal config input e left → e ≡ OutOfMemory
   given_or_memory g e left h = answer_or_memory config input t [] bytes g.consistent g.runs spells e left h
 

@@ -1,4 +1,4 @@
--- What there is in a component, where one more part is there.
+-- What there is in a component, when one more part is there.
 use Rattle.std.proofs.Common.{◌≡◌, ℕ, ◌+◌, List, [], ◌∷◌, ◌++◌, fold, length, refl, ap, sym, ◌∙◌, arith, append_assoc, append-nil, length-append}
 use Rattle.std.proofs.lemmas.List.Sums.{fold-append}
 use Rattle.std.specs.Option.{option_to_list}
@@ -46,7 +46,7 @@ export_last [] x s own = refl
 export_last (y ∷ xs) x s own = export_last xs x (export_behind s y) (with_exports_entry own (exported_reference s.functions y))
 
 module _ (config : Config) (outer : List Tree) (t : Tree) where
-  -- the same where a component is opened in the inner one
+  -- the same when a component is opened in the inner one
   pub opened_at : empty_in config.must_validate (opened (totals_in outer t)) ≡ standing_at config (outer ++ t ∷ []) ends
   opened_at =
       let close = sym (tree_so_far-close outer t ends) in
@@ -58,7 +58,7 @@ module _ (config : Config) (outer : List Tree) (t : Tree) where
       omega (arith, instance_count-so_far outer t (component ends), ap instance_count close) in
       λ x. empty_in config.must_validate (record { modules = m x; funcs = 0; components = c x; instances = n x })
 
-  -- and where it is closed
+  -- and when it is closed
   pub closed_at : (u : Tree)
       → record (standing_at config outer t) { totals = record (totals_in (outer ++ t ∷ []) u) { funcs = (totals_in outer t).funcs } }
       ≡ standing_at config outer (add t (component u))
@@ -104,7 +104,7 @@ canon_grows : (around : List Marked) (c : Canon) (own : Marked) (sp : Spaces) (i
 canon_grows around (lift c ty) own sp i e t = ap (λ (s : Preceding). counting s s.scope s.imports s.exports (with_function t)) (function_grows ty own sp i e t)
 canon_grows around (lower f) own sp i e t = refl
 
--- How a section grows, entry by entry: what there is where it has none, and one more.
+-- How a section grows, entry by entry: what there is when it has none, and one more.
 pub record Grows {A : Type 0} (after : Preceding → A → Preceding) (section : List A → Part) (config : Config) (outer : List Tree) (t : Tree) : Type 0 where
   pub start : standing_at config outer t ≡ standing_at config outer (add t (section []))
   pub step : (xs : List A) (x : A) → after (standing_at config outer (add t (section xs))) x ≡ standing_at config outer (add t (section (xs ++ x ∷ [])))
@@ -237,7 +237,7 @@ module _ (config : Config) (outer : List Tree) (t : Tree) where
     section_grown : (ys : List A) → fold after (standing_at config outer t) ys ≡ standing_at config outer (add t (section ys))
     section_grown ys = ap (λ s. fold after s ys) g.start ∙ all_grow [] ys
 
-  -- what there is after a section, where the types of the component functions are there
+  -- what there is after a section, if the types of the component functions are there
   pub section_at : (p : Part) → components_in p ≡ [] → Known (spaces_of t)
       → after_section around p (standing_at config outer t) ≡ standing_at config outer (add t p)
   section_at (custom n c) none known = bare (custom n c) refl refl refl refl refl

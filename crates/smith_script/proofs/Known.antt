@@ -32,7 +32,7 @@ scalars_more ts fs ty =
     sym (places-append (is_scalar_type ts) 0 fs (ty ∷ [])
     ∙ ap (λ n. places (is_scalar_type ts) 0 fs ++ (if is_scalar_type ts ty then n ∷ [] else [])) at)
 
--- Which functions flatten stays as it is where there are more types.
+-- Which functions flatten stays as it is when there are more types.
 pub types_stay : (sp : Spaces) (us : List Entry) → Known sp → scalar_functions sp ≡ scalar_functions (after_part sp (types us))
 types_stay sp us known =
     places_agree (is_scalar_type sp.types) (is_scalar_type (sp.types ++ us)) 0 sp.functions

@@ -11,10 +11,10 @@ use Rattle.std.specs.HashMap.{HashMap, get}
 use Rattle.std.specs.Prelude.{Option, slice_get, ◌≤◌, if◌then◌else◌}
 use Rattle.std.specs.declared.vec.Vec.{Vec}
 use Rattle.smith_component.proofs.Spaces.{get_last}
-use Rattle.smith_read_scopes.proofs.Tied.{gained, kept}
-use Rattle.smith_read_scopes.specs.Scope.{nodes_of}
-use Rattle.smith_read_types.specs.TypeNodes.{shown_type_node}
-use Rattle.smith_read_types.specs.declared.nodes.TypeNode.{TypeNode}
+use Rattle.smith_scopes.proofs.ByKind.{gained, unchanged}
+use Rattle.smith_scopes.specs.Nodes.{nodes_of}
+use Rattle.smith_read.specs.TypeNodes.{shown_type_node}
+use Rattle.smith_read.specs.declared.type_nodes.TypeNode.{TypeNode}
 use Rattle.smith_scopes.proofs.Places.{get_left}
 use Rattle.smith_scopes.specs.Rows.{row_in}
 use Rattle.smith_syntax.specs.Entries.{Entry, Signature, function}
@@ -180,14 +180,16 @@ module _ {Z S : Type 0} where
           by : (s : Signature) (c : Bool) → same_signature f s ≡ c → row_for n more s ≡ with_index f i s (row_for m rows s)
               → row_for n more s ≡ places (is_of_signature s) 0 (map shown_type_node (nodes_of new))
           by s true e r =
-              gained shown_type_node bs i at b new to (is_of_signature s) (are.row s) (ap (is_of_signature s) is ∙ sym (same_signature_equiv.symm f s) ∙ e)
+              gained (λ (x : Bor TypeNode). x.now) shown_type_node bs i at b new to (is_of_signature s) (are.row s)
+              (ap (is_of_signature s) is ∙ sym (same_signature_equiv.symm f s) ∙ e)
               (r ∙ ap (λ c. if c then row_for m rows s ++ i ∷ [] else row_for m rows s) e)
           by s false e r =
-              kept shown_type_node bs i at b new to (is_of_signature s) (are.row s) (ap (is_of_signature s) is ∙ sym (same_signature_equiv.symm f s) ∙ e)
+              unchanged (λ (x : Bor TypeNode). x.now) shown_type_node bs i at b new to (is_of_signature s) (are.row s)
+              (ap (is_of_signature s) is ∙ sym (same_signature_equiv.symm f s) ∙ e)
               (r ∙ ap (λ c. if c then row_for m rows s ++ i ∷ [] else row_for m rows s) e)
 
       pub pushed_other : ((s : Signature) → is_of_signature s (shown_type_node b.now) ≡ false) → Follows same_row m n rows more
           → AreEquals (map shown_type_node (nodes_of new)) ks n more
       pushed_other other h =
-          pushed h (λ s. kept shown_type_node bs i at b new to (is_of_signature s) (are.row s) (other s) (h.row s))
+          pushed h (λ s. unchanged (λ (x : Bor TypeNode). x.now) shown_type_node bs i at b new to (is_of_signature s) (are.row s) (other s) (h.row s))
           (λ s e. let z : true ≡ false = sym ((same_signature_Decides s s).1 refl) ∙ (ap (is_of_signature s) (sym e) ∙ other s) in absurd (cc))

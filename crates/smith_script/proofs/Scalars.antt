@@ -1,4 +1,4 @@
--- A primitive among those that flatten as it does.
+-- A primitive among the ones that flatten as it does.
 use Rattle.std.proofs.Common.{◌≡◌, refl}
 use Rattle.smith_input.specs.Script.{pick, script_among}
 use Rattle.smith_syntax.specs.contracts.types.PrimitiveValTypePartialEq.TheImpl.{ghosts as prims}

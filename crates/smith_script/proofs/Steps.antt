@@ -20,7 +20,7 @@ map_dropped f [] (suc i) h = refl
 map_dropped f (y ∷ xs) zero h = absurd (omega arith)
 map_dropped f (y ∷ xs) (suc i) h = map_dropped f xs i (omega arith)
 
--- a row of a section, and those after it
+-- a row of a section, and the ones after it
 pub rows_at : {S A B : Type 0} (f : A → B) (says : S → B → List ℕ) (after : S → B → S) (max done : ℕ) (s : S) (xs : List A) (i : ℕ) (x : A) → i < length xs
     → x ≡ get_or xs i x
     → script_loop says after 0 max done s (map f (drop i xs))
@@ -31,7 +31,7 @@ pub rows_end : {S A B : Type 0} (f : A → B) (says : S → B → List ℕ) (aft
     → script_loop says after 0 max done s (map f (drop i xs)) ≡ script_end done max
 rows_end f says after max done s xs i h = ap (script_loop says after 0 max done s) (map_dropped f xs i h)
 
--- a parameter of a lift, and those after it
+-- a parameter of a lift, and the ones after it
 pub params_at : (xs : List (String Global × ComponentValType)) (count i : ℕ) (x : String Global × ComponentValType) → i < length xs → x ≡ get_or xs i x
     → script_params count (map named (drop i xs))
     ≡ script_label count (string_bytes x.0) ++ script_scalar x.1 ++ script_params (count + 1) (map named (drop (i + 1) xs))

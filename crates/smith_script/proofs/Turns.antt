@@ -18,8 +18,8 @@ use Rattle.smith_tree.specs.declared.choices.Item.TheVariants as item
 use Rattle.smith_tree.specs.declared.totals.RefTotals.{RefTotals}
 use Rattle.smith_read.specs.PartNodes.{shown_part_node}
 use Rattle.smith_read.specs.declared.nodes.PartNode.{PartNode}
-use Rattle.smith_read_scopes.specs.Scopes.{outer_marked_in, shown_marked}
-use Rattle.smith_read_scopes.specs.declared.scopes.Scopes.{Scopes}
+use Rattle.smith_scopes.specs.NodeScopes.{outer_marked_in, shown_marked}
+use Rattle.smith_scopes.specs.declared.nodes.NodeScopes.{NodeScopes}
 use Rattle.smith_component.proofs.Growth.{spaces-add}
 use Rattle.smith_component.proofs.RunsFinishable.{length-parts-add}
 use Rattle.smith_component.proofs.Sound.{marked_from-snoc, scopes_from-snoc}
@@ -33,8 +33,8 @@ use Rattle.smith_script.proofs.Known.{known_part}
 use Rattle.smith_script.proofs.Same.{item_same, section_same}
 
 -- how many scopes there are around
-pub depth_is : (s : Scopes) (n : ℕ) → n ≡ length s.outer.items → length (outer_marked_in s) ≡ n
-depth_is s n e = omega (arith, e, length-reverse (map shown_marked s.outer.items), length-map s.outer.items shown_marked)
+pub depth_is : (s : NodeScopes) (n : ℕ) → n ≡ length s.nest.outer.items → length (outer_marked_in s) ≡ n
+depth_is s n e = omega (arith, e, length-reverse (map shown_marked s.nest.outer.items), length-map s.nest.outer.items shown_marked)
 
 module _ {config : Config} {outer : List Tree} {before : Tree} {around : List Marked} {s : Preceding} (after : IsAfter config outer before around s) where
   pub item_said : (chosen : Item) (n : ℕ) → n ≡ length (parts_of before) → item_says config around n s chosen ≡ script_item config outer before chosen
@@ -88,7 +88,7 @@ pub record Reached (config : Config) (outer : List Tree) (old new : Vec ℕ Glob
 
 module _ {config : Config} {outer : List Tree} {old new : Vec ℕ Global} {ps : List PartNode} {i n : ℕ} {around : List Marked} {s : Preceding}
     (reached : Reached config outer old new ps i n around s) where
-  -- a part, and those after it
+  -- a part, and the ones after it
   module _ (x : PartNode) (h : i < length ps) (e : x ≡ get_or ps i x) where
     pub this_formed : FormedPart (shown_part_node x) (scopes_in outer) (tree_upto i ps)
     this_formed = ((formed_at ps i x h e (scopes_in outer)).to reached.formed).0

@@ -18,7 +18,7 @@ module _ {Z S : Type 0} where
   abbrev pub row_for : HashMap Signature ℕ S → List (Vec ℕ Z) → Signature → List ℕ
   row_for numbers rows s = row_at rows (get same_signature numbers s)
 
-  -- Each number is that of a row, and of signatures that are equal.
+  -- Each number is a row's, and belongs to signatures that are equal.
   pub record IsNumbered (numbers : HashMap Signature ℕ S) (rows : List (Vec ℕ Z)) : Type 0 where
     pub within : (s : Signature) (k : ℕ) → get same_signature numbers s ≡ Some k → k < length rows
     pub apart : (s t : Signature) (k : ℕ) → get same_signature numbers s ≡ Some k → get same_signature numbers t ≡ Some k → s ≡ t

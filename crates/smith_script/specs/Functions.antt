@@ -1,4 +1,4 @@
--- Indexes that are among those of a list, ascending.
+-- Indexes that are among a list's, ascending.
 use Rattle.std.specs.Prelude.{ℕ, ◌<◌, List, length}
 use Rattle.std.specs.List.{AllByRecursion}
 use Rattle.std.specs.List.Sorted.{IsStrictlyIncreasing}

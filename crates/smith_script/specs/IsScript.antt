@@ -1,5 +1,7 @@
 -- What the script of a component is.
-use Rattle.std.specs.Prelude.{◌≡◌, ℕ, List, []}
+use Rattle.std.specs.Prelude.{◌≡◌, ℕ, List, [], Option, None, Some}
+use Rattle.std.specs.declared.alloc.Global.{Global}
+use Rattle.std.specs.declared.vec.Vec.{Vec}
 use Rattle.smith_input.specs.Script.{AreBytes}
 use Rattle.smith_format.specs.Consistency.{IsConsistent}
 use Rattle.smith_format.specs.declared.config.Config.{Config}
@@ -24,3 +26,8 @@ pub record IsScript (config : Config) (t : Tree) (b : List ℕ) : Type 0 where
 -- No input leads to the tree, which has bytes, except for one whose end finishes a component of it early.
 abbrev pub CannotBeGenerated : Config → Tree → Type 0
 CannotBeGenerated config t = (input left c : List ℕ) → Spells t c → IsFollowed config left → ¬ RunsTo config input t left
+
+-- These bytes are the script of the tree, or it has none.
+abbrev pub IsScriptIfAny : Config → Tree → Option (Vec ℕ Global) → Type 0
+IsScriptIfAny config t (Some b) = IsScript config t b.items
+IsScriptIfAny config t None = (b : List ℕ) → ¬ IsScript config t b

@@ -1,4 +1,5 @@
 pub mod Difference
+pub mod Drafts
 pub mod Equals
 pub mod Functions
 pub mod IsScript

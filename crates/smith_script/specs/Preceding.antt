@@ -7,7 +7,7 @@ use Rattle.smith_syntax.specs.Marked.{Marked, empty_marked}
 use Rattle.smith_syntax.specs.declared.deftype.ComponentTypeRef.{ComponentTypeRef}
 use Rattle.smith_tree.specs.declared.totals.RefTotals.{RefTotals}
 use Rattle.smith_format.specs.declared.config.Config.{Config}
-use Rattle.smith_read_types.specs.TypeNodes.{shown_type_node}
+use Rattle.smith_read.specs.TypeNodes.{shown_type_node}
 use Rattle.smith_tree.specs.Offers.{is_scalar_type, scalar_functions, totals_of}
 use Rattle.smith_tree.specs.Marking.{exported_reference, marked_in, marked_inner, with_core_entry, with_exports_entry, with_import_entry, with_type_entry}
 use Rattle.smith_tree.specs.Spaces.{Spaces, spaces_of}
@@ -15,9 +15,9 @@ use Rattle.smith_tree.specs.Tree.{Canon, ExportEntry, lift, lower, Tree, Part, c
 use Rattle.smith_tree.specs.Tree.{imports, exports, exports_of, imports_of, function_of, module_of, component_of, instance_of}
 use Rattle.smith_script.specs.declared.preceding.Open.{Open}
 
--- In one open component: its scope, its types, its component functions by the indexes of their types, those of them whose type flattened
--- where they were added, its core functions by what they lower, how many imports and exports it has, and how many functions; and how many
--- modules, components and instances there are in the whole tree.
+-- In one open component: its scope, its types, its component functions by the indexes of their types, the ones of them whose type
+-- flattened when they were added, its core functions by what they lower, how many imports and exports it has, and how many functions; and
+-- how many modules, components and instances there are in the whole tree.
 pub record Preceding : Type 0 where
   pub scope : Marked
   pub types : List Entry
@@ -49,7 +49,7 @@ spaces_in s = record { types = s.types; core_types = s.scope.core_types; functio
 abbrev pub with_function : RefTotals → RefTotals
 with_function t = record { modules = t.modules; funcs = t.funcs + 1; components = t.components; instances = t.instances }
 
--- what is counted where that is imported
+-- what is counted when that is imported
 abbrev pub with_import : RefTotals → ComponentTypeRef → RefTotals
 with_import t r = record {
   modules = t.modules + length (module_of r);
@@ -99,11 +99,11 @@ after_module s = record s {
   totals = record { modules = s.totals.modules + 1; funcs = s.totals.funcs; components = s.totals.components; instances = s.totals.instances };
 }
 
--- in an empty component of a tree with these totals, where marks are kept or not
+-- in an empty component of a tree with these totals, whether marks are kept or not
 abbrev pub empty_in : Bool → RefTotals → Preceding
 empty_in keeps t = record { scope = empty_marked keeps; types = []; functions = []; scalars = []; core_functions = []; imports = 0; exports = 0; totals = t }
 
--- the totals where a component is opened
+-- the totals when a component is opened
 abbrev pub opened : RefTotals → RefTotals
 opened t = record { modules = t.modules; funcs = 0; components = t.components + 1; instances = t.instances }
 
@@ -118,7 +118,7 @@ after_section outer (canons fs) s = fold (after_canon outer) s fs
 after_section outer (imports is) s = fold (after_import outer) s is
 after_section outer (exports es) s = fold (after_export outer) s es
 
--- what there is where this scope and these spaces are, that many imports and exports, and these totals
+-- what there is when this scope and these spaces are there, that many imports and exports, and these totals
 abbrev pub stands : Marked → Spaces → ℕ → ℕ → RefTotals → Preceding
 stands own sp i e t = record {
   scope = own;
@@ -131,7 +131,7 @@ stands own sp i e t = record {
   totals = t;
 }
 
--- the totals, and what there is, in the inner component of those that are open
+-- the totals, and what there is, in the inner component of the open ones
 abbrev pub totals_in : List Tree → Tree → RefTotals
 totals_in outer t = totals_of (record { outer = outer; inner = t })
 
@@ -142,7 +142,7 @@ standing_at config outer t = stands (marked_inner config outer t) (spaces_of t) 
 abbrev pub Known : Spaces → Type 0
 Known sp = AllByRecursion (λ ty. ty < length sp.types) sp.functions
 
--- Where these components are open, the inner one after these parts, there are these scopes around, and this before.
+-- When these components are open, the inner one after these parts, there are these scopes around, and this before.
 pub record IsAfter (config : Config) (outer : List Tree) (before : Tree) (around : List Marked) (s : Preceding) : Type 0 where
   pub scopes : around ≡ marked_in config outer
   pub here : s ≡ standing_at config outer before

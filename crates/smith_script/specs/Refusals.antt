@@ -1,12 +1,21 @@
 -- Why no script of the component that bytes are is returned.
 use Rattle.std.specs.Prelude.{◌≤◌, ℕ, List, length, IfSome}
+use Rattle.smith_tree.specs.Depths.{scope_depth}
+use Rattle.smith_tree.specs.Grammar.{Spells}
+use Rattle.smith_tree.specs.Tree.{Tree}
 use Rattle.smith_tree.specs.WellFormed.{WellFormed}
 use Rattle.smith_check.specs.Upto.{StopsAt}
-use Rattle.smith_read.specs.Reads.{AreRead, AreUnread}
+use Rattle.smith_read.specs.Reads.{AreRead, AreUnread, most_depth}
 use Rattle.smith_script.specs.declared.error.ScriptError.{ScriptError}
 use Rattle.smith_script.specs.declared.error.ScriptError.TheVariants as error
 use Rattle.smith_script.specs.declared.scripting.Trial.{Trial}
 use Rattle.smith_script.specs.declared.scripting.Trial.TheVariants as trial
+
+-- They are read as that tree, which is well formed.
+pub record AreReadAs (bytes : List ℕ) (t : Tree) : Type 0 where
+  pub spelled : Spells t bytes
+  pub shallow : scope_depth t ≤ most_depth
+  pub formed : WellFormed t
 
 -- They are not read; they are a component that is not well formed, and stops being so at the entry of that place; or they are one that is, and
 -- what is produced differs in them or at their end. Whether the limits fit together, and memory, are not of the bytes.

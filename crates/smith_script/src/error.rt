@@ -46,9 +46,9 @@ pub enum ScriptError {
     /// `judged` of `smith_check` finds them. Which rule it is, no contract says.
     IllFormed(Fault),
     /// The component is well formed, but no input produces it within the limits. A limit that it does not keep is
-    /// named; otherwise a name is too long, or a core module is none of those that can be generated. `offset` is that
-    /// of the first byte in which the component that its script produces differs, if there is one. Contracts say only
-    /// that it is in the bytes or at their end, and nothing of the limit.
+    /// named; otherwise a name is too long, or a core module can't be generated. `offset` is where the component that
+    /// its script produces first differs, if it does. Contracts say only that it is in the bytes or at their end, and
+    /// nothing of the limit.
     NoScript {
         limit: Option<Unkept>,
         offset: Option<usize>,

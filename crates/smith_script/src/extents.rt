@@ -12,7 +12,7 @@ pub(crate) struct Extent {
 }
 
 impl Extent {
-    /// That of a type with that many members, which needs that much without any.
+    /// The extent of a type with that many members, which needs that much without any.
     pub(crate) fn of_members(count: usize, least: usize) -> Extent {
         let need = if count == 0 {
             least
@@ -26,13 +26,13 @@ impl Extent {
         }
     }
 
-    /// That of a core type.
+    /// The extent of a core type.
     pub(crate) fn of_core(ty: &CoreNode) -> Extent {
         let is_empty = matches!(ty, CoreNode::Module(decls) if decls.is_empty());
         Extent::of_members(core_size(ty), if is_empty { 0 } else { 2 })
     }
 
-    /// That of a type with one more declaration, which is of this extent.
+    /// The extent of a type with one more declaration, which is of this extent.
     pub(crate) fn with(self, next: Extent) -> Extent {
         let need = self.cost.saturating_add(next.need.max(1)).saturating_add(1);
         Extent {
@@ -42,7 +42,7 @@ impl Extent {
         }
     }
 
-    /// That of a type that is declared.
+    /// The extent of a type that is declared.
     pub(crate) fn nested(self) -> Extent {
         Extent {
             depth: self.depth.saturating_add(1).max(2),

@@ -65,7 +65,7 @@ impl Functions {
         self.types.get(func as usize).copied()
     }
 
-    /// The indexes of those that can be lowered.
+    /// The indexes of the ones that can be lowered.
     pub(crate) fn scalars(&self) -> &[usize]
         ensures scalars { result.now ≡ self.now.1 }
         ensures ascending { IsStrictlyIncreasing result.now }

@@ -3,7 +3,7 @@
 ghost use Rattle.std.specs.Prelude.{◌≡◌, ◌+◌, List, length, IfOk, IfErr};
 ghost use Rattle.smith_input.specs.declared.error.Error.TheVariants.{OutOfMemory};
 ghost use Rattle.smith_read.specs.PartNodes.{shown_part_node};
-ghost use Rattle.smith_read_scopes.specs.Scopes.{outer_marked_in};
+ghost use Rattle.smith_scopes.specs.NodeScopes.{outer_marked_in};
 ghost use Rattle.smith_syntax.specs.Marked.{Marked};
 ghost use Rattle.smith_tree.specs.Script.{item_of};
 ghost use Rattle.smith_script_core.specs.Says.{Says};
@@ -12,8 +12,8 @@ ghost use Rattle.smith_script.specs.Preceding.{preceding};
 
 use crate::preceding::Open;
 use smith_read::PartNode;
-use smith_read_scopes::Scopes;
-use smith_script_types::{Error, Given, one_more, put_among};
+use smith_scopes::NodeScopes;
+use smith_script_types::{Error, Given, one_more, say_among};
 use smith_tree::{Item, item_choices};
 
 /// The item of a part.
@@ -41,11 +41,11 @@ pub(crate) struct Turn {
 
 impl Turn {
     /// The first turn of a component in these scopes.
-    pub(crate) fn first(scopes: &Scopes<'_>) -> Turn
+    pub(crate) fn first(scopes: &NodeScopes<'_>) -> Turn
         ensures depth { length (outer_marked_in scopes.now) ≡ result.depth }
         ensures none { result.sections ≡ 0 }
     {
-        let depth = scopes.outer.len();
+        let depth = scopes.nest.outer.len();
         Turn { depth, sections: 0 }
     }
 
@@ -60,7 +60,7 @@ impl Turn {
 }
 
 /// The choice of an item.
-pub(crate) fn put_item(
+pub(crate) fn say_item(
     out: &mut Vec<u8>,
     given: Given<'_>,
     turn: Turn,
@@ -77,5 +77,5 @@ pub(crate) fn put_item(
         && here.totals.components < config.max_components;
     let exports = config.max_exports > 0;
     let items = item_choices(finish, modules, components, exports);
-    put_among(out, items, &item)
+    say_among(out, items, &item)
 }

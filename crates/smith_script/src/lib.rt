@@ -17,7 +17,7 @@ mod scripting;
 mod types;
 
 pub use error::{ScriptError, Unkept};
-pub use scripting::script;
+pub use scripting::{script, script_of};
 pub use smith_check::Fault;
 pub use smith_format::Config;
 pub use smith_read::Reason;

@@ -210,7 +210,7 @@ impl Needs {
     #[cycle(parts)]
     fn add_part(&mut self, depth: usize, own: &mut Own, part: &PartNode) {
         match part {
-            PartNode::Custom { .. } => {}
+            PartNode::Custom(_) => {}
             PartNode::CoreModule(_) => add(&mut self.modules, 1),
             PartNode::CoreTypes(types) => {
                 add(&mut own.core_types, types.len());
@@ -230,7 +230,7 @@ impl Needs {
                 add(&mut own.funcs, self.add_imports(imports));
             }
             PartNode::Exports(exports) => {
-                // Where `max_exports` is 0, no export section is offered, not even an empty one.
+                // If `max_exports` is 0, no export section is offered, not even an empty one.
                 raise(&mut self.exports, 1);
                 add(&mut own.exports, exports.len());
             }

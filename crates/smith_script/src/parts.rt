@@ -9,22 +9,22 @@ ghost use Rattle.smith_tree.specs.Tree.{Tree, add, ends, tree_of};
 ghost use Rattle.smith_tree.specs.WellFormed.{Formed, FormedPart, WellFormed};
 ghost use Rattle.smith_tree.specs.Script.{script, script_from, script_part};
 ghost use Rattle.smith_read.specs.PartNodes.{shown_part_node, shown_tree};
-ghost use Rattle.smith_read_scopes.specs.Scopes.{outer_marked_in, own_marked_in};
+ghost use Rattle.smith_scopes.specs.NodeScopes.{outer_marked_in, own_marked_in};
 ghost use Rattle.smith_script_core.specs.Says.{Says};
 ghost use Rattle.smith_input.specs.declared.error.Error.TheVariants.{OutOfMemory};
 ghost use Rattle.smith_script.specs.Saying.{section_says};
 ghost use Rattle.smith_script.specs.Preceding.{IsAfter, after_module, after_section, empty_in, opened, preceding};
 ghost use Rattle.smith_script.specs.Preceding.{totals_in};
 
-use crate::items::{Turn, item_of, put_item};
+use crate::items::{Turn, item_of, say_item};
 use crate::preceding::Open;
-use crate::rows::put_rows;
+use crate::rows::say_rows;
 use smith_read::{ComponentTree, PartNode};
-use smith_read_scopes::Scopes;
-use smith_script_types::{Error, Given, one_more, put_contents, put_stand_in, put_text};
+use smith_scopes::NodeScopes;
+use smith_script_types::{Error, Given, one_more, say_contents, say_stand_in, say_text};
 use smith_tree::{Item, RefTotals};
 
-// The totals where a component is opened.
+// The totals when a component is opened.
 fn opened(totals: RefTotals) -> Result<RefTotals, Error>
     ensures totals { IfOk result (λ t. t ≡ opened totals) }
     ensures memory { IfErr result (λ e. e ≡ OutOfMemory) }
@@ -38,15 +38,15 @@ fn opened(totals: RefTotals) -> Result<RefTotals, Error>
 }
 
 // A custom section.
-fn put_custom(out: &mut Vec<u8>, name: &str, contents: &[u8]) -> Result<(), Error>
+fn say_custom(out: &mut Vec<u8>, name: &str, contents: &[u8]) -> Result<(), Error>
     ensures { Says result out.old out.new (script_text 1000 name.now ++ script_bytes contents.now) }
 {
-    put_text(out, name)?;
-    put_contents(out, contents)
+    say_text(out, name)?;
+    say_contents(out, contents)
 }
 
 // A core module, which is added to what is before the next section.
-fn put_module(
+fn say_module(
     given: Given<'_>,
     out: &mut Vec<u8>,
     here: &mut Open<'_>,
@@ -55,16 +55,16 @@ fn put_module(
     ensures said { Says result out.old out.new (script_stand_in given.entry.config.now (stand_in_of text.now)) }
     ensures added { (own : Marked) → OnOk result (preceding own here.new ≡ after_module (preceding own here.old)) }
 {
-    put_stand_in(given.alloc, out, given.config, text)?;
+    say_stand_in(given.alloc, out, given.config, text)?;
     here.add_module()
 }
 
 // What follows the choice of the item of a section, which is added to what is before the next. A component in it is
 // none.
-fn put_section<'a>(
+fn say_section<'a>(
     given: Given<'_>,
     out: &mut Vec<u8>,
-    scopes: &mut Scopes<'a>,
+    scopes: &mut NodeScopes<'a>,
     here: &mut Open<'a>,
     part: &'a PartNode,
 ) -> Result<(), Error>
@@ -77,38 +77,40 @@ fn put_section<'a>(
 {
     let config = given.config;
     match part {
-        PartNode::Custom { name, contents } => put_custom(out, name, contents),
-        PartNode::CoreModule(text) => put_module(given, out, here, text),
+        PartNode::Custom(section) => say_custom(out, &section.name, &section.bytes),
+        PartNode::CoreModule(text) => say_module(given, out, here, text),
         PartNode::CoreTypes(types) => {
-            let most = config.max_types.saturating_sub(scopes.own.core_types_len());
-            put_rows(given, out, scopes, here, most, types)
+            let most = config
+                .max_types
+                .saturating_sub(scopes.nest.own.core_types_len());
+            say_rows(given, out, scopes, here, most, types)
         }
         PartNode::Component(_) => Ok(()),
         PartNode::Types(types) => {
-            let most = config.max_types.saturating_sub(scopes.own.types_len());
-            put_rows(given, out, scopes, here, most, types)
+            let most = config.max_types.saturating_sub(scopes.nest.own.types_len());
+            say_rows(given, out, scopes, here, most, types)
         }
         PartNode::Canons(canons) => {
             let most = config.max_funcs.saturating_sub(here.totals.funcs);
-            put_rows(given, out, scopes, here, most, canons)
+            say_rows(given, out, scopes, here, most, canons)
         }
         PartNode::Imports(imports) => {
             let most = config.max_imports.saturating_sub(here.imports);
-            put_rows(given, out, scopes, here, most, imports)
+            say_rows(given, out, scopes, here, most, imports)
         }
         PartNode::Exports(exports) => {
             let most = config.max_exports.saturating_sub(here.exports);
-            put_rows(given, out, scopes, here, most, exports)
+            say_rows(given, out, scopes, here, most, exports)
         }
     }
 }
 
 // What follows the choice of the item of a part, which is added to what is before the next.
 #[cycle(parts)]
-fn put_part<'a>(
+fn say_part<'a>(
     given: Given<'_>,
     out: &mut Vec<u8>,
-    scopes: &mut Scopes<'a>,
+    scopes: &mut NodeScopes<'a>,
     here: &mut Open<'a>,
     part: &'a PartNode,
 ) -> Result<(), Error>
@@ -131,7 +133,7 @@ fn put_part<'a>(
         PartNode::Component(parts) => {
             let totals = opened(here.totals)?;
             scopes.enter(given.alloc)?;
-            let inner = put_parts(given, out, scopes, totals, parts)?;
+            let inner = say_parts(given, out, scopes, totals, parts)?;
             scopes.leave();
             here.totals = RefTotals {
                 funcs: here.totals.funcs,
@@ -139,22 +141,22 @@ fn put_part<'a>(
             };
             Ok(())
         }
-        PartNode::Custom { .. }
+        PartNode::Custom(_)
         | PartNode::CoreModule(_)
         | PartNode::CoreTypes(_)
         | PartNode::Types(_)
         | PartNode::Canons(_)
         | PartNode::Imports(_)
-        | PartNode::Exports(_) => put_section(given, out, scopes, here, part),
+        | PartNode::Exports(_) => say_section(given, out, scopes, here, part),
     }
 }
 
-// The sections of a component that is opened with these totals, in an empty scope. Returns those where it ends.
+// The sections of a component that is opened with these totals, in an empty scope. Returns the totals at its end.
 #[cycle(parts)]
-fn put_parts<'a>(
+fn say_parts<'a>(
     given: Given<'_>,
     out: &mut Vec<u8>,
-    scopes: &mut Scopes<'a>,
+    scopes: &mut NodeScopes<'a>,
     totals: RefTotals,
     parts: &'a [PartNode],
 ) -> Result<RefTotals, Error>
@@ -172,16 +174,16 @@ fn put_parts<'a>(
     let mut here = Open::new(given.alloc, totals);
     let mut turn = Turn::first(scopes);
     for part in parts {
-        put_item(out, given, turn, &here, item_of(part))?;
-        put_part(given, out, scopes, &mut here, part)?;
+        say_item(out, given, turn, &here, item_of(part))?;
+        say_part(given, out, scopes, &mut here, part)?;
         turn = turn.next()?;
     }
-    put_item(out, given, turn, &here, Item::Finish)?;
+    say_item(out, given, turn, &here, Item::Finish)?;
     Ok(here.totals)
 }
 
 /// The script of a component, as it is defined of one that is well formed.
-pub(crate) fn put_tree(
+pub(crate) fn say_tree(
     out: &mut Vec<u8>,
     given: Given<'_>,
     tree: &ComponentTree,
@@ -195,7 +197,7 @@ pub(crate) fn put_tree(
         components: 0,
         instances: 0,
     };
-    let mut scopes = Scopes::with_marks(given.alloc, given.config.must_validate);
-    put_parts(given, out, &mut scopes, totals, &tree.parts)?;
+    let mut scopes = NodeScopes::with_marks(given.alloc, given.config.must_validate);
+    say_parts(given, out, &mut scopes, totals, &tree.parts)?;
     Ok(())
 }

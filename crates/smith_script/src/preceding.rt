@@ -2,8 +2,9 @@
 
 ghost use Rattle.std.specs.Prelude.{◌≡◌, Bool, List, ◌+◌, ◌∷◌, [], map, IfOk, IfErr, OnOk};
 ghost use Rattle.std.specs.Option.{option_to_list};
-ghost use Rattle.smith_read_types.specs.TypeNodes.{shown_type_node};
-ghost use Rattle.smith_read.specs.PartNodes.{shown_export_node, shown_import_node};
+ghost use Rattle.smith_read.specs.TypeNodes.{shown_type_node};
+ghost use Rattle.smith_read.specs.PartNodes.{shown_import_node};
+ghost use Rattle.smith_tree.specs.Shown.{shown_export};
 ghost use Rattle.smith_syntax.specs.Marked.{Marked, empty_marked};
 ghost use Rattle.smith_tree.specs.Marking.{exported_reference, with_exports_entry, with_import_entry, with_type_entry};
 ghost use Rattle.smith_tree.specs.Offers.{is_scalar_entry, is_scalar_type};
@@ -14,7 +15,7 @@ ghost use Rattle.smith_script.specs.Preceding.{after_type, empty_in, preceding, 
 
 use crate::functions::Functions;
 use crate::types::Types;
-use smith_read::{ExportNode, ImportNode, TypeNode};
+use smith_read::{Export, ImportNode, TypeNode};
 use smith_script_types::{Error, one_more};
 use smith_syntax::ComponentTypeRef;
 use smith_tree::RefTotals;
@@ -33,7 +34,7 @@ pub(crate) struct Open<'a> {
     pub(crate) totals: RefTotals,
 }
 
-// What is counted where that is imported.
+// What is counted when that is imported.
 fn with_import(totals: RefTotals, to: ComponentTypeRef) -> Result<RefTotals, Error>
     ensures totals { IfOk result (λ t. t ≡ with_import totals to) }
     ensures memory { IfErr result (λ e. e ≡ OutOfMemory) }
@@ -179,14 +180,14 @@ impl<'a> Open<'a> {
         Ok(())
     }
 
-    pub(crate) fn add_export(&mut self, export: &ExportNode) -> Result<(), Error>
+    pub(crate) fn add_export(&mut self, export: &Export) -> Result<(), Error>
         ensures added { (own : Marked) (outer : List Marked) → OnOk result
             (preceding (with_exports_entry own
-            (exported_reference (preceding own self.old).functions (shown_export_node export.now))) self.new
-            ≡ after_export outer (preceding own self.old) (shown_export_node export.now)) }
+            (exported_reference (preceding own self.old).functions (shown_export export.now))) self.new
+            ≡ after_export outer (preceding own self.old) (shown_export export.now)) }
         ensures memory { IfErr result (λ e. e ≡ OutOfMemory) }
     {
-        let ty = self.functions.type_of(export.func);
+        let ty = self.functions.type_of(export.func_index);
         self.add_function_of(ty)?;
         self.exports = one_more(self.exports)?;
         Ok(())

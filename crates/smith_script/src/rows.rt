@@ -5,10 +5,11 @@ ghost use Rattle.std.specs.Option.{option_to_list};
 ghost use Rattle.smith_format.specs.declared.config.Config.{Config};
 ghost use Rattle.smith_syntax.specs.Entries.{CoreEntry, Entry, ImportEntry};
 ghost use Rattle.smith_syntax.specs.Marked.{Marked};
-ghost use Rattle.smith_read_types.specs.Nodes.{shown_core_node};
-ghost use Rattle.smith_read_types.specs.TypeNodes.{shown_type_node};
-ghost use Rattle.smith_read.specs.PartNodes.{shown_canon_node, shown_export_node, shown_import_node};
-ghost use Rattle.smith_read_scopes.specs.Scopes.{outer_marked_in, own_marked_in};
+ghost use Rattle.smith_read.specs.Nodes.{shown_core_node};
+ghost use Rattle.smith_read.specs.TypeNodes.{shown_type_node};
+ghost use Rattle.smith_read.specs.PartNodes.{shown_import_node};
+ghost use Rattle.smith_tree.specs.Shown.{shown_canon, shown_export};
+ghost use Rattle.smith_scopes.specs.NodeScopes.{outer_marked_in, own_marked_in};
 ghost use Rattle.smith_tree.specs.Marking.{with_exports_entry};
 ghost use Rattle.smith_tree.specs.Tree.{Canon, ExportEntry};
 ghost use Rattle.smith_script_core.specs.Says.{Says};
@@ -17,13 +18,13 @@ ghost use Rattle.smith_script.specs.Saying.{type_says};
 ghost use Rattle.smith_script.specs.Preceding.{Preceding, after_canon, after_core_type, after_export, after_import};
 ghost use Rattle.smith_script.specs.Preceding.{after_type, preceding};
 
-use crate::canons::put_canon;
+use crate::canons::say_canon;
 use crate::preceding::Open;
-use smith_read::{CanonNode, CoreNode, ExportNode, ImportNode, TypeNode};
-use smith_read_scopes::Scopes;
+use smith_read::{CoreNode, Export, Func, ImportNode, TypeNode};
+use smith_scopes::NodeScopes;
 use smith_script_types::{
-    Error, Given, Purpose, put_choice, put_core, put_end, put_extern, put_more, put_name,
-    put_reference, put_type,
+    Error, Given, Purpose, say_choice, say_core, say_end, say_extern, say_more, say_name,
+    say_reference, say_type,
 };
 use smith_syntax::ComponentTypeRef;
 
@@ -38,11 +39,11 @@ pub(crate) trait Row {
     ghost after: { List Marked → Preceding → Shown → Preceding };
 
     /// Puts the script of the entry, and adds it to what is before the next.
-    fn put<'a>(
+    fn say<'a>(
         &'a self,
         given: Given<'_>,
         out: &mut Vec<u8>,
-        scopes: &mut Scopes<'a>,
+        scopes: &mut NodeScopes<'a>,
         here: &mut Open<'a>,
     ) -> Result<(), Error>
         ensures said { Says result out.old out.new (says given.entry.config.now (outer_marked_in scopes.old)
@@ -53,10 +54,10 @@ pub(crate) trait Row {
 }
 
 /// A section with these entries, of which there are at most that many.
-pub(crate) fn put_rows<'a, T: Row>(
+pub(crate) fn say_rows<'a, T: Row>(
     given: Given<'_>,
     out: &mut Vec<u8>,
-    scopes: &mut Scopes<'a>,
+    scopes: &mut NodeScopes<'a>,
     here: &mut Open<'a>,
     max: usize,
     rows: &'a [T],
@@ -71,11 +72,11 @@ pub(crate) fn put_rows<'a, T: Row>(
 {
     let mut done = 0;
     for row in rows {
-        put_more(out, 0, done)?;
-        row.put(given, out, scopes, here)?;
+        say_more(out, 0, done)?;
+        row.say(given, out, scopes, here)?;
         done += 1;
     }
-    put_end(out, done, max)
+    say_end(out, done, max)
 }
 
 impl Row for CoreNode {
@@ -87,14 +88,14 @@ impl Row for CoreNode {
 
     ghost after = { after_core_type };
 
-    fn put<'a>(
+    fn say<'a>(
         &'a self,
         given: Given<'_>,
         out: &mut Vec<u8>,
-        scopes: &mut Scopes<'a>,
+        scopes: &mut NodeScopes<'a>,
         _here: &mut Open<'a>,
     ) -> Result<(), Error> {
-        put_core(out, given.place(scopes), given.config.max_type_size, self)?;
+        say_core(out, given.place(scopes), given.config.max_type_size, self)?;
         scopes.add_core_entry(given.alloc, self)?;
         Ok(())
     }
@@ -109,39 +110,42 @@ impl Row for TypeNode {
 
     ghost after = { after_type };
 
-    fn put<'a>(
+    fn say<'a>(
         &'a self,
         given: Given<'_>,
         out: &mut Vec<u8>,
-        scopes: &mut Scopes<'a>,
+        scopes: &mut NodeScopes<'a>,
         here: &mut Open<'a>,
     ) -> Result<(), Error> {
-        let typed = put_type(out, given, scopes, given.config.max_type_size, self)?;
+        let typed = say_type(out, given, scopes, given.config.max_type_size, self)?;
         scopes.add_marked(self, typed.mark)?;
         here.add_type(self)
     }
 }
 
-impl Row for CanonNode {
+impl Row for Func {
     ghost Shown = { Canon };
 
-    ghost shown = { shown_canon_node };
+    ghost shown = { shown_canon };
 
     ghost says = { canon_row_says };
 
     ghost after = { after_canon };
 
-    fn put<'a>(
+    fn say<'a>(
         &'a self,
         given: Given<'_>,
         out: &mut Vec<u8>,
-        _scopes: &mut Scopes<'a>,
+        _scopes: &mut NodeScopes<'a>,
         here: &mut Open<'a>,
     ) -> Result<(), Error> {
-        put_canon(given.alloc, out, here, self)?;
+        say_canon(given.alloc, out, here, self)?;
         match *self {
-            CanonNode::Lift { core_func, ty } => here.add_lift(core_func, ty),
-            CanonNode::Lower { func } => here.add_lower(func),
+            Func::CanonLift {
+                func_ty,
+                core_func_index,
+            } => here.add_lift(core_func_index, func_ty),
+            Func::CanonLower { func_index } => here.add_lower(func_index),
         }
     }
 }
@@ -155,11 +159,11 @@ impl Row for ImportNode {
 
     ghost after = { after_import };
 
-    fn put<'a>(
+    fn say<'a>(
         &'a self,
         given: Given<'_>,
         out: &mut Vec<u8>,
-        scopes: &mut Scopes<'a>,
+        scopes: &mut NodeScopes<'a>,
         here: &mut Open<'a>,
     ) -> Result<(), Error> {
         let purpose = Purpose {
@@ -167,15 +171,15 @@ impl Row for ImportNode {
             for_import: true,
             for_type_def: false,
         };
-        put_reference(out, given.place(scopes), purpose, self.to)?;
-        put_extern(out, here.imports, &self.name)?;
+        say_reference(out, given.place(scopes), purpose, self.to)?;
+        say_extern(out, here.imports, &self.name)?;
         scopes.note_import(self.to);
         here.add_import(self)
     }
 }
 
 // Notes the export of a function, of the type of the function that it names.
-fn note_export(scopes: &mut Scopes<'_>, here: &Open<'_>, func: u32)
+fn note_export(scopes: &mut NodeScopes<'_>, here: &Open<'_>, func: u32)
     ensures own { own_marked_in scopes.new ≡ with_exports_entry (own_marked_in scopes.old)
         (map (λ t. ComponentTypeRef.Func t)
         (option_to_list (slice_get (preceding (own_marked_in scopes.old) here.now).functions func))) }
@@ -186,25 +190,25 @@ fn note_export(scopes: &mut Scopes<'_>, here: &Open<'_>, func: u32)
     }
 }
 
-impl Row for ExportNode {
+impl Row for Export {
     ghost Shown = { ExportEntry };
 
-    ghost shown = { shown_export_node };
+    ghost shown = { shown_export };
 
     ghost says = { export_says };
 
     ghost after = { after_export };
 
-    fn put<'a>(
+    fn say<'a>(
         &'a self,
         _given: Given<'_>,
         out: &mut Vec<u8>,
-        scopes: &mut Scopes<'a>,
+        scopes: &mut NodeScopes<'a>,
         here: &mut Open<'a>,
     ) -> Result<(), Error> {
-        put_choice(out, here.functions.len(), self.func as usize)?;
-        put_name(out, here.exports, &self.name)?;
-        note_export(scopes, here, self.func);
+        say_choice(out, here.functions.len(), self.func_index as usize)?;
+        say_name(out, here.exports, &self.name)?;
+        note_export(scopes, here, self.func_index);
         here.add_export(self)
     }
 }

@@ -7,7 +7,7 @@ ghost use Rattle.smith_syntax.specs.Entries.{Signature, function};
 ghost use Rattle.smith_syntax.specs.HasSignature.{is_of_signature};
 ghost use Rattle.smith_syntax.specs.Places.{places};
 ghost use Rattle.smith_syntax.specs.SameSignature.{same_signature};
-ghost use Rattle.smith_read_types.specs.TypeNodes.{shown_type_node};
+ghost use Rattle.smith_read.specs.TypeNodes.{shown_type_node};
 ghost use Rattle.smith_script.specs.Equals.{Follows, IsNumbered, row_at, same_row, with_index};
 
 use smith_read::TypeNode;
@@ -34,14 +34,14 @@ pub(crate) struct Types<'a> {
 
 impl<'a> Model for Types<'a> {
     ghost use Rattle.std.specs.Prelude.{List, map};
-    ghost use Rattle.smith_read_scopes.specs.Scopes.{nodes_of};
-    ghost use Rattle.smith_read_types.specs.TypeNodes.{shown_type_node};
-    ghost use Rattle.smith_read_types.specs.declared.nodes.TypeNode.{TypeNode};
+    ghost use Rattle.smith_scopes.specs.NodeScopes.{nodes_of};
+    ghost use Rattle.smith_read.specs.TypeNodes.{shown_type_node};
+    ghost use Rattle.smith_read.specs.declared.type_nodes.TypeNode.{TypeNode};
     ghost use Rattle.smith_script.specs.Equals.{AreEquals};
 
     ghost Value = { List TypeNode };
 
-    ghost use Rattle.smith_read_types.specs.contracts.nodes.TypeNode as kind;
+    ghost use Rattle.smith_read.specs.contracts.type_nodes.TypeNode as kind;
     ghost use Rattle.std.specs.Coded.{codes};
 
     ghost coded = { Prim.hlevel (codes, kind.the_row.coded) };

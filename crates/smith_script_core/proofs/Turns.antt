@@ -4,7 +4,7 @@ use Rattle.std.proofs.Math.Seq.{drop-cons}
 use Rattle.smith_input.specs.Script.{script_end, script_loop, script_more}
 
 module _ {S A : Type 0} (script : S → A → List ℕ) (next : S → A → S) (min max : ℕ) where
-  -- a turn, and those after it
+  -- a turn, and the ones after it
   pub loop_at : (xs : List A) (i : ℕ) (s : S) (x : A) → i < length xs → x ≡ get_or xs i x
       → script_loop script next min max i s (drop i xs)
       ≡ script_more min i ++ script s x ++ script_loop script next min max (i + 1) (next s x) (drop (suc i) xs)

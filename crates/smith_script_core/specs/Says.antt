@@ -10,7 +10,7 @@ use Rattle.smith_input.specs.declared.error.Error.TheVariants.{OutOfMemory}
 pub record Adds (old new : Vec ℕ Global) (script : List ℕ) : Type 0 where
   pub is : new.items ≡ old.items ++ script
 
--- A writer of the script fails with this error. Other than when out of memory it does so only where the script is not bytes, as where a
+-- A writer of the script fails with this error. Other than when out of memory it does so only if the script is not bytes, as when a
 -- choice takes more of them than it has: that is TooLong.
 pub record IsUnsaid (e : Error) (script : List ℕ) : Type 0 where
   pub is : ¬ (e ≡ OutOfMemory) → ¬ AreBytes script

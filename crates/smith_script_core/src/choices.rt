@@ -8,14 +8,14 @@ ghost use Rattle.smith_script_core.specs.Says.{Says};
 
 use smith_input::{Error, MAX_CUSTOM_NAME_LEN};
 
-pub fn put_byte(out: &mut Vec<u8>, value: u8) -> Result<(), Error>
+pub fn say_byte(out: &mut Vec<u8>, value: u8) -> Result<(), Error>
     ensures { Says result out.old out.new (value ∷ []) }
 {
     out.push(value)?;
     Ok(())
 }
 
-pub fn put_raw(out: &mut Vec<u8>, contents: &[u8]) -> Result<(), Error>
+pub fn say_raw(out: &mut Vec<u8>, contents: &[u8]) -> Result<(), Error>
     ensures { Says result out.old out.new contents.now }
 {
     out.extend_from_slice(contents)?;
@@ -34,7 +34,7 @@ fn width_within(most: u32, n: u64) -> u32
 }
 
 // A number in that many bytes, the most significant first.
-fn put_big_endian(out: &mut Vec<u8>, width: u32, k: u64) -> Result<(), Error>
+fn say_big_endian(out: &mut Vec<u8>, width: u32, k: u64) -> Result<(), Error>
     requires { width ≤ 8 }
     ensures { Says result out.old out.new (big_endian width k) }
 {
@@ -45,16 +45,16 @@ fn put_big_endian(out: &mut Vec<u8>, width: u32, k: u64) -> Result<(), Error>
     let Ok(first) = u8::try_from(k / unit) else {
         return Err(Error::TooLong);
     };
-    put_byte(out, first)?;
-    put_big_endian(out, width - 1, k % unit)
+    say_byte(out, first)?;
+    say_big_endian(out, width - 1, k % unit)
 }
 
 /// A choice of k among n.
-pub fn put_choice(out: &mut Vec<u8>, n: usize, k: usize) -> Result<(), Error>
+pub fn say_choice(out: &mut Vec<u8>, n: usize, k: usize) -> Result<(), Error>
     ensures { Says result out.old out.new (pick n k) }
 {
     let width = width_within(8, n as u64);
-    put_big_endian(out, width, k as u64)
+    say_big_endian(out, width, k as u64)
 }
 
 // The place of the first item that is equal to that one, or how many there are.
@@ -70,28 +70,28 @@ fn place_of<T: PartialEq>(items: &[T], item: &T) -> usize
 }
 
 /// A choice of an item among these.
-pub fn put_among<T: PartialEq>(out: &mut Vec<u8>, items: &[T], item: &T) -> Result<(), Error>
+pub fn say_among<T: PartialEq>(out: &mut Vec<u8>, items: &[T], item: &T) -> Result<(), Error>
     ensures { Says result out.old out.new (script_among T.eq items.now item.now) }
 {
-    put_choice(out, items.len(), place_of(items, item))
+    say_choice(out, items.len(), place_of(items, item))
 }
 
-/// That a loop makes another turn, where it might end.
-pub fn put_more(out: &mut Vec<u8>, min: usize, done: usize) -> Result<(), Error>
+/// That a loop makes another turn, when it might end.
+pub fn say_more(out: &mut Vec<u8>, min: usize, done: usize) -> Result<(), Error>
     ensures { Says result out.old out.new (script_more min done) }
 {
     if done < min {
         return Ok(());
     }
-    put_byte(out, 1)
+    say_byte(out, 1)
 }
 
-/// That a loop ends, where it might make another turn.
-pub fn put_end(out: &mut Vec<u8>, done: usize, max: usize) -> Result<(), Error>
+/// That a loop ends, when it might make another turn.
+pub fn say_end(out: &mut Vec<u8>, done: usize, max: usize) -> Result<(), Error>
     ensures { Says result out.old out.new (script_end done max) }
 {
     if done < max {
-        return put_byte(out, 0);
+        return say_byte(out, 0);
     }
     Ok(())
 }
@@ -108,37 +108,37 @@ fn code(character: u8) -> usize
 }
 
 /// The characters of a name in kebab case.
-pub(crate) fn put_characters(out: &mut Vec<u8>, name: &[u8]) -> Result<(), Error>
+pub(crate) fn say_characters(out: &mut Vec<u8>, name: &[u8]) -> Result<(), Error>
     ensures { Says result out.old out.new (script_characters name.now) }
 {
     for character in name {
-        put_choice(out, 37, code(*character))?;
+        say_choice(out, 37, code(*character))?;
     }
     Ok(())
 }
 
 /// A text of at most that many bytes, as the reader reads it.
-pub(crate) fn put_text_within(out: &mut Vec<u8>, most: usize, text: &[u8]) -> Result<(), Error>
+pub(crate) fn say_text_within(out: &mut Vec<u8>, most: usize, text: &[u8]) -> Result<(), Error>
     requires { most ≤ 1000 }
     ensures { Says result out.old out.new (script_text most text.now) }
 {
-    put_choice(out, most + 1, text.len())?;
-    put_raw(out, text)
+    say_choice(out, most + 1, text.len())?;
+    say_raw(out, text)
 }
 
 /// The name of a custom section.
-pub fn put_text(out: &mut Vec<u8>, name: &str) -> Result<(), Error>
+pub fn say_text(out: &mut Vec<u8>, name: &str) -> Result<(), Error>
     ensures { Says result out.old out.new (script_text 1000 name.now) }
 {
-    put_text_within(out, MAX_CUSTOM_NAME_LEN, name.as_bytes())
+    say_text_within(out, MAX_CUSTOM_NAME_LEN, name.as_bytes())
 }
 
 /// The contents of a custom section.
-pub fn put_contents(out: &mut Vec<u8>, contents: &[u8]) -> Result<(), Error>
+pub fn say_contents(out: &mut Vec<u8>, contents: &[u8]) -> Result<(), Error>
     ensures { Says result out.old out.new (script_bytes contents.now) }
 {
     for byte in contents {
-        put_raw(out, &[1, *byte])?;
+        say_raw(out, &[1, *byte])?;
     }
-    put_byte(out, 0)
+    say_byte(out, 0)
 }

@@ -6,7 +6,7 @@ ghost use Rattle.smith_format.specs.Limits.{configured, max_results};
 ghost use Rattle.smith_format.specs.Shown.{shown_func};
 ghost use Rattle.smith_script_core.specs.Says.{Says};
 
-use crate::members::put_core_values;
+use crate::members::say_core_values;
 use smith_format::{Config, FuncType, ValType, configured_valtypes};
 use smith_input::Error;
 use std::alloc::Global;
@@ -19,7 +19,7 @@ pub(crate) fn max_results(config: &Config) -> usize
 }
 
 // The parameters of a core function type, and then its results.
-fn put_values(
+fn say_values(
     out: &mut Vec<u8>,
     valtypes: &Vec<ValType>,
     most_results: usize,
@@ -27,12 +27,12 @@ fn put_values(
 ) -> Result<(), Error>
     ensures { Says result out.old out.new (script_function valtypes.now.items most_results (shown_func ty.now)) }
 {
-    put_core_values(out, valtypes, 20, &ty.params)?;
-    put_core_values(out, valtypes, most_results, &ty.results)
+    say_core_values(out, valtypes, 20, &ty.params)?;
+    say_core_values(out, valtypes, most_results, &ty.results)
 }
 
 /// A core function type after what says that it is one.
-pub fn put_core_function(
+pub fn say_core_function(
     alloc: Global,
     out: &mut Vec<u8>,
     config: &Config,
@@ -42,5 +42,5 @@ pub fn put_core_function(
         (script_function (configured config.now) (max_results config.now) (shown_func ty.now)) }
 {
     let valtypes = configured_valtypes(alloc, config)?;
-    put_values(out, &valtypes, max_results(config), ty)
+    say_values(out, &valtypes, max_results(config), ty)
 }

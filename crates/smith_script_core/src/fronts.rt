@@ -2,7 +2,7 @@
 
 ghost use Rattle.std.specs.Prelude.{◌≡◌, codes, map};
 ghost use Rattle.smith_format.specs.declared.types.ExportKind.TheVariants as kind;
-ghost use Rattle.smith_read_types.specs.Nodes.{shown_core_node, shown_module_node};
+ghost use Rattle.smith_read.specs.Nodes.{shown_core_node, shown_module_node};
 ghost use Rattle.smith_syntax.specs.ModuleTypes.{after_front, after_function, after_memory, after_realloc};
 ghost use Rattle.smith_syntax.specs.ModuleTypes.{is_export};
 ghost use Rattle.smith_syntax.specs.ModuleTypes.{is_function_of};
@@ -11,7 +11,7 @@ ghost use Rattle.smith_syntax.specs.WellFormed.{core_size};
 ghost use Rattle.smith_script_core.specs.Fronts.{i32s, i32_function};
 
 use smith_format::{EntityType, ValType};
-use smith_read_types::{CoreNode, ModuleNode};
+use smith_read::{CoreNode, ModuleNode};
 
 // Is it the export of a memory by its name?
 fn is_memory(decl: &ModuleNode) -> bool

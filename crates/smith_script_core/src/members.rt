@@ -7,7 +7,7 @@ ghost use Rattle.smith_format.specs.CoreScript.{script_values};
 ghost use Rattle.smith_tree.specs.TypeScript.{script_members};
 ghost use Rattle.smith_script_core.specs.Says.{Says};
 
-use crate::choices::{put_among, put_end, put_more};
+use crate::choices::{say_among, say_end, say_more};
 use smith_format::ValType;
 use smith_input::Error;
 
@@ -20,7 +20,7 @@ pub trait Scripted<Context> {
 }
 
 /// A loop that makes these, at least min and at most max.
-pub fn put_members<Context, T: Scripted<Context>>(
+pub fn say_members<Context, T: Scripted<Context>>(
     out: &mut Vec<u8>,
     context: &Context,
     min: usize,
@@ -30,22 +30,22 @@ pub fn put_members<Context, T: Scripted<Context>>(
     ensures { Says result out.old out.new (script_members (T.script context.now) min max items.now) }
 {
     for done in 0..items.len() {
-        put_more(out, min, done)?;
+        say_more(out, min, done)?;
         items[done].say(context, done, out)?;
     }
-    put_end(out, items.len(), max)
+    say_end(out, items.len(), max)
 }
 
 impl Scripted<Vec<ValType>> for ValType {
     ghost script = { λ valtypes _ x. script_among same_val valtypes.items x };
 
     fn say(&self, context: &Vec<ValType>, _done: usize, out: &mut Vec<u8>) -> Result<(), Error> {
-        put_among(out, context, self)
+        say_among(out, context, self)
     }
 }
 
 /// At most max core value types, each one of these.
-pub(crate) fn put_core_values(
+pub(crate) fn say_core_values(
     out: &mut Vec<u8>,
     valtypes: &Vec<ValType>,
     max: usize,
@@ -53,5 +53,5 @@ pub(crate) fn put_core_values(
 ) -> Result<(), Error>
     ensures { Says result out.old out.new (script_values valtypes.now.items max items.now) }
 {
-    put_members(out, valtypes, 0, max, items)
+    say_members(out, valtypes, 0, max, items)
 }

@@ -6,7 +6,7 @@ ghost use Rattle.smith_input.specs.NameScript.{is_short, is_within, script_new, 
 ghost use Rattle.smith_input.specs.Script.{script_name, script_text};
 ghost use Rattle.smith_script_core.specs.Says.{Says};
 
-use crate::choices::{put_characters, put_choice, put_text_within};
+use crate::choices::{say_characters, say_choice, say_text_within};
 use crate::cuts::front;
 use smith_input::{Error, MAX_NAME_LEN};
 
@@ -63,7 +63,7 @@ fn decimal_len(n: usize) -> usize
     decimal_len(n / 10) + 1
 }
 
-// The longest text that can be read and becomes the name, where that many names are there. What is too long is cut in
+// The longest text that can be read and becomes the name, when that many names are there. What is too long is cut in
 // one step, so that a long name costs no more than a short one.
 fn stem_of<'b, R: Readable>(rule: &R, count: usize, name: &'b [u8]) -> &'b [u8]
     ensures { result.now ≡ stem_of (R.can_read rule.now) count name.now }
@@ -83,31 +83,31 @@ fn stem_of<'b, R: Readable>(rule: &R, count: usize, name: &'b [u8]) -> &'b [u8]
 }
 
 // A name in kebab case, of which that many bytes are chosen.
-fn put_kebab(out: &mut Vec<u8>, name: &[u8]) -> Result<(), Error>
+fn say_kebab(out: &mut Vec<u8>, name: &[u8]) -> Result<(), Error>
     ensures { Says result out.old out.new (script_name 100 name.now) }
 {
-    put_choice(out, MAX_NAME_LEN + 1, name.len())?;
-    put_characters(out, name)
+    say_choice(out, MAX_NAME_LEN + 1, name.len())?;
+    say_characters(out, name)
 }
 
-/// A name in kebab case, where that many names are there.
-pub fn put_name(out: &mut Vec<u8>, count: usize, name: &str) -> Result<(), Error>
+/// A name in kebab case, when that many names are there.
+pub fn say_name(out: &mut Vec<u8>, count: usize, name: &str) -> Result<(), Error>
     ensures { Says result out.old out.new (script_new 100 count name.now) }
 {
     let text = stem_of(&Label {}, count, name.as_bytes());
-    put_kebab(out, front(text, MAX_NAME_LEN))
+    say_kebab(out, front(text, MAX_NAME_LEN))
 }
 
 /// The name of a core module from which something is imported.
-pub fn put_core_name(out: &mut Vec<u8>, name: &str) -> Result<(), Error>
+pub fn say_core_name(out: &mut Vec<u8>, name: &str) -> Result<(), Error>
     ensures { Says result out.old out.new (script_text 100 name.now) }
 {
-    put_text_within(out, MAX_NAME_LEN, name.as_bytes())
+    say_text_within(out, MAX_NAME_LEN, name.as_bytes())
 }
 
-/// A name of what a core module imports or exports, where that many names are there.
-pub fn put_new_core_name(out: &mut Vec<u8>, count: usize, name: &str) -> Result<(), Error>
+/// A name of what a core module imports or exports, when that many names are there.
+pub fn say_new_core_name(out: &mut Vec<u8>, count: usize, name: &str) -> Result<(), Error>
     ensures { Says result out.old out.new (script_new_text 100 count name.now) }
 {
-    put_text_within(out, MAX_NAME_LEN, stem_of(&Text {}, count, name.as_bytes()))
+    say_text_within(out, MAX_NAME_LEN, stem_of(&Text {}, count, name.as_bytes()))
 }

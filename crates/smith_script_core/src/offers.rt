@@ -6,7 +6,7 @@ ghost use Rattle.smith_input.specs.Script.{script_among};
 ghost use Rattle.smith_script_core.specs.Says.{Says};
 ghost use Rattle.smith_input.specs.declared.error.Error.TheVariants.{OutOfMemory};
 
-use crate::choices::put_among;
+use crate::choices::say_among;
 use smith_input::Error;
 use std::alloc::Global;
 
@@ -24,8 +24,8 @@ fn offered<T: Copy>(alloc: Global, offers: &[(bool, T)]) -> Result<Vec<T>, Error
     Ok(items)
 }
 
-/// A choice of an item among those that are offered.
-pub fn put_offered<T: Copy + PartialEq>(
+/// A choice of an item among the offered ones.
+pub fn say_offered<T: Copy + PartialEq>(
     alloc: Global,
     out: &mut Vec<u8>,
     offers: &[(bool, T)],
@@ -34,5 +34,5 @@ pub fn put_offered<T: Copy + PartialEq>(
     ensures { Says result out.old out.new (script_among T.eq (offers_of offers.now) item) }
 {
     let items = offered(alloc, offers)?;
-    put_among(out, &items, &item)
+    say_among(out, &items, &item)
 }

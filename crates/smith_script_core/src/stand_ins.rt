@@ -9,11 +9,11 @@ ghost use Rattle.smith_script_core.specs.Says.{Says};
 ghost use Rattle.smith_script_core.specs.StandIns.{script_functions, script_memories};
 ghost use Rattle.smith_input.specs.declared.error.Error.TheVariants.{OutOfMemory};
 
-use crate::choices::{put_end, put_more};
+use crate::choices::{say_end, say_more};
 use crate::core_functions::max_results;
 use crate::cuts::{behind, front};
-use crate::limits::put_limits;
-use crate::members::put_core_values;
+use crate::limits::say_limits;
+use crate::members::say_core_values;
 use smith_format::{Config, RefType, ValType, configured_valtypes};
 use smith_input::Error;
 use std::alloc::Global;
@@ -58,7 +58,7 @@ fn past_number(bytes: &[u8]) -> &[u8]
 }
 
 // The value types after their count. Returns what is after them.
-fn put_values<'b>(
+fn say_values<'b>(
     alloc: Global,
     out: &mut Vec<u8>,
     valtypes: &Vec<ValType>,
@@ -69,16 +69,16 @@ fn put_values<'b>(
     ensures left { IfOk result (λ left. left.now ≡ (values_of bytes.now).1) }
 {
     let Some((count, rest)) = bytes.split_first() else {
-        put_core_values(out, valtypes, most, &[])?;
+        say_core_values(out, valtypes, most, &[])?;
         return Ok(bytes);
     };
     let values = values_in(alloc, front(rest, usize::from(*count)))?;
-    put_core_values(out, valtypes, most, &values)?;
+    say_core_values(out, valtypes, most, &values)?;
     Ok(behind(rest, usize::from(*count)))
 }
 
 // A function type. Returns what is after it.
-fn put_function<'b>(
+fn say_function<'b>(
     alloc: Global,
     out: &mut Vec<u8>,
     valtypes: &Vec<ValType>,
@@ -89,12 +89,12 @@ fn put_function<'b>(
         (script_function valtypes.now.items most_results (function_of bytes.now).0) }
     ensures left { IfOk result (λ left. left.now ≡ (function_of bytes.now).1) }
 {
-    let results = put_values(alloc, out, valtypes, 20, behind(bytes, 1))?;
-    put_values(alloc, out, valtypes, most_results, results)
+    let results = say_values(alloc, out, valtypes, 20, behind(bytes, 1))?;
+    say_values(alloc, out, valtypes, most_results, results)
 }
 
 // That many function types. Returns what is after them.
-fn put_functions<'b>(
+fn say_functions<'b>(
     alloc: Global,
     out: &mut Vec<u8>,
     config: &Config,
@@ -108,10 +108,10 @@ fn put_functions<'b>(
     let most_results = max_results(config);
     let mut left = bytes;
     for done in 0..count {
-        put_more(out, 0, done)?;
-        left = put_function(alloc, out, &valtypes, most_results, left)?;
+        say_more(out, 0, done)?;
+        left = say_function(alloc, out, &valtypes, most_results, left)?;
     }
-    put_end(out, count, config.max_types.min(20))?;
+    say_end(out, count, config.max_types.min(20))?;
     Ok(left)
 }
 
@@ -151,18 +151,18 @@ fn next_memory(bytes: &[u8]) -> Option<(u64, Option<u64>, &[u8])>
 }
 
 // The memory types to the end.
-fn put_memories(out: &mut Vec<u8>, config: &Config, bytes: &[u8]) -> Result<(), Error>
+fn say_memories(out: &mut Vec<u8>, config: &Config, bytes: &[u8]) -> Result<(), Error>
     ensures { Says result out.old out.new (script_memories config.now 0 (all_memories bytes.now)) }
 {
     let mut done = 0;
     let mut left = bytes;
     while let Some((minimum, maximum, rest)) = next_memory(left) {
-        put_more(out, config.min_memories, done)?;
-        put_limits(out, minimum, maximum)?;
+        say_more(out, config.min_memories, done)?;
+        say_limits(out, minimum, maximum)?;
         left = rest;
         done += 1;
     }
-    put_end(out, done, config.max_memories)
+    say_end(out, done, config.max_memories)
 }
 
 // The memory types of a memory section, if there is one.
@@ -176,7 +176,7 @@ fn memories_of(bytes: &[u8]) -> &[u8]
 }
 
 /// A core module of these bytes, by what it has if it stands for a generated one.
-pub fn put_stand_in(
+pub fn say_stand_in(
     alloc: Global,
     out: &mut Vec<u8>,
     config: &Config,
@@ -185,6 +185,6 @@ pub fn put_stand_in(
     ensures { Says result out.old out.new (script_stand_in config.now (stand_in_of text.now)) }
 {
     let (count, types) = types_of(behind(text, 8));
-    let left = put_functions(alloc, out, config, count, types)?;
-    put_memories(out, config, memories_of(left))
+    let left = say_functions(alloc, out, config, count, types)?;
+    say_memories(out, config, memories_of(left))
 }

@@ -7,15 +7,15 @@ use Rattle.smith_input.specs.Script.{script_end}
 use Rattle.smith_format.specs.declared.config.Config.{Config}
 use Rattle.smith_syntax.specs.Entries.{in_order}
 use Rattle.smith_syntax.specs.Marked.{Marked, marked_after, marked_after_all}
-use Rattle.smith_read_types.specs.TypeNodes.{shown_decl_node}
-use Rattle.smith_read_types.specs.declared.nodes.DeclNode.{DeclNode}
+use Rattle.smith_read.specs.TypeNodes.{shown_decl_node}
+use Rattle.smith_read.specs.declared.type_nodes.DeclNode.{DeclNode}
 use Rattle.smith_tree.specs.TypeNeeds.{decl_cost, decls_cost}
 use Rattle.smith_tree.specs.TypeScript.{Taken, after_taken, script_decl, script_decls}
 use Rattle.smith_script_core.proofs.Saying.{Towards, towards_step}
 use Rattle.smith_script_core.specs.Says.{Adds}
 
 module _ (config : Config) (importing : Bool) (outer : List Marked) where
-  -- a declaration, and those after it
+  -- a declaration, and the ones after it
   pub decls_at : (xs : List DeclNode) (i fuel : ℕ) (taken : Taken) (own : Marked) (x : DeclNode) → i < length xs → x ≡ get_or xs i x
       → script_decls (in_order (map shown_decl_node (drop i xs))) config importing fuel i taken own outer
       ≡ (1 ∷ []) ++ (script_decl (shown_decl_node x) config importing (fuel - 1) taken own outer

@@ -16,8 +16,8 @@ use Rattle.smith_format.specs.declared.types.EntityType.TheVariants.{Func, Table
 use Rattle.smith_syntax.specs.Entries.{ModuleDecl, aliases, declares, exports, imports}
 use Rattle.smith_syntax.specs.ModuleTypes.{adds, after_front, entities_in, entities_of, module_export_names, names_from}
 use Rattle.smith_syntax.specs.Scope.{Scope}
-use Rattle.smith_read_types.specs.Nodes.{shown_module_node}
-use Rattle.smith_read_types.specs.declared.core_types.ModuleNode.{ModuleNode}
+use Rattle.smith_read.specs.Nodes.{shown_module_node}
+use Rattle.smith_read.specs.declared.core_types.ModuleNode.{ModuleNode}
 use Rattle.smith_core_types.proofs.FrontFound.{fronted, whole_front}
 use Rattle.smith_tree.specs.ModuleScript.{front_before, in_front, script_asked, script_decl, script_entity, script_item, script_line}
 use Rattle.smith_tree.specs.declared.choices.ModuleItem.TheVariants as item
@@ -102,7 +102,7 @@ module _ (config : Config) (around : Scope) where
       ∙ ap (λ x. script_more 0 done ++ script_decl config around (state own before n) d ++ x)
       (turns_fuel ds (done + 1) (own ++ adds around.core_types own d) (before ++ d ∷ []) (m - 1) (n - 1))
 
-  -- a declaration, and those after it
+  -- a declaration, and the ones after it
   pub module_at : (xs : List ModuleNode) (i front : ℕ) (s t : Declared) (x : ModuleNode) → front ≤ i → i < length xs → x ≡ get_or xs i x
       → t ≡ with_decl around.core_types s (shown_module_node x)
       → turns (i - front) s (map shown_module_node (drop i xs))

@@ -20,7 +20,7 @@ rank_is (y ∷ ys) x (suc i) h at apart =
     ap (λ b. if b then zero else suc (rank_of nat_eq ys x)) (ne_eqb y x (apart zero (omega arith)))
     ∙ ap suc (rank_is ys x i (omega arith) (λ l. at (omega arith)) (λ k l. apart (suc k) (omega arith)))
 
--- each position is below those after it
+-- each position is below the ones after it
 rising : (xs : List ℕ) → IsStrictlyIncreasing xs → (i n : ℕ) → i + n < length xs → get_or xs i 0 + n ≤ get_or xs (i + n) 0
 rising xs up i zero h = let e : i ≡ i + 0 = omega arith in omega (arith, ap (λ j. get_or xs j 0) e)
 rising xs up i (suc n) h =

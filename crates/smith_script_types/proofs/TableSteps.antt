@@ -10,8 +10,8 @@ use Rattle.smith_syntax.specs.Entries.{ModuleDecl}
 use Rattle.smith_syntax.specs.ModuleTypes.{declared_in, func_of, is_tag_type}
 use Rattle.smith_syntax.specs.Places.{places}
 use Rattle.smith_scopes.proofs.Stack.{places-append}
-use Rattle.smith_read_types.specs.Nodes.{shown_module_node}
-use Rattle.smith_read_types.specs.declared.core_types.ModuleNode.{ModuleNode}
+use Rattle.smith_read.specs.Nodes.{shown_module_node}
+use Rattle.smith_read.specs.declared.core_types.ModuleNode.{ModuleNode}
 use Rattle.smith_script_types.specs.Tables.{Keeps, functions_in}
 use Rattle.smith_script_types.specs.declared.tables.Tables.{Tables}
 

@@ -1,6 +1,6 @@
 -- Module types so far.
 use Rattle.std.specs.Prelude.{map}
-use Rattle.smith_read_types.specs.Nodes.{shown_module_node}
+use Rattle.smith_read.specs.Nodes.{shown_module_node}
 use Rattle.smith_tree.specs.CoreTypeOffers.{Declared as PlainDeclared}
 use Rattle.smith_script_types.specs.Tables.{functions_in}
 use Rattle.smith_script_types.specs.declared.declared.Declared.{Declared}

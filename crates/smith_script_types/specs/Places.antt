@@ -2,7 +2,7 @@
 use Rattle.std.specs.Prelude.{List}
 use Rattle.smith_syntax.specs.Marked.{Marked}
 use Rattle.smith_syntax.specs.Scope.{Scope}
-use Rattle.smith_read_scopes.specs.Scopes.{outer_marked_in, own_in, own_marked_in}
+use Rattle.smith_scopes.specs.NodeScopes.{outer_marked_in, own_in, own_marked_in}
 use Rattle.smith_script_types.specs.declared.place.Place.{Place}
 
 abbrev pub own_at : Place → Marked

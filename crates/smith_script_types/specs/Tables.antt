@@ -26,7 +26,7 @@ function_in f = option_to_list (option_map (λ t. shown_func t.now) f)
 abbrev pub count_from : BTreeMap (Bor (List ℕ)) ℕ → List ℕ → ℕ
 count_from counts from = unwrap_or (get_by (λ k. slice_cmp nat_cmp from k.now) counts) 0
 
--- The tables are those of these own types and declarations.
+-- These are the tables of these own types and declarations.
 pub record Keeps (t : Tables) (fs : List Function) (ds : List ModuleDecl) : Type 0 where
   pub own : functions_in t.own.items ≡ fs
   pub tags : t.tags.items ≡ places is_tag_type 0 (functions_in t.own.items)

@@ -1,13 +1,13 @@
 //! What a module type has before a declaration of it.
 
 ghost use Rattle.std.specs.Prelude.{◌≡◌, map};
-ghost use Rattle.smith_read_types.specs.Nodes.{shown_module_node};
+ghost use Rattle.smith_read.specs.Nodes.{shown_module_node};
 ghost use Rattle.smith_script_types.specs.Tables.{Keeps, functions_in};
 
 use crate::tables::{Tables, count_from, declared_type};
 use smith_format::{Config, ExportKind, FuncType};
-use smith_read_scopes::Scopes;
-use smith_read_types::{CoreNode, ModuleNode};
+use smith_read::{CoreNode, ModuleNode};
+use smith_scopes::NodeScopes;
 use smith_script_core::Error;
 use std::alloc::Global;
 
@@ -23,7 +23,7 @@ impl<'a> Declared<'a> {
     ghost use Rattle.std.specs.Prelude.{◌∷◌, ◌++◌, [], length, nat_lt, IfOk, IfErr};
     ghost use Rattle.smith_syntax.specs.ModuleTypes.{adds, count_of_kind, module_export_names, names_from};
     ghost use Rattle.smith_tree.specs.CoreTypeOffers.{allows_function, allows_type, undeclared, with_decl, with_front};
-    ghost use Rattle.smith_read_scopes.specs.Scopes.{own_in};
+    ghost use Rattle.smith_scopes.specs.NodeScopes.{own_in};
     ghost use Rattle.smith_input.specs.declared.error.Error.TheVariants.{OutOfMemory};
     ghost use Rattle.smith_script_types.specs.Modules.{so_far};
     ghost use Rattle.smith_script_types.specs.Tables.{function_in};
@@ -76,7 +76,7 @@ impl<'a> Declared<'a> {
     }
 
     // The function type that a declaration adds to the module type's own.
-    fn added(&self, around: &Scopes<'a>, decl: &'a ModuleNode) -> Option<&'a FuncType>
+    fn added(&self, around: &NodeScopes<'a>, decl: &'a ModuleNode) -> Option<&'a FuncType>
         ensures { function_in result
             ≡ adds (own_in around.now).core_types (so_far self.now).own (shown_module_node decl.now) }
     {
@@ -95,7 +95,7 @@ impl<'a> Declared<'a> {
     /// With one more declaration, which is the last of these.
     pub(crate) fn with(
         self,
-        around: &Scopes<'a>,
+        around: &NodeScopes<'a>,
         decl: &'a ModuleNode,
         decls: &'a [ModuleNode],
     ) -> Result<Declared<'a>, Error>

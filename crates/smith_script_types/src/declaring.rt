@@ -3,10 +3,10 @@
 ghost use Rattle.std.specs.Prelude.{◌≡◌, ◌≤◌, ◌+◌, ◌<◌, length};
 ghost use Rattle.smith_syntax.specs.WellFormed.{export_of, import_of};
 ghost use Rattle.smith_tree.specs.TypeScript.{after_taken, none_taken};
-ghost use Rattle.smith_read_types.specs.TypeNodes.{shown_decl_node};
+ghost use Rattle.smith_read.specs.TypeNodes.{shown_decl_node};
 ghost use Rattle.smith_script_types.specs.Declaring.{taken_in};
 
-use smith_read_types::DeclNode;
+use smith_read::DeclNode;
 
 /// Where a type of a component or an instance is in its declarations: whether it may import, how much fuel is left, and
 /// how many imports and exports are before.

@@ -12,24 +12,24 @@ ghost use Rattle.smith_script_types.specs.Modules.{so_far};
 
 use crate::declared::Declared;
 use crate::place::Place;
-use crate::positions::{put_index, put_position};
+use crate::positions::{say_index, say_position};
 use smith_format::{Config, EntityType, ExportKind, GlobalType, RefType, configured_valtypes};
-use smith_script_core::{Error, put_among, put_byte, put_limits, put_offered};
+use smith_script_core::{Error, say_among, say_byte, say_limits, say_offered};
 use smith_tree::kind_offers;
 use std::alloc::Global;
 
-// What a table holds, where there is a choice.
-fn put_element(out: &mut Vec<u8>, config: &Config, ty: RefType) -> Result<(), Error>
+// What a table holds, if there is a choice.
+fn say_element(out: &mut Vec<u8>, config: &Config, ty: RefType) -> Result<(), Error>
     ensures { Says result out.old out.new (script_element config.now ty) }
 {
     if config.reference_types_enabled {
-        return put_among(out, &[RefType::FuncRef, RefType::ExternRef], &ty);
+        return say_among(out, &[RefType::FuncRef, RefType::ExternRef], &ty);
     }
     Ok(())
 }
 
 // A global type: one of the value types, and whether it may change.
-fn put_global(
+fn say_global(
     alloc: Global,
     out: &mut Vec<u8>,
     config: &Config,
@@ -39,12 +39,12 @@ fn put_global(
         (script_among same_val (configured config.now) ty.val_type ++ script_bit ty.mutable) }
 {
     let valtypes = configured_valtypes(alloc, config)?;
-    put_among(out, &valtypes, &ty.val_type)?;
-    put_byte(out, u8::from(ty.mutable))
+    say_among(out, &valtypes, &ty.val_type)?;
+    say_byte(out, u8::from(ty.mutable))
 }
 
-// The kind of an entity: each below its limit, a tag where there is a type for it, a function where there is a type.
-fn put_entity_kind(
+// The kind of an entity: each below its limit, a tag if there is a type for it, a function if there is a type.
+fn say_entity_kind(
     out: &mut Vec<u8>,
     place: Place<'_, '_>,
     declared: &Declared<'_>,
@@ -62,11 +62,11 @@ fn put_entity_kind(
         && declared.tables.tags.len() > 0;
     let with_func = declared.tables.own.len() > 0 && declared.allows_function(config);
     let offers = kind_offers(with_global, with_table, with_memory, with_tag, with_func);
-    put_offered(place.alloc, out, &offers, kind)
+    say_offered(place.alloc, out, &offers, kind)
 }
 
 // An entity after its kind.
-fn put_entity_of(
+fn say_entity_of(
     out: &mut Vec<u8>,
     place: Place<'_, '_>,
     declared: &Declared<'_>,
@@ -77,19 +77,19 @@ fn put_entity_of(
 {
     let tables = &declared.tables;
     match entity {
-        EntityType::Func(index) => put_index(out, tables.own.len(), index as usize),
+        EntityType::Func(index) => say_index(out, tables.own.len(), index as usize),
         EntityType::Table(table) => {
-            put_element(out, place.config, table.element_type)?;
-            put_limits(out, table.minimum, table.maximum)
+            say_element(out, place.config, table.element_type)?;
+            say_limits(out, table.minimum, table.maximum)
         }
-        EntityType::Memory(memory) => put_limits(out, memory.minimum, memory.maximum),
-        EntityType::Global(global) => put_global(place.alloc, out, place.config, global),
-        EntityType::Tag(tag) => put_position(out, &tables.tags, tag.func_type_idx as usize),
+        EntityType::Memory(memory) => say_limits(out, memory.minimum, memory.maximum),
+        EntityType::Global(global) => say_global(place.alloc, out, place.config, global),
+        EntityType::Tag(tag) => say_position(out, &tables.tags, tag.func_type_idx as usize),
     }
 }
 
 /// What is imported or exported: its kind, and then what it is.
-pub(crate) fn put_entity(
+pub(crate) fn say_entity(
     out: &mut Vec<u8>,
     place: Place<'_, '_>,
     declared: &Declared<'_>,
@@ -98,6 +98,6 @@ pub(crate) fn put_entity(
     ensures { Says result out.old out.new
         (script_entity place.entry.config.now (so_far declared.now) entity) }
 {
-    put_entity_kind(out, place, declared, entity.kind())?;
-    put_entity_of(out, place, declared, entity)
+    say_entity_kind(out, place, declared, entity.kind())?;
+    say_entity_of(out, place, declared, entity)
 }

@@ -4,15 +4,15 @@ ghost use Rattle.std.specs.Prelude.{◌≡◌, ◌-◌, ◌+◌};
 ghost use Rattle.smith_syntax.specs.Entries.{defined, function};
 ghost use Rattle.smith_syntax.specs.Shown.{shown_defined};
 ghost use Rattle.smith_syntax.specs.WellFormed.{defined_size};
-ghost use Rattle.smith_read_types.specs.Nodes.{shown_core_node};
+ghost use Rattle.smith_read.specs.Nodes.{shown_core_node};
 ghost use Rattle.smith_tree.specs.CoreTypeNeeds.{core_cost};
 ghost use Rattle.smith_tree.specs.TypeNeeds.{cost};
 
-use smith_read_types::CoreNode;
+use smith_read::CoreNode;
 use smith_script_core::core_size;
 use smith_syntax::{DefinedType, FuncType};
 
-// What is left of the fuel after that many turns.
+// The fuel left after that many turns.
 fn burned(fuel: u32, turns: usize) -> u32
     ensures { result ≡ fuel - turns }
 {
@@ -39,14 +39,14 @@ pub fn defined_size(ty: &DefinedType) -> usize
     }
 }
 
-/// What is left of the fuel after a type of values.
+/// The fuel left after a type of values.
 pub(crate) fn after_defined(fuel: u32, ty: &DefinedType) -> u32
     ensures { result ≡ fuel - cost (defined (shown_defined ty.now)) }
 {
     burned(burned(fuel, defined_size(ty)), 1)
 }
 
-/// What is left of the fuel after a function type.
+/// The fuel left after a function type.
 pub(crate) fn after_function(fuel: u32, ty: &FuncType) -> u32
     ensures { result ≡ fuel - cost (function ty.now) }
 {
@@ -54,7 +54,7 @@ pub(crate) fn after_function(fuel: u32, ty: &FuncType) -> u32
     burned(burned(burned(fuel, ty.params.len()), results), 1)
 }
 
-/// What is left of the fuel after a core type.
+/// The fuel left after a core type.
 pub(crate) fn after_core(fuel: u32, ty: &CoreNode) -> u32
     ensures { result ≡ fuel - core_cost (shown_core_node ty.now) }
 {

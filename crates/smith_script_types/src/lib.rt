@@ -17,14 +17,15 @@ mod types;
 mod usable;
 mod values;
 
-pub use core_types::put_core;
+pub use core_types::say_core;
 pub use fuel::defined_size;
 pub use place::{Given, Place};
-pub use positions::put_position;
-pub use references::{Purpose, put_extern, put_reference};
+pub use positions::say_position;
+pub use references::{say_extern, say_reference};
+pub use smith_scopes::Purpose;
 pub use smith_script_core::{
-    Error, put_among, put_byte, put_choice, put_contents, put_end, put_more, put_name, put_offered,
-    put_stand_in, put_text,
+    Error, say_among, say_byte, say_choice, say_contents, say_end, say_more, say_name, say_offered,
+    say_stand_in, say_text,
 };
 pub use tables::one_more;
-pub use types::{Typed, put_type};
+pub use types::{Typed, say_type};

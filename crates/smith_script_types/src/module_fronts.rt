@@ -3,7 +3,7 @@
 ghost use Rattle.std.specs.Prelude.{◌≡◌, ◌∷◌, [], ℕ, map, IfOk, IfErr};
 ghost use Rattle.std.specs.List.{flat_map};
 ghost use Rattle.smith_syntax.specs.ModuleTypes.{after_front, after_memory, after_realloc, entities_of};
-ghost use Rattle.smith_read_types.specs.Nodes.{shown_module_node};
+ghost use Rattle.smith_read.specs.Nodes.{shown_module_node};
 ghost use Rattle.smith_tree.specs.ModuleScript.{front_before, in_front, may_declare, script_asked, script_front};
 ghost use Rattle.smith_tree.specs.ModuleScript.{script_line};
 ghost use Rattle.smith_script_core.specs.Says.{Says};
@@ -12,8 +12,8 @@ ghost use Rattle.smith_input.specs.declared.error.Error.TheVariants.{OutOfMemory
 use crate::declared::Declared;
 use crate::place::Place;
 use smith_format::EntityType;
-use smith_read_types::ModuleNode;
-use smith_script_core::{Error, after_front, after_memory, after_realloc, put_choice, put_limits};
+use smith_read::ModuleNode;
+use smith_script_core::{Error, after_front, after_memory, after_realloc, say_choice, say_limits};
 
 // The declarations in front of these.
 fn in_front<'a>(decls: &'a [ModuleNode], after: &[ModuleNode]) -> &'a [ModuleNode]
@@ -24,29 +24,29 @@ fn in_front<'a>(decls: &'a [ModuleNode], after: &[ModuleNode]) -> &'a [ModuleNod
 }
 
 // What a declaration leaves open: the limits of a memory.
-fn put_asked(out: &mut Vec<u8>, decl: &ModuleNode) -> Result<(), Error>
+fn say_asked(out: &mut Vec<u8>, decl: &ModuleNode) -> Result<(), Error>
     ensures { Says result out.old out.new (flat_map script_asked (entities_of (shown_module_node decl.now ∷ []))) }
 {
     match decl {
         ModuleNode::Import { entity, .. } | ModuleNode::Export { entity, .. } => match entity {
-            EntityType::Memory(memory) => put_limits(out, memory.minimum, memory.maximum),
+            EntityType::Memory(memory) => say_limits(out, memory.minimum, memory.maximum),
             _ => Ok(()),
         },
         ModuleNode::Func(_) | ModuleNode::OuterAlias { .. } => Ok(()),
     }
 }
 
-fn put_all_asked(out: &mut Vec<u8>, decls: &[ModuleNode]) -> Result<(), Error>
+fn say_all_asked(out: &mut Vec<u8>, decls: &[ModuleNode]) -> Result<(), Error>
     ensures { Says result out.old out.new (flat_map script_asked (entities_of (map shown_module_node decls.now))) }
 {
     for decl in decls {
-        put_asked(out, decl)?;
+        say_asked(out, decl)?;
     }
     Ok(())
 }
 
 // A line of what the canonical ABI asks, which is allowed or not, and after which these declarations follow.
-fn put_line(
+fn say_line(
     out: &mut Vec<u8>,
     may: bool,
     decls: &[ModuleNode],
@@ -56,16 +56,16 @@ fn put_line(
         (script_line may (map shown_module_node decls.now) (map shown_module_node after.now)) }
 {
     if after.len() < decls.len() {
-        put_choice(out, 100, 0)?;
-        return put_all_asked(out, in_front(decls, after));
+        say_choice(out, 100, 0)?;
+        return say_all_asked(out, in_front(decls, after));
     }
     if may {
-        return put_choice(out, 100, 99);
+        return say_choice(out, 100, 99);
     }
     Ok(())
 }
 
-// Is a function of a type of its own still allowed where these declarations are left?
+// Is a function of a type of its own still allowed when these declarations are left?
 fn may_declare(
     place: Place<'_, '_>,
     decls: &[ModuleNode],
@@ -79,8 +79,8 @@ fn may_declare(
     Ok(declared.allows_function(place.config) && declared.allows_type(place.config))
 }
 
-/// What the canonical ABI asks, in its three lines, regardless of the fuel.
-pub(crate) fn put_front(
+/// What the canonical ABI asks, in its three lines, whatever the fuel.
+pub(crate) fn say_front(
     out: &mut Vec<u8>,
     place: Place<'_, '_>,
     decls: &[ModuleNode],
@@ -93,14 +93,14 @@ pub(crate) fn put_front(
     let no_memory = after_memory(decls);
     let no_realloc = after_realloc(no_memory);
     let no_free = after_front(decls);
-    put_line(out, 0 < place.config.max_memories, decls, no_memory)?;
-    put_line(
+    say_line(out, 0 < place.config.max_memories, decls, no_memory)?;
+    say_line(
         out,
         may_declare(place, decls, no_memory)?,
         no_memory,
         no_realloc,
     )?;
-    put_line(
+    say_line(
         out,
         may_declare(place, decls, no_realloc)?,
         no_realloc,

@@ -1,11 +1,11 @@
 //! Where a type is.
 
 ghost use Rattle.std.specs.Prelude.{◌≡◌};
-ghost use Rattle.smith_read_scopes.specs.Scopes.{outer_marked_in, own_in, own_marked_in};
+ghost use Rattle.smith_scopes.specs.NodeScopes.{outer_marked_in, own_in, own_marked_in};
 ghost use Rattle.smith_script_types.specs.Places.{outer_at, own_at, plain_at};
 
 use smith_format::Config;
-use smith_read_scopes::Scopes;
+use smith_scopes::NodeScopes;
 use std::alloc::Global;
 
 /// The limits that a script is within. Public only for the crate above.
@@ -20,12 +20,12 @@ pub struct Given<'s> {
 pub struct Place<'s, 'a> {
     pub alloc: Global,
     pub config: &'s Config,
-    pub scopes: &'s Scopes<'a>,
+    pub scopes: &'s NodeScopes<'a>,
 }
 
 impl<'s> Given<'s> {
     /// A place in these scopes.
-    pub fn place<'a>(self, scopes: &'s Scopes<'a>) -> Place<'s, 'a>
+    pub fn place<'a>(self, scopes: &'s NodeScopes<'a>) -> Place<'s, 'a>
         ensures config { result.config.now ≡ self.entry.config.now }
         ensures own { own_at result ≡ own_marked_in scopes.now }
         ensures outer { outer_at result ≡ outer_marked_in scopes.now }

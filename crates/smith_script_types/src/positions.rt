@@ -5,7 +5,7 @@ ghost use Rattle.std.specs.List.Sorted.{IsStrictlyIncreasing};
 ghost use Rattle.smith_input.specs.Script.{pick, rank_of, script_among};
 ghost use Rattle.smith_script_core.specs.Says.{Says};
 
-use smith_script_core::{Error, put_choice};
+use smith_script_core::{Error, say_choice};
 
 /// The rank of a position among these, which ascend, or how many there are.
 pub(crate) fn rank_of(positions: &[usize], position: usize) -> usize
@@ -17,16 +17,16 @@ pub(crate) fn rank_of(positions: &[usize], position: usize) -> usize
 }
 
 /// A choice of a position among these, which ascend. Public only for the crate above.
-pub fn put_position(out: &mut Vec<u8>, positions: &[usize], position: usize) -> Result<(), Error>
+pub fn say_position(out: &mut Vec<u8>, positions: &[usize], position: usize) -> Result<(), Error>
     requires { IsStrictlyIncreasing positions.now }
     ensures { Says result out.old out.new (script_among nat_eq positions.now position) }
 {
-    put_choice(out, positions.len(), rank_of(positions, position))
+    say_choice(out, positions.len(), rank_of(positions, position))
 }
 
 /// A choice of an index among all of that many.
-pub(crate) fn put_index(out: &mut Vec<u8>, count: usize, index: usize) -> Result<(), Error>
+pub(crate) fn say_index(out: &mut Vec<u8>, count: usize, index: usize) -> Result<(), Error>
     ensures { Says result out.old out.new (pick count (min index count)) }
 {
-    put_choice(out, count, index.min(count))
+    say_choice(out, count, index.min(count))
 }

@@ -7,18 +7,18 @@ ghost use Rattle.smith_format.specs.Entities.{kind_byte};
 ghost use Rattle.smith_format.specs.declared.types.ExportKind.{ExportKind};
 ghost use Rattle.smith_syntax.specs.Entries.{ModuleDecl};
 ghost use Rattle.smith_syntax.specs.ModuleTypes.{func_of, is_of_kind};
-ghost use Rattle.smith_read_types.specs.Nodes.{shown_module_node};
+ghost use Rattle.smith_read.specs.Nodes.{shown_module_node};
 ghost use Rattle.smith_input.specs.declared.error.Error.TheVariants.{OutOfMemory};
 ghost use Rattle.smith_script_types.specs.Tables.{Keeps, count_from, function_in};
 
 use smith_format::{EntityType, ExportKind, FuncType};
-use smith_read_types::ModuleNode;
+use smith_read::ModuleNode;
 use smith_script_core::Error;
 use std::alloc::Global;
 use std::collections::BTreeMap;
 
-/// The module type's own types, the indexes of those that a tag may be of, and how many imports and exports there are
-/// of each kind, how many exports, and how many imports from each module.
+/// The module type's own types, the indexes of the ones that a tag may be of, and how many imports and exports there
+/// are of each kind, how many exports, and how many imports from each module.
 #[derive(Drop)]
 pub(crate) struct Tables<'a> {
     pub(crate) own: Vec<&'a FuncType>,

@@ -3,24 +3,24 @@
 ghost use Rattle.std.specs.Prelude.{◌≡◌, ◌∷◌, ◌-◌, [], map, nat_le, true, if◌then◌else◌, IfOk, OnOk};
 ghost use Rattle.smith_syntax.specs.Entries.{in_order};
 ghost use Rattle.smith_syntax.specs.Marked.{empty_marked, mark, marked_after};
-ghost use Rattle.smith_read_scopes.specs.Scopes.{outer_marked_in, own_marked_in};
-ghost use Rattle.smith_read_types.specs.TypeNodes.{shown_decl_node, shown_type_node};
+ghost use Rattle.smith_scopes.specs.NodeScopes.{outer_marked_in, own_marked_in};
+ghost use Rattle.smith_read.specs.TypeNodes.{shown_decl_node, shown_type_node};
 ghost use Rattle.smith_tree.specs.TypeNeeds.{cost, decl_cost, decls_cost};
 ghost use Rattle.smith_tree.specs.TypeScript.{none_taken, script_decl, script_decls, script_type, script_type_kind};
 ghost use Rattle.smith_tree.specs.declared.choices.TypeKind.TheVariants.{Defined};
 ghost use Rattle.smith_script_core.specs.Says.{Says};
 ghost use Rattle.smith_script_types.specs.Declaring.{closed_in, taken_in};
 
-use crate::core_types::put_core;
-use crate::declarations::{put_core_type_alias, put_declares, put_type_alias};
+use crate::core_types::say_core;
+use crate::declarations::{say_core_type_alias, say_declares, say_type_alias};
 use crate::declaring::Declaring;
 use crate::fuel::{after_core, after_defined, after_function};
 use crate::place::Given;
-use crate::references::{Purpose, put_extern, put_reference};
-use crate::values::{put_defined, put_signature};
-use smith_read_scopes::Scopes;
-use smith_read_types::{DeclNode, TypeNode};
-use smith_script_core::{Error, put_among, put_byte, put_choice, put_end};
+use crate::references::{say_extern, say_reference};
+use crate::values::{say_defined, say_signature};
+use smith_read::{DeclNode, TypeNode};
+use smith_scopes::{NodeScopes, Purpose};
+use smith_script_core::{Error, say_among, say_byte, say_choice, say_end};
 use smith_syntax::Mark;
 use smith_tree::{DeclarationItem, RefTotals, TypeKind, type_kinds};
 
@@ -44,20 +44,20 @@ const EXPORT: Purpose = Purpose {
     for_type_def: true,
 };
 
-fn put_type_kind(out: &mut Vec<u8>, kind: TypeKind) -> Result<(), Error>
+fn say_type_kind(out: &mut Vec<u8>, kind: TypeKind) -> Result<(), Error>
     ensures { Says result out.old out.new (script_type_kind kind) }
 {
-    put_among(out, type_kinds(), &kind)
+    say_among(out, type_kinds(), &kind)
 }
 
-// That a type is one of values, where the fuel lasts for others.
-fn put_defined_kind(out: &mut Vec<u8>, fuel: u32) -> Result<(), Error>
+// That a type is one of values, when the fuel lasts for others.
+fn say_defined_kind(out: &mut Vec<u8>, fuel: u32) -> Result<(), Error>
     ensures { Says result out.old out.new (if nat_le 2 fuel then script_type_kind Defined else []) }
 {
     if fuel < 2 {
         return Ok(());
     }
-    put_type_kind(out, TypeKind::Defined)
+    say_type_kind(out, TypeKind::Defined)
 }
 
 /// What was said of a type: how much fuel it leaves, and its mark. Public only for the crate above.
@@ -70,10 +70,10 @@ pub struct Typed {
 /// A type with that much fuel, how much it leaves of it, and its mark, if marks are kept.
 #[cycle(types)]
 #[tactic(auto, using(crate::proofs::Nodes::nodes))]
-pub fn put_type<'a>(
+pub fn say_type<'a>(
     out: &mut Vec<u8>,
     given: Given<'_>,
-    scopes: &mut Scopes<'a>,
+    scopes: &mut NodeScopes<'a>,
     fuel: u32,
     ty: &'a TypeNode,
 ) -> Result<Typed, Error>
@@ -87,30 +87,30 @@ pub fn put_type<'a>(
 {
     match ty {
         TypeNode::Defined(ty) => {
-            put_defined_kind(out, fuel)?;
-            put_defined(out, &scopes.own, ty)?;
+            say_defined_kind(out, fuel)?;
+            say_defined(out, &scopes.nest.own, ty)?;
             Ok(Typed {
                 left: after_defined(fuel, ty),
-                mark: scopes.own.defined_mark(ty),
+                mark: scopes.nest.own.defined_mark(ty),
             })
         }
         TypeNode::Func(ty) => {
-            put_type_kind(out, TypeKind::Function)?;
-            put_signature(out, &scopes.own, ty)?;
+            say_type_kind(out, TypeKind::Function)?;
+            say_signature(out, &scopes.nest.own, ty)?;
             Ok(Typed {
                 left: after_function(fuel, ty),
-                mark: scopes.own.function_mark(ty),
+                mark: scopes.nest.own.function_mark(ty),
             })
         }
         TypeNode::Component(decls) => {
-            put_type_kind(out, TypeKind::Component)?;
+            say_type_kind(out, TypeKind::Component)?;
             let start = Declaring::new(true, fuel.saturating_sub(1));
-            put_decls(out, given, scopes, start, decls)
+            say_decls(out, given, scopes, start, decls)
         }
         TypeNode::Instance(decls) => {
-            put_type_kind(out, TypeKind::Instance)?;
+            say_type_kind(out, TypeKind::Instance)?;
             let start = Declaring::new(false, fuel.saturating_sub(1));
-            put_decls(out, given, scopes, start, decls)
+            say_decls(out, given, scopes, start, decls)
         }
     }
 }
@@ -118,10 +118,10 @@ pub fn put_type<'a>(
 // A declaration, which is added to the scope, and how much fuel it leaves.
 #[cycle(types)]
 #[tactic(auto, using(crate::proofs::Nodes::nodes))]
-fn put_decl<'a>(
+fn say_decl<'a>(
     out: &mut Vec<u8>,
     given: Given<'_>,
-    scopes: &mut Scopes<'a>,
+    scopes: &mut NodeScopes<'a>,
     here: Declaring,
     decl: &'a DeclNode,
 ) -> Result<u32, Error>
@@ -132,45 +132,39 @@ fn put_decl<'a>(
         ≡ marked_after (shown_decl_node decl.now) (outer_marked_in scopes.old) (own_marked_in scopes.old)) }
     ensures outer { OnOk result (outer_marked_in scopes.new ≡ outer_marked_in scopes.old) }
 {
-    let importing = here.importing;
     match decl {
         DeclNode::Core(ty) => {
-            put_declares(
-                out,
-                given.place(scopes),
-                importing,
-                DeclarationItem::CoreType,
-            )?;
-            put_core(out, given.place(scopes), here.fuel, ty)?;
+            say_declares(out, given.place(scopes), here, DeclarationItem::CoreType)?;
+            say_core(out, given.place(scopes), here.fuel, ty)?;
             scopes.add_core_entry(given.alloc, ty)?;
             return Ok(after_core(here.fuel, ty));
         }
         DeclNode::Type(ty) => {
-            put_declares(out, given.place(scopes), importing, DeclarationItem::Type)?;
-            let typed = put_type(out, given, scopes, here.fuel, ty)?;
+            say_declares(out, given.place(scopes), here, DeclarationItem::Type)?;
+            let typed = say_type(out, given, scopes, here.fuel, ty)?;
             scopes.add_marked(ty, typed.mark)?;
             return Ok(typed.left);
         }
         DeclNode::TypeAlias { count, index } => {
-            put_declares(out, given.place(scopes), importing, DeclarationItem::Alias)?;
-            put_type_alias(out, given.place(scopes), *count, *index)?;
+            say_declares(out, given.place(scopes), here, DeclarationItem::Alias)?;
+            say_type_alias(out, given.place(scopes), *count, *index)?;
             scopes.add_alias(*count, *index)?;
         }
         DeclNode::CoreTypeAlias { count, index } => {
-            put_declares(out, given.place(scopes), importing, DeclarationItem::Alias)?;
-            put_core_type_alias(out, given.place(scopes), *count, *index)?;
+            say_declares(out, given.place(scopes), here, DeclarationItem::Alias)?;
+            say_core_type_alias(out, given.place(scopes), *count, *index)?;
             scopes.add_core_alias(*count, *index)?;
         }
         DeclNode::Import { name, to } => {
-            put_choice(out, 4, 0)?;
-            put_reference(out, given.place(scopes), IMPORT, *to)?;
-            put_extern(out, here.imports, name)?;
+            say_choice(out, 4, 0)?;
+            say_reference(out, given.place(scopes), IMPORT, *to)?;
+            say_extern(out, here.imports, name)?;
             scopes.note_import(*to);
         }
         DeclNode::Export { name, to } => {
-            put_declares(out, given.place(scopes), importing, DeclarationItem::Export)?;
-            put_reference(out, given.place(scopes), EXPORT, *to)?;
-            put_extern(out, here.exports, name)?;
+            say_declares(out, given.place(scopes), here, DeclarationItem::Export)?;
+            say_reference(out, given.place(scopes), EXPORT, *to)?;
+            say_extern(out, here.exports, name)?;
             scopes.add_export(*to)?;
         }
     }
@@ -181,10 +175,10 @@ fn put_decl<'a>(
 // exports does not matter.
 #[cycle(types)]
 #[tactic(auto, using(crate::proofs::Nodes::nodes))]
-fn put_decls<'a>(
+fn say_decls<'a>(
     out: &mut Vec<u8>,
     given: Given<'_>,
-    scopes: &mut Scopes<'a>,
+    scopes: &mut NodeScopes<'a>,
     start: Declaring,
     decls: &'a [DeclNode],
 ) -> Result<Typed, Error>
@@ -201,14 +195,14 @@ fn put_decls<'a>(
     scopes.enter(given.alloc)?;
     let mut here = start;
     for decl in decls {
-        put_byte(out, 1)?;
+        say_byte(out, 1)?;
         let turn = here.with_fuel(here.fuel.saturating_sub(1));
-        let left = put_decl(out, given, scopes, turn, decl)?;
+        let left = say_decl(out, given, scopes, turn, decl)?;
         here = turn.after(decl, left);
     }
     let mark = scopes.closed_mark(!start.importing);
     scopes.leave();
-    put_end(out, decls.len(), 100)?;
+    say_end(out, decls.len(), 100)?;
     Ok(Typed {
         left: here.fuel,
         mark,

@@ -1,13 +1,13 @@
 //! What things are called in a tally.
 
 use smith_core::{EntityType, RefType, ValType};
-use smith_read::{CanonNode, PartNode, TypeNode};
+use smith_read::{Func, PartNode, TypeNode};
 use smith_syntax::{ComponentTypeRef, ComponentValType, DefinedType, PrimitiveValType};
 
 /// A section of a component.
 pub(crate) fn part_label(part: &PartNode) -> &'static str {
     match part {
-        PartNode::Custom { .. } => "custom section",
+        PartNode::Custom(_) => "custom section",
         PartNode::CoreModule(_) => "core module",
         PartNode::CoreTypes(_) => "section of core types",
         PartNode::Component(_) => "component",
@@ -63,10 +63,10 @@ pub(crate) fn ref_label(to: ComponentTypeRef) -> &'static str {
 }
 
 /// A canonical function.
-pub(crate) fn canon_label(canon: &CanonNode) -> &'static str {
+pub(crate) fn canon_label(canon: &Func) -> &'static str {
     match canon {
-        CanonNode::Lift { .. } => "lift",
-        CanonNode::Lower { .. } => "lower",
+        Func::CanonLift { .. } => "lift",
+        Func::CanonLower { .. } => "lower",
     }
 }
 

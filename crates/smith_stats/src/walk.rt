@@ -6,8 +6,7 @@ use crate::labels::{
 use crate::tally::{Tally, increase};
 use smith_core::{FuncType as CoreFuncType, ValType};
 use smith_read::{
-    CanonNode, CoreNode, DeclNode, ExportNode, ImportNode, MOST_DEPTH, ModuleNode, PartNode,
-    TypeNode,
+    CoreNode, DeclNode, Export, Func, ImportNode, MOST_DEPTH, ModuleNode, PartNode, TypeNode,
 };
 use smith_syntax::{ComponentValType, DefinedType, FuncType};
 use std::alloc::AllocError;
@@ -29,7 +28,7 @@ impl Entry for TypeNode {
     }
 }
 
-impl Entry for CanonNode {
+impl Entry for Func {
     fn add_to(&self, tally: &mut Tally) -> Result<(), AllocError> {
         tally.add_one("sections of canonical functions", canon_label(self))
     }
@@ -41,7 +40,7 @@ impl Entry for ImportNode {
     }
 }
 
-impl Entry for ExportNode {
+impl Entry for Export {
     fn add_to(&self, tally: &mut Tally) -> Result<(), AllocError> {
         tally.add_one("sections of exports", "function")
     }
@@ -97,7 +96,7 @@ impl Tally {
             PartNode::Canons(canons) => self.add_entries(canons),
             PartNode::Imports(imports) => self.add_entries(imports),
             PartNode::Exports(exports) => self.add_entries(exports),
-            PartNode::Custom { .. } | PartNode::CoreModule(_) | PartNode::Component(_) => Ok(()),
+            PartNode::Custom(_) | PartNode::CoreModule(_) | PartNode::Component(_) => Ok(()),
         }
     }
 

@@ -6,7 +6,7 @@ use Rattle.smith_format.specs.declared.config.Config.{Config}
 abbrev pub limit_count : ℕ
 limit_count = 20
 
--- how many bytes of the input encode them: all, where there are fewer
+-- how many bytes of the input encode them: all, if there are fewer
 abbrev pub front_len : List ℕ → ℕ
 front_len input = min limit_count (length input)
 

@@ -11,9 +11,9 @@ pub const LIMIT_COUNT: usize = 20;
 /// The limits that an input encodes, and how many bytes at its front encode them.
 #[derive(Debug, Clone, Copy, PartialEq, Eq)]
 pub struct SwarmLimits {
-    /// The limits. They may be such that they do not fit together.
+    /// The limits, which do not always fit together.
     pub config: Config,
-    /// How many bytes: `LIMIT_COUNT`, or as many as the input has where these are fewer.
+    /// How many bytes: `LIMIT_COUNT`, or as many as the input has if it has fewer.
     pub taken: usize,
 }
 
@@ -40,12 +40,12 @@ fn flag(input: &[u8], index: usize) -> bool
     byte(input, index) % 2 == 1
 }
 
-/// The given limits, as overridden by those that the first bytes of an input encode, one byte each; a byte past the end
+/// The given limits, overridden by the ones that the first bytes of an input encode, one byte each; a byte past the end
 /// is 0.
 ///
-/// A number is its byte modulo how many values the limit may have, from 0 on; a feature is on where its byte is odd.
-/// The minima and `must_validate` are those given. So limits that fit together may become limits that do not, as where
-/// a minimum is above the maximum that a byte encodes: these are then refused as any others are.
+/// A number is its byte modulo how many values the limit may have, from 0 on; a feature is on if its byte is odd. The
+/// minima and `must_validate` are those given. So limits that fit together may become limits that do not, as when a
+/// minimum is above the maximum that a byte encodes: these are then refused like any others.
 pub fn swarm_limits(config: &Config, input: &[u8]) -> SwarmLimits
     ensures config { result.config ≡ swarmed config.now input.now }
     ensures taken { result.taken ≡ front_len input.now }

@@ -19,7 +19,7 @@ use Rattle.smith_syntax.specs.Shown.{shown_type}
 use Rattle.smith_syntax.specs.ShownDecls.{full_component_decl, full_instance_decl, shown_alias, shown_component_decl, shown_instance_decl}
 use Rattle.smith_syntax.proofs.Shown.{alias_of_core_type, alias_of_type, shown_component_is, shown_instance_is}
 
--- Declarations in order are written as a list of them, where `all` writes one after another by `one`.
+-- Declarations in order are written as a list of them, if `all` writes one after another by `one`.
 module _ {N K : Type 0} (one : DeclOf N K → Piece) (all : DeclsOf N K → Piece) (none : all no_decls ≡ Some [])
     (more : (d : DeclOf N K) (ds : DeclsOf N K) → all (then_decls d ds) ≡ one d ⊕ all ds) where
   count_decls : (ds : List (DeclOf N K)) → decl_count (in_order ds) ≡ length ds

@@ -11,7 +11,7 @@ use Rattle.smith_syntax.specs.Flat.{flat_value, Flattens}
 same_length : {A : Type 0} (f : A → Option ValType) (xs : List A) (ys : List ValType) → map f xs ≡ map Some ys → length ys ≡ length xs
 same_length f xs ys e = sym (length-map ys Some) ∙ (sym (ap length e) ∙ length-map xs f)
 
--- lists of values that are there are the same where the values are
+-- lists of values that are there are the same if the values are
 same_values : (xs ys : List ValType) → map Some xs ≡ map Some ys → xs ≡ ys
 same_values [] [] e = refl
 same_values [] (y ∷ ys) e = absurd (let n = same_length Some [] (y ∷ ys) e in omega (arith, n))

@@ -3,6 +3,7 @@ pub mod ClearTypes
 pub mod Declarations
 pub mod Encoding
 pub mod Flat
+pub mod Members
 pub mod Shown
 pub mod Signature
 pub mod TooLong

@@ -38,7 +38,7 @@ pub input-named : (xs : List Stored) (r : Option ComponentValType)
     → slice (λ p. field_input (named p)) xs ++ option val_hash.hash_input r ≡ signature_input (signature xs r)
 input-named xs r = λ i. (usize (sym (length-map {A = Stored} xs named) i) ++ sym (each xs) i) ++ option val_hash.hash_input r
 
--- A type has a signature exactly where it is shown as the function of it.
+-- A type has a signature exactly if it is shown as the function of it.
 
 module _ {N K : Type 0} where
   told : (s : Signature) (e : EntryOf N K) → is_of_signature s e ≡ true → plain e ≡ function s

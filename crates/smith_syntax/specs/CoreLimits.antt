@@ -12,8 +12,8 @@ use Rattle.smith_syntax.specs.Entries.{CoreEntry, ModuleDecl, core_func, core_mo
 use Rattle.smith_syntax.specs.ModuleTypes.{declared_in, entities_of, type_count, count_of_kind}
 use Rattle.smith_syntax.specs.WellFormed.{core_size}
 
--- Tables hold functions, or anything where there are reference types; globals are of the configured value types; and tags are
--- allowed only where there are exceptions.
+-- Tables hold functions, or anything if there are reference types; globals are of the configured value types; and tags
+-- are allowed only if there are exceptions.
 abbrev pub EntityLimits : Config → EntityType → Type 0
 EntityLimits config (Func i) = Unit {0}
 EntityLimits config (Table t) = (t.element_type ≡ FuncRef) ⊎ (config.reference_types_enabled ≡ true)

@@ -31,8 +31,7 @@ pub record Signature : Type 0 where
   pub params : List Field
   pub result : Option ComponentValType
 
--- What a module type declares: a function type, an import by two names, an outer alias by its count of scopes and its index, or
--- an export by its name.
+-- What a module type declares: a function type, an import by two names, an outer alias by count and index, or an export.
 pub data ModuleDecl : Type 0 where
   declares : Function → ModuleDecl
   imports : List ℕ → List ℕ → EntityType → ModuleDecl

@@ -41,8 +41,7 @@ is_scalar_result (Some v) = is_some (flat_value v)
 abbrev pub is_scalar : Signature → Bool
 is_scalar s = list_all (λ p. is_some (flat_value p.1)) s.params && is_scalar_result s.result
 
--- The core function type that a signature flattens to: it takes the scalar of each parameter, and returns that of the
--- result.
+-- The core function type that a signature flattens to: it takes the scalar of each parameter, and returns the result's.
 pub record Flattens (s : Signature) (f : Function) : Type 0 where
   pub params : map (λ p. flat_value p.1) s.params ≡ map Some f.0
   pub result : map flat_value (option_to_list s.result) ≡ map Some f.1

@@ -27,7 +27,7 @@ pub record MarkedOf (T C : Type 0) : Type 0 where
 abbrev pub Marked : Type 0
 Marked = MarkedOf Entry CoreEntry
 
--- these at the end, where anything is kept
+-- these at the end, if anything is kept
 abbrev pub more_kept : {A : Type 0} → Bool → List A → List A → List A
 more_kept keeps xs ys = if keeps then xs ++ ys else xs
 
@@ -115,7 +115,7 @@ with_exported own r = record own {
 }
 
 module _ {N K : Type 0} where
-  -- A type where it is declared, in its own scope and those around it, innermost first; and a scope after declarations in it.
+  -- A type at its declaration, in its own scope and those around it, innermost first; and a scope after declarations.
   abbrev mutual
     pub mark : EntryOf N K → Marked → List Marked → Mark
     mark (defined t) own outer = declared_mark (is_nominal t) (map (value_reach own.marks) (members t)) (capped (defined_size (sizes own.marks) t))

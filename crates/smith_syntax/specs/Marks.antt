@@ -51,7 +51,7 @@ elsewhere Nowhere = Nowhere
 abbrev pub closed_mark : Reach → ℕ → Mark
 closed_mark r size = record { nominal = false; parts = elsewhere r; used = elsewhere r; size = size }
 
--- a type that is equal to that one, which is named where it is exported
+-- a type equal to that one, which is named where it is exported
 abbrev pub equal_mark : Mark → Mark
 equal_mark m = record m { used = if m.nominal then Here else m.used }
 
@@ -60,7 +60,7 @@ abbrev pub aliased_mark : ℕ → Mark → Mark
 aliased_mark zero m = m
 aliased_mark (suc count) m = record m { parts = elsewhere m.parts; used = elsewhere m.used }
 
--- that of a type of which nothing is kept
+-- the mark of a type of which nothing is kept
 abbrev pub no_mark : Mark
 no_mark = record { nominal = false; parts = Everywhere; used = Everywhere; size = 0 }
 
@@ -68,7 +68,7 @@ no_mark = record { nominal = false; parts = Everywhere; used = Everywhere; size 
 abbrev pub small_size : ℕ
 small_size = 9999
 
--- The size that a component may have where one more is imported or exported: with one more small type it is below the bound.
+-- The size of a component up to which one more may be imported or exported: a small type more is below the bound.
 abbrev pub room_size : ℕ
 room_size = 990000
 

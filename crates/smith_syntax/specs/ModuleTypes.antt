@@ -15,7 +15,7 @@ use Rattle.smith_format.specs.declared.types.ValType.{ValType}
 use Rattle.smith_format.specs.declared.types.ValType.TheVariants.{I32, I64, F32, F64, V128, Ref}
 use Rattle.smith_syntax.specs.Entries.{CoreEntry, ModuleDecl, core_func, core_module, imports, declares, aliases, exports}
 
--- a core function type, where it is one
+-- a core function type, if it is one
 abbrev pub func_in : Option CoreEntry → Option Function
 func_in None = None
 func_in (Some (core_func f)) = Some f
@@ -28,7 +28,7 @@ aliased around own zero i = slice_get own i
 aliased around own (suc zero) i = func_in (slice_get around i)
 aliased around own (suc (suc n)) i = None
 
--- The parts of a declaration, each where it has one.
+-- The parts of a declaration, each if it has one.
 
 -- the function type that it declares
 abbrev pub func_of : ModuleDecl → List Function
@@ -154,7 +154,7 @@ after_function name f i (d ∷ e ∷ ds) = if is_type f d && is_export name (is_
 abbrev pub after_realloc : List ModuleDecl → List ModuleDecl
 after_realloc ds = after_function (codes "canonical_abi_realloc") realloc 0 ds
 
--- The type of the one that frees is the second where the other function precedes it.
+-- The type of the one that frees is the second if the other function precedes it.
 abbrev pub after_free : List ModuleDecl → List ModuleDecl
 after_free ds = after_function (codes "canonical_abi_free") free (if nat_lt (length (after_realloc ds)) (length ds) then 1 else 0) (after_realloc ds)
 

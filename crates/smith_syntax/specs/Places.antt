@@ -17,7 +17,7 @@ abbrev pub is_core_func : CoreEntry → Bool
 is_core_func (core_func f) = true
 is_core_func (core_module ds) = false
 
--- the indexes of the items that pass, ascending, where the first item has the index i
+-- the indexes of the items that pass, ascending; the first item has the index i
 abbrev pub places : {A : Type 0} → (A → Bool) → ℕ → List A → List ℕ
 places test i [] = []
 places test i (x ∷ xs) = if test x then i ∷ places test (i + 1) xs else places test (i + 1) xs

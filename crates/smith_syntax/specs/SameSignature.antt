@@ -32,7 +32,7 @@ field_input p = str p.0 ++ val_hash.hash_input p.1
 abbrev pub signature_input : Signature → HashWrites
 signature_input a = slice field_input a.params ++ option val_hash.hash_input a.result
 
--- The equality returns true exactly where they are the same, so it is an equivalence, and equal ones feed a hasher the same.
+-- The equality returns true exactly if they are the same: it is an equivalence, and equal ones feed a hasher alike.
 
 pub primitive_Decides : (a b : PrimitiveValType) → Decides (prim.eq a b) (a ≡ b)
 primitive_Decides a b = (same_true the_type tt a b, true_same the_type a b)

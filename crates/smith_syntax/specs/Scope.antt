@@ -1,4 +1,4 @@
--- Scopes: which types are where (Explainer.md, index spaces).
+-- Scopes: the types in scope at each point (Explainer.md, index spaces).
 use Rattle.std.specs.Prelude.{ℕ, Bool, true, false, List, [], ◌∷◌, ◌++◌, Option, Some, None, slice_get}
 use Rattle.std.specs.Option.{option_to_list}
 use Rattle.smith_syntax.specs.Entries.{Entry, defined, function, component_type, instance_type, CoreEntry, core_func, core_module}
@@ -68,7 +68,7 @@ abbrev pub is_core_module : CoreEntry → Bool
 is_core_module (core_func f) = false
 is_core_module (core_module ds) = true
 
--- what is in the scope of that count, where the scopes are given innermost first and 0 is the first
+-- what is in the scope of that count; the scopes are given innermost first, and 0 is the first
 abbrev pub in_scope : {A : Type 0} → (Scope → List A) → List Scope → ℕ → ℕ → Option A
 in_scope of scopes count i = elim (slice_get scopes count) [ None ↦ None | Some s ↦ slice_get (of s) i ]
 

@@ -21,7 +21,7 @@ abbrev pub value_size : List ℕ → ComponentValType → ℕ
 value_size types (Primitive p) = 1
 value_size types (Indexed i) = get_or types i 1
 
--- that of a result's success or failure, 1 where it has no value
+-- the size of a result's success or failure, 1 if it has no value
 abbrev pub maybe_size : List ℕ → Option ComponentValType → ℕ
 maybe_size types None = 1
 maybe_size types (Some v) = value_size types v
@@ -44,8 +44,8 @@ defined_size types (result_type ok err) = maybe_size types ok + maybe_size types
 abbrev pub signature_size : List ℕ → Signature → ℕ
 signature_size types s = summed types (signature_members s)
 
--- Core types: a function type, and a module type, where each import and export has the size of its own type, which is 1 for all but a
--- function and a tag.
+-- Core types: a function type, and a module type. Each import and export of a module type has the size of its own type,
+-- which is 1 for all but a function and a tag.
 
 abbrev pub function_size : Function → ℕ
 function_size f = length f.0 + length f.1 + 2
@@ -69,7 +69,7 @@ abbrev pub core_size : List CoreEntry → CoreEntry → ℕ
 core_size around (core_func f) = function_size f
 core_size around (core_module ds) = module_size around [] ds + 1
 
--- that of a module type, where a core module is imported or exported
+-- the size of a module type, if a core module is imported or exported
 abbrev pub module_type_size : List CoreEntry → CoreEntry → ℕ
 module_type_size around (core_func f) = 0
 module_type_size around (core_module ds) = core_size around (core_module ds)

@@ -1,4 +1,4 @@
--- Which types have no encoding, since a count, the length of a name or an index in them exceeds 4,294,967,295.
+-- Which types have no encoding, because a count, the length of a name or an index in them exceeds 4,294,967,295.
 use Rattle.std.specs.Prelude.{ℕ, ◌⊎◌, Bool, true, false, List, Option, Some, None}
 use Rattle.smith_format.specs.TooLong.{IsTooLarge, NameTooLong, ListTooLong, FunctionTooLong, EntityTooLong}
 use Rattle.smith_syntax.specs.Entries.{DefValType, primitive_type, record_type, variant_type, list_type, tuple_type, flags_type, enum_type, option_type}

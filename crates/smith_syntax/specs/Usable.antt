@@ -13,7 +13,7 @@ use Rattle.smith_syntax.specs.Marks.{is_everywhere, is_small, is_somewhere, no_m
 use Rattle.smith_syntax.specs.Scope.{is_component, is_defined, is_func, is_instance}
 use Rattle.smith_syntax.specs.declared.marks.Mark.{Mark}
 
--- the mark of the first type, and those after it: where there is none, none is kept
+-- the mark of the first type, and the marks after it: if there is none, none is kept
 abbrev pub first_mark : List Mark → Mark
 first_mark [] = no_mark
 first_mark (m ∷ ms) = m
@@ -22,7 +22,7 @@ abbrev pub later_marks : List Mark → List Mark
 later_marks [] = []
 later_marks (m ∷ ms) = ms
 
--- the indexes of the types that pass, ascending, where the first has the index i
+-- the indexes of the types that pass, ascending; the first has the index i
 abbrev pub marked_places : {T : Type 0} → (T → Mark → Bool) → ℕ → List T → List Mark → List ℕ
 marked_places test i [] ms = []
 marked_places test i (t ∷ ts) ms =
@@ -50,7 +50,7 @@ is_small_instance e m = is_instance e && is_small m
 abbrev pub value_places : Marked → List ℕ
 value_places own = marked_places is_value 0 own.types own.marks
 
--- What is offered where types are read: value types that are small, and references that are small and reach as far as they have to.
+-- What is offered when types are read: small value types, and small references that reach as far as they have to.
 
 abbrev pub mark_at : List Mark → ℕ → Mark
 mark_at marks i = get_or marks i no_mark

@@ -1,5 +1,4 @@
--- Which types and core types are well formed, in the scopes in which they are (Explainer.md, type definitions, core type
--- definitions, index spaces).
+-- Well-formed types and core types in their scopes (Explainer.md, type and core type definitions, index spaces).
 use Rattle.std.specs.Prelude.{◌≡◌, ℕ, ◌+◌, ◌≤◌, Bool, true, false, List, [], ◌∷◌, ◌++◌, map, length, Option, Some, None, slice_get, bytes_eq}
 use Rattle.std.specs.List.{AllByRecursion, IsDistinct}
 use Rattle.std.specs.Option.{option_to_list}
@@ -22,7 +21,7 @@ use Rattle.smith_syntax.specs.Scope.{core_type_named, after_decl}
 use Rattle.smith_syntax.specs.declared.types.ComponentValType.{ComponentValType}
 use Rattle.smith_syntax.specs.declared.types.ComponentValType.TheVariants.{Primitive, Indexed}
 
--- An indexed value type names a defined type of the scope in which it is.
+-- An indexed value type names a defined type of its scope.
 abbrev pub FormedVal : Scope → ComponentValType → Type 0
 FormedVal own (Primitive p) = Unit {0}
 FormedVal own (Indexed i) = (e : Entry) × (slice_get own.types i ≡ Some e) × (is_defined e ≡ true)

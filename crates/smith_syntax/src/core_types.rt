@@ -29,7 +29,7 @@ pub enum ModuleTypeDef {
         i: u32,
         ty: Rc<FuncType>,
     },
-    /// An export. The names that the canonical ABI asks for are not allocated.
+    /// An export. Names that the canonical ABI asks for are not allocated.
     Export(CowStr<'static>, EntityType),
 }
 

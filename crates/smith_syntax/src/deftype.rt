@@ -80,8 +80,8 @@ pub enum OuterAliasKind {
     OfCoreType(Rc<CoreType>),
 }
 
-/// What an import or an export is of: the index of a core module type among the core types of the scope, or that of a
-/// type among its types.
+/// What an import or an export is of: the index of a core module type among the core types of the scope, or the index
+/// of a type among its types.
 #[derive(Debug, Clone, Copy, PartialEq, Eq, Hash)]
 pub enum ComponentTypeRef {
     Module(u32),

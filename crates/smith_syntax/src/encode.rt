@@ -1,5 +1,5 @@
 //! Types in the binary format (Binary.md, type definitions), and the lengths of their encodings. No writer lowers the
-//! capacity of its buffer, and none takes memory where the buffer has room for what it writes.
+//! capacity of its buffer, and none takes memory if the buffer has room for what it writes.
 #![tactic(auto, using(crate::proofs::Encoding::encoding))]
 
 mod core_types;
@@ -86,7 +86,7 @@ fn put_type(out: &mut Vec<u8>, ty: &DefType) -> Result<(), Error>
     }
 }
 
-/// The length of a type's encoding; None exactly where it has none of at most 4,294,967,295 bytes.
+/// The length of a type's encoding; None exactly if it has none of at most 4,294,967,295 bytes.
 #[cycle(lengths)]
 pub fn type_len(ty: &DefType) -> Option<u32>
     ensures { IsLengthOf result (entry (shown_type ty.now)) }
@@ -111,7 +111,7 @@ impl Spelled<ComponentFormat> for DefType {
     }
 }
 
-/// Appends a type. It is too long where a count or the length of a name in it exceeds 4,294,967,295.
+/// Appends a type. It is too long if a count or the length of a name in it exceeds 4,294,967,295.
 pub fn write_type(out: &mut Vec<u8>, ty: &DefType) -> Result<(), Error>
     ensures { Appends result out.old out.new (entry (shown_type ty.now)) }
 {

@@ -27,7 +27,7 @@ impl Model for FuncType {
     ghost view = { λ f. signature f.params.items f.result };
 }
 
-/// Two function types are equal exactly where their signatures are.
+/// Two function types are equal exactly if their signatures are.
 impl PartialEq for FuncType {
     ghost use Rattle.smith_syntax.specs.SameSignature.{same_signature, same_signature_per};
 

@@ -8,6 +8,7 @@ mod encode;
 mod func;
 pub mod laws;
 mod marks;
+mod sizes;
 mod types;
 mod valued;
 
@@ -23,6 +24,7 @@ pub use encode::{
 };
 pub use func::FuncType;
 pub use marks::{Mark, Reach};
+pub use sizes::{SIZE_BOUND, function_size, size_sum};
 pub use types::{
     ComponentValType, DefinedType, EnumType, FlagsType, ListType, OptionType, PrimitiveValType,
     RecordType, ResultType, TupleType, VariantType,

@@ -58,7 +58,7 @@ pub struct Mark {
 }
 
 impl Mark {
-    /// That of a type of which nothing is kept.
+    /// The mark of a type of which nothing is kept.
     pub const NONE: Mark = Mark {
         nominal: false,
         parts: Reach::Everywhere,
@@ -83,7 +83,7 @@ impl Mark {
         }
     }
 
-    /// May it be exported, or a function of that type?
+    /// May it, or a function of that type, be exported?
     pub fn is_somewhere(self) -> bool
         ensures { result ≡ is_somewhere self }
     {
@@ -93,7 +93,7 @@ impl Mark {
         }
     }
 
-    /// That of a type of components or of instances, of that size, where what it exports reaches so far.
+    /// The mark of a type of components or of instances, of that size, whose exports reach so far.
     pub fn closed(exported: Reach, size: u32) -> Mark
         ensures { result ≡ closed_mark exported size }
     {
@@ -106,7 +106,7 @@ impl Mark {
         }
     }
 
-    /// That of a type that is equal to it and is named where it is exported.
+    /// The mark of a type that is equal to it and is named where it is exported.
     pub fn equal(self) -> Mark
         ensures { result ≡ equal_mark self }
     {
@@ -114,7 +114,7 @@ impl Mark {
         Mark { used, ..self }
     }
 
-    /// That of an outer alias of it, by the count of scopes.
+    /// The mark of an outer alias of it, by the count of scopes.
     pub fn aliased(self, count: u32) -> Mark
         ensures { result ≡ aliased_mark count self }
     {

@@ -88,7 +88,7 @@ scope_after_parts ends s outer own e = e
 scope_after_parts (first p t) s outer own e =
     scope_after_parts t (after_part s p) outer (marked_after_part p s outer own) (scope_after_part p s outer own e)
 
--- the scope of a component, and those of the components that are open
+-- the scope of a component, and the scopes of the open components
 
 pub scope_marked : (config : Config) (outer : List Marked) (t : Tree) → scope_in (marked_of config outer t) ≡ scope_of t
 scope_marked config outer t = scope_after_parts t no_spaces outer (empty_marked config.must_validate) refl

@@ -1,4 +1,4 @@
--- What is offered of a component with one more part, and of those that are open.
+-- What is offered of a component with one more part, and of the open components.
 use Rattle.std.proofs.Common.{◌≡◌, List, [], ◌∷◌, ◌++◌, fold}
 use Rattle.smith_format.specs.declared.config.Config.{Config}
 use Rattle.smith_syntax.specs.Marked.{Marked, empty_marked}

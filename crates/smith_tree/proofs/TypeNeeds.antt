@@ -9,7 +9,7 @@ use Rattle.smith_tree.specs.CoreTypeNeeds.{core_cost, core_need}
 use Rattle.smith_tree.specs.TypeNeeds.{need_of, need, decl_need, decls_need, declaring, decl_declaring, decls_declaring}
 use Rattle.smith_tree.specs.TypeNeeds.{cost, decl_cost, decls_cost}
 
--- what a type takes it needs, but where it needs none
+-- what a type takes it needs, unless it needs none
 
 core_costs : (e : CoreEntry) → core_cost e ≤ max 1 (core_need e)
 core_costs (core_func f) = omega arith
@@ -87,7 +87,7 @@ type_sizes (function s) = omega arith
 type_sizes (component_type ds) = omega (arith, decls_sizes ds, decls_costs ds)
 type_sizes (instance_type ds) = omega (arith, decls_sizes ds, decls_costs ds)
 
--- Where that many scopes are on the stack, a type is declared in a type only where one more may nest.
+-- If that many scopes are on the stack, a type is declared in a type only if one more may nest.
 abbrev mutual
   pub Nests : Entry → Config → ℕ → Type 0
   Nests (defined t) config scopes = Unit {0}

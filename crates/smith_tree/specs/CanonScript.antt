@@ -12,7 +12,7 @@ use Rattle.smith_tree.specs.declared.choices.CanonItem.{CanonItem}
 use Rattle.smith_tree.specs.declared.choices.CanonItem.TheVariants.{Lower, Lift}
 use Rattle.smith_tree.specs.TypeScript.{script_lifted}
 
--- the signature of the type of that index, and a choice of the type among those that are equal to it
+-- the signature of the type of that index, and a choice of the type among the types equal to it
 abbrev pub script_lift : Spaces → ℕ → Option Entry → List ℕ
 script_lift s t None = []
 script_lift s t (Some (defined d)) = []
@@ -33,6 +33,6 @@ script_canon_rest s (lower f) = script_among nat_eq (scalar_functions s) f
 abbrev pub script_canon : Spaces → Canon → List ℕ
 script_canon s c = script_among equal.eq (canon_items s) (canon_item_of c) ++ script_canon_rest s c
 
--- at most that many, where these spaces precede them
+-- at most that many, after these spaces
 abbrev pub script_canons : ℕ → Spaces → List Canon → List ℕ
 script_canons max s cs = script_loop script_canon after_canon 0 max 0 s cs

@@ -1,4 +1,4 @@
--- A module type so far, and what choices are among where it is read.
+-- A module type so far, and the options of the choices that read it.
 use Rattle.std.specs.Prelude.{ℕ, ◌-◌, Bool, true, ◌&&◌, List, [], ◌∷◌, ◌++◌, map, length, nat_lt}
 use Rattle.smith_input.specs.Offers.{offers_of}
 use Rattle.smith_format.specs.CoreTypes.{Function}
@@ -46,7 +46,7 @@ abbrev pub kind_table : Bool → Bool → Bool → Bool → Bool → List (Bool 
 kind_table globals tables memories tags funcs =
     (globals, kind.Global) ∷ (tables, kind.Table) ∷ (memories, kind.Memory) ∷ (tags, kind.Tag) ∷ (funcs, kind.Func) ∷ []
 
--- what an entity is among: each kind below its limit, a tag where there is a type for it, a function where there is a type
+-- what an entity is among: each kind below its limit, a tag if there is a type for it, a function if there is a type
 abbrev pub kind_offers : Config → Declared → List (Bool × ExportKind)
 kind_offers config s =
     kind_table (nat_lt (count_of_kind kind.Global s.decls) config.max_globals) (nat_lt (count_of_kind kind.Table s.decls) config.max_tables)

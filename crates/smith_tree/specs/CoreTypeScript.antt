@@ -14,8 +14,8 @@ use Rattle.smith_tree.specs.ModuleScript.{script_module}
 abbrev pub script_core_type : Config → Function → List ℕ
 script_core_type config f = pick 2 0 ++ core.script_function (configured config) (max_results config) f
 
--- A core type with that much fuel: a function type, or the second of two and a module type. Where the fuel does not last it is
--- the empty module type, and nothing is read.
+-- A core type with that much fuel: a function type, or the second of two and a module type. If the fuel does not last,
+-- it is the empty module type, and nothing is read.
 abbrev pub script_core : Config → Scope → ℕ → CoreEntry → List ℕ
 script_core config around fuel (core_func f) = script_core_type config f
 script_core config around fuel (core_module ds) = if nat_le 2 fuel then pick 2 1 ++ script_module config around (fuel - 1) ds else []

@@ -4,7 +4,7 @@ use Rattle.smith_syntax.specs.Nesting.{nesting}
 use Rattle.smith_tree.specs.Tree.{Tree, Part, depth_by, depth_by_in, most, no_depth}
 use Rattle.smith_tree.specs.TypeNeeds.{declaring}
 
--- how deep scopes are: those of components, and those that component types and instance types open
+-- how deep scopes are: the scopes of components, and the scopes that component types and instance types open
 abbrev pub scope_depth : Tree → ℕ
 scope_depth t = depth_by (most nesting) t
 

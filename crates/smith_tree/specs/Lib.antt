@@ -15,7 +15,9 @@ pub mod Open
 pub mod Readable
 pub mod ReadableCoreTypes
 pub mod ReadableTypes
+pub mod ReadsCustom
 pub mod Script
+pub mod Shown
 pub mod Spaces
 pub mod TooLong
 pub mod Tree
@@ -24,3 +26,12 @@ pub mod TypeNeeds
 pub mod TypeOffers
 pub mod TypeScript
 pub mod WellFormed
+pub mod Bodies
+pub mod CoreModules
+pub mod Counts
+pub mod Demands
+pub mod Examples
+pub mod Facts
+pub mod Sizes
+pub mod Validates
+pub mod Unmarked

@@ -15,7 +15,7 @@ use Rattle.smith_tree.specs.Tree.{declared_depth, exports_of, function_count, im
 abbrev pub max_depth : Config → ℕ
 max_depth config = max config.max_nesting_depth 1
 
--- The most that each component has by itself: names are counted in bytes, and functions are those imported, lifted and lowered.
+-- The most that each component has by itself: names count in bytes, functions if imported, lifted or lowered.
 pub record OwnLimits (config : Config) (tree : Tree) : Type 0 where
   pub types : length (types_of tree) ≤ config.max_types
   pub core_types : length (core_types_of tree) ≤ config.max_types

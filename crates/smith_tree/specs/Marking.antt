@@ -60,6 +60,6 @@ marked_from config (u ∷ us) outer = marked_from config us (marked_of config ou
 abbrev pub marked_in : Config → List Tree → List Marked
 marked_in config us = marked_from config us []
 
--- the scope of an inner component with these parts, where these are open around it
+-- the scope of an inner component with these parts, if these are open around it
 abbrev pub marked_inner : Config → List Tree → Tree → Marked
 marked_inner config outer inner = marked_of config (marked_in config outer) inner

@@ -1,5 +1,5 @@
--- The input that a module type is read from: what a script says of it. What the canonical ABI asks in front is taken where the
--- declarations begin with it, since that takes no fuel.
+-- The input that a module type is read from: what a script says of it. What the canonical ABI asks in front is taken if
+-- the declarations begin with it, since that takes no fuel.
 use Rattle.std.specs.Prelude.{ℕ, zero, suc, ◌+◌, ◌-◌, Bool, ◌&&◌, List, [], ◌∷◌, ◌++◌, length, take, nat_eq, nat_lt, if◌then◌else◌}
 use Rattle.std.specs.List.{flat_map}
 use Rattle.smith_input.specs.NameScript.{script_new_text}
@@ -27,7 +27,7 @@ use Rattle.smith_tree.specs.contracts.choices.ModuleItemPartialEq.TheImpl.{ghost
 use Rattle.smith_tree.specs.declared.choices.ModuleItem.{ModuleItem}
 use Rattle.smith_tree.specs.declared.choices.ModuleItem.TheVariants as item
 
--- what a table holds, where there is a choice
+-- what a table holds, if there is a choice
 abbrev pub script_element : Config → RefType → List ℕ
 script_element config t = if config.reference_types_enabled then script_among references.eq (FuncRef ∷ ExternRef ∷ []) t else []
 
@@ -79,8 +79,8 @@ script_asked (Memory m) = script_limits m.minimum m.maximum
 script_asked (Global g) = []
 script_asked (Tag t) = []
 
--- A line of what the canonical ABI asks, after which these declarations follow: where it is in front of them it is taken, and
--- otherwise it is declined where it is allowed.
+-- A line of what the canonical ABI asks, after which these declarations follow: if it is in front of them it is taken,
+-- and otherwise it is declined if it is allowed.
 abbrev pub script_line : Bool → List ModuleDecl → List ModuleDecl → List ℕ
 script_line may ds behind =
     if nat_lt (length behind) (length ds) then pick 100 0 ++ flat_map script_asked (entities_of (in_front ds behind)) else (if may then pick 100 99 else [])

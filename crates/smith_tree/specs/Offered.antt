@@ -1,4 +1,4 @@
--- What is offered where components are read: each type, import and export that can be used as a validator asks.
+-- What is offered when components are read: each type, import and export that can be used as a validator asks.
 use Rattle.std.specs.Prelude.{◌≡◌, ℕ, true, false, List, [], ◌∷◌}
 use Rattle.smith_format.specs.declared.config.Config.{Config}
 use Rattle.smith_syntax.specs.Entries.{Entry, ImportEntry}
@@ -9,7 +9,7 @@ use Rattle.smith_tree.specs.Spaces.{Spaces, after_export, after_part, no_spaces}
 use Rattle.smith_tree.specs.Tree.{ExportEntry, Tree, Part, ends, first, custom, core_module, core_types, component, types, canons, imports, exports}
 use Rattle.smith_tree.specs.TypeOffers.{has_room}
 
--- Entries of a section in a row: each is offered where those before it are.
+-- Entries of a section in a row: each is offered after those before it.
 
 abbrev pub OfferedTypes : List Entry → List Marked → Marked → Type 0
 OfferedTypes [] outer own = Unit {0}
@@ -19,7 +19,7 @@ abbrev pub OfferedImports : List ImportEntry → Marked → Type 0
 OfferedImports [] own = Unit {0}
 OfferedImports (i ∷ is) own = OfferedRef own true i.to × (has_room own false ≡ true) × OfferedImports is (with_import_entry own i)
 
--- Every component function can be exported, where there is room.
+-- Every component function can be exported if there is room.
 abbrev pub OfferedExports : List ExportEntry → Spaces → Marked → Type 0
 OfferedExports [] s own = Unit {0}
 OfferedExports (e ∷ es) s own =

@@ -34,7 +34,7 @@ scopes_in us = scopes_from us []
 abbrev pub with_inner : Open → Tree → Open
 with_inner stack t = record { outer = stack.outer; inner = t }
 
--- may a component with these parts be finished, where input is left?
+-- may a component with these parts be finished, if input is left?
 abbrev pub is_finish_offered : Config → Tree → Bool
 is_finish_offered config t = nat_le config.finish_after (length (parts_of t))
 
@@ -51,7 +51,7 @@ is_component_offered config stack =
 abbrev pub is_export_offered : Config → Bool
 is_export_offered config = nat_lt 0 config.max_exports
 
--- the items where input is left, in order, and whether each is offered
+-- the items if input is left, in order, and whether each is offered
 abbrev pub offers : Bool → Bool → Bool → Bool → List (Bool × Item)
 offers with_finish with_module with_component with_exports =
     (with_finish, Finish)
@@ -65,12 +65,12 @@ offers with_finish with_module with_component with_exports =
     ∷ (with_exports, Exports)
     ∷ []
 
--- what a turn may do where input is left
+-- what a turn may do if input is left
 abbrev pub item_offers : Config → Open → List (Bool × Item)
 item_offers config stack =
     offers (is_finish_offered config stack.inner) (is_module_offered config stack) (is_component_offered config stack) (is_export_offered config)
 
--- what a turn chooses among where input is left
+-- what a turn chooses among if input is left
 abbrev pub more_items : Bool → Bool → Bool → Bool → List Item
 more_items with_finish with_module with_component with_exports = offers_of (offers with_finish with_module with_component with_exports)
 

@@ -1,5 +1,5 @@
 -- Which components can be read, and which can be generated: each name can be made after those before it, core modules stand for
--- generated ones, and export sections are there only where there may be exports.
+-- generated ones, and there are export sections only if there may be exports.
 use Rattle.std.specs.Prelude.{◌≡◌, ℕ, ◌<◌, ◌≤◌, List, ◌∷◌, length}
 use Rattle.std.specs.List.{AllByRecursion}
 use Rattle.std.specs.Str.{IsUtf8}
@@ -39,7 +39,7 @@ abbrev mutual
 abbrev pub IsReadable : Config → Tree → Type 0
 IsReadable config tree = IsReadableRest config tree ends
 
--- It has as many sections as a component that is finished where input is left.
+-- It has enough sections to be finished while input is left.
 abbrev pub IsFinishable : Config → Tree → Type 0
 IsFinishable config t = config.finish_after ≤ length (parts_of t)
 

@@ -13,8 +13,8 @@ IsReadableText text = IsUtf8 text × (length text ≤ 100)
 abbrev pub IsReadableNewText : List (List ℕ) → List ℕ → Type 0
 IsReadableNewText names text = IsUtf8 text × IsReachableText 100 names text
 
--- The name of an import or an export can be made after those before it. That of the module from which something is imported is read as
--- it is.
+-- The name of an import or an export can be made after those before it. The name of the module from which something is
+-- imported is read as it is.
 abbrev pub IsReadableModuleDecl : List ModuleDecl → ModuleDecl → Type 0
 IsReadableModuleDecl before (imports from name e) = IsReadableText from × IsReadableNewText (names_from from before) name
 IsReadableModuleDecl before (declares f) = Unit {0}

@@ -22,7 +22,7 @@ IsReadableDefined (enum_type ns) = AreReadableNames ns
 IsReadableDefined (option_type v) = Unit {0}
 IsReadableDefined (result_type ok err) = Unit {0}
 
--- Of a declaration, where the type has imports and exports of these names.
+-- Of a declaration, if the type has imports and exports of these names.
 abbrev mutual
   pub IsReadableType : Entry → Type 0
   IsReadableType (defined t) = IsReadableDefined t

@@ -40,7 +40,7 @@ item_of (exports es) = item.Exports
 abbrev pub script_item : Config → List Tree → Tree → Item → List ℕ
 script_item config outer before chosen = script_among equal.eq (items_with_input config (record { outer = outer; inner = before })) chosen
 
--- The entries of a type section: a byte before each, and one at the end where there might be another.
+-- The entries of a type section: a byte before each, and one at the end if there might be another.
 abbrev pub script_types : Config → ℕ → Marked → List Marked → List Entry → List ℕ
 script_types config max own outer ts = script_loop (λ s e. script_type e config config.max_type_size s outer) (with_type_entry outer) 0 max 0 own ts
 
@@ -48,7 +48,7 @@ script_types config max own outer ts = script_loop (λ s e. script_type e config
 abbrev pub script_core_types : Config → ℕ → Marked → List CoreEntry → List ℕ
 script_core_types config max own ts = script_loop (λ s x. script_core config (scope_in s) config.max_type_size x) with_core_entry 0 max 0 own ts
 
--- an import where the section has these: what it is of, its name, and that there is no URL
+-- an import after these of the section: what it is of, its name, and that there is no URL
 abbrev pub script_import : Config → Open → List ImportEntry → ImportEntry → List ℕ
 script_import config stack is x =
     script_ref config (marked_with_imports config stack is) (totals_of (with_imports stack is)) true false x.to
@@ -57,15 +57,15 @@ script_import config stack is x =
 abbrev pub script_imports : Config → Open → List ImportEntry → List ℕ
 script_imports config stack is = script_loop (script_import config stack) (λ s x. s ++ x ∷ []) 0 (config.max_imports - length (imports_of stack.inner)) 0 [] is
 
--- an export where the section has these: a choice among the component functions, and its name
+-- an export after these of the section: a choice among the component functions, and its name
 abbrev pub script_export : Tree → List ExportEntry → ExportEntry → List ℕ
 script_export t es x = pick (length (functions_of (with_exports t es))) x.func ++ script_new 100 (length (exports_of t) + length es) x.name
 
 abbrev pub script_exports : Config → Tree → List ExportEntry → List ℕ
 script_exports config t es = script_loop (script_export t) (λ s x. s ++ x ∷ []) 0 (config.max_exports - length (exports_of t)) 0 [] es
 
--- The rest of a component, where these components are open around it and these parts precede it; and what follows the choice of
--- its item in the script of a part.
+-- The rest of a component, if these components are open around it and these parts precede it; and what follows the
+-- choice of its item in the script of a part.
 abbrev mutual
   pub script_from : Tree → Config → List Tree → Tree → List ℕ
   script_from ends config outer before = script_item config outer before item.Finish
@@ -87,7 +87,7 @@ abbrev mutual
 abbrev pub script : Config → Tree → List ℕ
 script config plan = script_from plan config [] ends
 
--- A plan: it can be generated within these limits, regardless of what follows its script, and bytes spell it.
+-- A plan: it can be generated within these limits, whatever follows its script, and bytes spell it.
 pub record Within (config : Config) (plan : Tree) : Type 0 where
   pub possible : CanBeGenerated config plan
   pub finishable : AreFinishable config plan

@@ -1,4 +1,5 @@
--- Which components have no encoding, since a count, the length of a name or of a section, or an index in them exceeds 4,294,967,295.
+-- Which components have no encoding, because a count, the length of a name or of a section, or an index in them exceeds
+-- 4,294,967,295.
 use Rattle.std.specs.Prelude.{◌≡◌, ◌⊎◌, None}
 use Rattle.smith_format.specs.Piece.{◌⊕◌, raw, text, many}
 use Rattle.smith_format.specs.TooLong.{IsTooLarge, NameTooLong, NoBytes, ListTooLong, ContentsTooLong}
@@ -17,8 +18,8 @@ CanonTooLong (lower f) = IsTooLarge f
 abbrev pub ExportEntryTooLong : ExportEntry → Type 0
 ExportEntryTooLong e = NameTooLong e.name ⊎ IsTooLarge e.func
 
--- Numbers that are not bytes occur in no component of the program, and bytes that are not a core module only where a module is too long
--- itself.
+-- Numbers that are not bytes occur in no component of the program, and bytes that are not a core module only if a
+-- module is too long itself.
 abbrev mutual
   pub TreeTooLong : Tree → Type 0
   TreeTooLong ends = ⊥

@@ -168,7 +168,7 @@ inside t = anywhere components_in t
 abbrev pub modules : Tree → List (List ℕ)
 modules t = anywhere modules_in t
 
--- how many modules, components below the root and instances there are, those that are imported too
+-- how many modules, components below the root and instances there are, including imported ones
 
 abbrev pub module_count : Tree → ℕ
 module_count t = length (modules t) + length (anywhere imported_modules_in t)
@@ -179,7 +179,7 @@ component_count t = length (inside t) + length (anywhere imported_components_in 
 abbrev pub instance_count : Tree → ℕ
 instance_count t = length (anywhere imported_instances_in t)
 
--- how deep components are, the root at 1, where types reach that much below the component in which they are
+-- how deep components are, the root at 1, if types reach that much below the component in which they are
 abbrev mutual
   pub depth_by : (List Entry → ℕ) → Tree → ℕ
   depth_by below ends = 1

@@ -25,7 +25,7 @@ abbrev mutual
   decls_cost no_decls = 0
   decls_cost (then_decls d ds) = decl_cost d + decls_cost ds + 1
 
--- A type of values without members needs none: where the fuel does not last a type is one of values.
+-- A type of values without members needs none: if the fuel does not last, a type is a type of values.
 abbrev pub need_of : ℕ → ℕ
 need_of zero = 0
 need_of (suc n) = suc n + 2
@@ -50,7 +50,7 @@ abbrev mutual
   decls_need no_decls = 0
   decls_need (then_decls d ds) = max 2 (max (decl_need d + 1) (decls_need ds + decl_cost d + 1))
 
--- How deep below the innermost scope the types are that a type declares: each one below the scope in which it is declared.
+-- How deep a type's declared types are below the innermost scope: each is one below the scope in which it is declared.
 abbrev mutual
   pub declaring : Entry → ℕ
   declaring (defined t) = 0

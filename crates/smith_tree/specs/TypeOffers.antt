@@ -1,5 +1,5 @@
--- What choices are among where types are read: of a type, of what an import or an export is of, of a declaration, and of a primitive that
--- flattens to a core value type.
+-- The options of the choices that read types: of a type, of what an import or an export is of, of a declaration, and of
+-- a primitive that flattens to a core value type.
 use Rattle.std.specs.Prelude.{◌≡◌, ℕ, ◌+◌, Bool, true, ◌&&◌, ◌||◌, not, List, [], ◌∷◌, ◌++◌, length, nat_le, nat_lt, if◌then◌else◌, false}
 use Rattle.smith_input.specs.Offers.{offers_of}
 use Rattle.smith_format.specs.declared.config.Config.{Config}
@@ -93,7 +93,7 @@ ref_offers config own totals for_import for_type_def =
 abbrev pub kinds_offered : Config → Marked → RefTotals → Bool → Bool → List RefKind
 kinds_offered config own totals for_import for_type_def = offers_of (ref_offers config own totals for_import for_type_def)
 
--- none where there is no room
+-- none if there is no room
 abbrev pub ref_kinds : Config → Marked → RefTotals → Bool → Bool → List RefKind
 ref_kinds config own totals for_import for_type_def =
     if has_room own for_type_def then kinds_offered config own totals for_import for_type_def else []
@@ -112,8 +112,8 @@ IsAllowed config own totals for_import for_type_def (to.Instance i) = allows_one
 
 -- Declarations.
 
--- Does the scope have something that an import may be of: a type, or the type of a core module? A choice is read then, regardless of what
--- is offered.
+-- Does the scope have something that an import may be of: a type, or the type of a core module? A choice is read then,
+-- whatever is offered.
 abbrev pub has_reference : Marked → Bool
 has_reference own = nat_lt 0 (length own.types) || nat_lt 0 (length (places is_core_module 0 own.core_types))
 
@@ -129,7 +129,7 @@ is_occupied s = nat_lt 0 (length s.types + length s.core_types)
 abbrev pub occupied : List Marked → List ℕ
 occupied scopes = places is_occupied 0 scopes
 
--- the items with their indexes, where the first has the index i
+-- the items with their indexes; the first has the index i
 abbrev pub numbered : {A B : Type 0} → (ℕ → A → B) → ℕ → List A → List B
 numbered f i [] = []
 numbered f i (x ∷ xs) = f i x ∷ numbered f (i + 1) xs
@@ -144,7 +144,7 @@ abbrev pub declaration_table : Bool → Bool → Bool → List (Bool × Declarat
 declaration_table with_export with_alias with_type =
     (with_export, item.Export) ∷ (with_alias, item.Alias) ∷ (true, item.CoreType) ∷ (with_type, item.Type) ∷ []
 
--- a declaration: an export and an outer alias where there is something to name, and a type where one more scope may nest
+-- a declaration: an export and an outer alias if there is something to name, and a type if one more scope may nest
 abbrev pub declaration_offers : Config → List Marked → Marked → List (Bool × DeclarationItem)
 declaration_offers config outer own =
     declaration_table (has_export own) (nat_lt 0 (length (occupied (own ∷ outer)))) (nat_lt (length (own ∷ outer)) config.max_nesting_depth)

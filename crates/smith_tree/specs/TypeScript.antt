@@ -37,7 +37,7 @@ use Rattle.smith_syntax.specs.declared.types.PrimitiveValType.{PrimitiveValType}
 use Rattle.smith_tree.specs.TypeOffers.{primitives, defined_kinds, type_kinds, lifted}
 use Rattle.smith_syntax.specs.Flat.{flat_primitive}
 
--- that a value type is primitive, where it may be an indexed one
+-- that a value type is primitive, if it may be an indexed one
 abbrev pub script_either : ℕ → List ℕ
 script_either count = if nat_eq count 0 then [] else pick 2 0
 
@@ -52,7 +52,7 @@ abbrev pub script_maybe : Marked → Option ComponentValType → List ℕ
 script_maybe own None = 0 ∷ []
 script_maybe own (Some v) = 1 ∷ script_val own v
 
--- a name of which at most 100 bytes are read, that many names being there
+-- a name of which at most 100 bytes are read, after that many names
 abbrev pub script_label : ℕ → List ℕ → List ℕ
 script_label count n = script_new 100 count n
 
@@ -87,7 +87,7 @@ script_signature own s = script_members (script_field own) 0 16 s.params ++ scri
 abbrev pub script_type_kind : TypeKind → List ℕ
 script_type_kind k = script_among types.eq type_kinds k
 
--- a primitive among those that flatten as it does
+-- a primitive among the ones that flatten as it does
 abbrev pub script_scalar : ComponentValType → List ℕ
 script_scalar (Primitive p) = elim (flat_primitive p) [ None ↦ [] | Some v ↦ script_among prims.eq (lifted v) p ]
 script_scalar (Indexed i) = []
@@ -138,7 +138,7 @@ pub record Taken : Type 0 where
 abbrev pub none_taken : Taken
 none_taken = record { imports = 0; exports = 0 }
 
--- with those of one more declaration
+-- with one more declaration
 abbrev pub after_taken : Taken → Decl → Taken
 after_taken taken d = record { imports = taken.imports + length (import_of d); exports = taken.exports + length (export_of d) }
 
@@ -150,7 +150,7 @@ script_entry count place (Some s) = pick (length (aliases_of count s)) (place s)
 abbrev pub script_alias : List Marked → ℕ → (Marked → ℕ) → List ℕ
 script_alias scopes count place = script_among nat_eq (occupied scopes) count ++ script_entry count place (slice_get scopes count)
 
--- that no import is declared, where one might be
+-- that no import is declared, if one might be
 abbrev pub script_no_import : Bool → Marked → List ℕ
 script_no_import importing own = if importing && has_reference own then pick 4 1 else []
 
@@ -161,8 +161,8 @@ script_declaration_item config outer own chosen = script_among items.eq (declara
 abbrev pub script_declares : Config → Bool → Marked → List Marked → DeclarationItem → List ℕ
 script_declares config importing own outer chosen = script_no_import importing own ++ script_declaration_item config outer own chosen
 
--- A type with that much fuel: which of four kinds it is, where the fuel lasts, and then what it is. The fuel lasts for all but a type
--- of values.
+-- A type with that much fuel: which of four kinds it is, if the fuel lasts, and then what it is. The fuel lasts for all
+-- but a type of values.
 abbrev mutual
   pub script_type : Entry → Config → ℕ → Marked → List Marked → List ℕ
   script_type (defined t) config fuel own outer = (if nat_le 2 fuel then script_type_kind Defined else []) ++ script_defined own t
@@ -186,7 +186,7 @@ abbrev mutual
   script_decl (export_decl name n r) config importing fuel taken own outer =
       script_declares config importing own outer item.Export ++ (script_ref config own uncounted false true r ++ script_extern taken.exports name)
 
-  -- A byte asks for each declaration, that many being made before, with these names. Each turn takes one from the fuel.
+  -- A byte asks for each declaration after that many, with these names. Each turn takes one from the fuel.
   pub script_decls : Decls → Config → Bool → ℕ → ℕ → Taken → Marked → List Marked → List ℕ
   script_decls no_decls config importing fuel done taken own outer = script_end done 100
   script_decls (then_decls d ds) config importing fuel done taken own outer =

@@ -175,7 +175,7 @@ pub fn defined_kinds() -> &'static [DefinedKind]
     &DEFINED_KINDS
 }
 
-/// What a turn of the builder may do where input is left, in the order of its choice.
+/// What a turn of the builder may do if input is left, in the order of its choice.
 pub fn item_choices(
     with_finish: bool,
     with_module: bool,

@@ -12,14 +12,17 @@ ghost use Rattle.smith_tree.specs.TooLong.{TreeTooLong};
 ghost use Rattle.smith_tree.specs.Tree.{Tree};
 ghost use Rattle.smith_tree.specs.TypeNeeds.{need};
 
+pub mod offers;
+pub mod validity;
+
 /// No bytes have two readings.
 pub fn one_reading()
     ensures { (t r : Tree) (b : List ℕ) → Spells t b → Spells r b → t ≡ r }
 {}
 
-/// A component has no bytes exactly where a count, the length of a name or of a section, or an index in it is greater
-/// than 4,294,967,295, or a module in it has no bytes itself; its names being UTF-8, its bytes bytes and its bounds of
-/// limits numbers of 64 bits, as those of the program are.
+/// A component has no bytes exactly if a count, the length of a name or of a section, or an index in it is greater than
+/// 4,294,967,295, or a module in it has no bytes itself. As in the program, its names are UTF-8, its bytes are bytes,
+/// and its bounds of limits are numbers of 64 bits.
 pub fn long_components_have_no_encoding()
     ensures { (t : Tree) → (component_text t ≡ None) ↔ TreeTooLong t }
 {}

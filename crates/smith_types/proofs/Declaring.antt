@@ -148,12 +148,12 @@ pub scope_chosen : (scopes : List Contents) (counts b mid : List ℕ) (count : �
 scope_chosen scopes counts b mid count e (k, r, at) = record
     { place = k; reads = subst (λ cs. Reads (length cs) b k mid) e r; named = ap (λ cs. slice_get cs k) (sym e) ∙ at }
 
--- where one of the scopes has an entry, there is one
+-- if one of the scopes has an entry, there is one
 pub split_occupied : (scopes : List Marked) → 0 < length (occupied (first_marked scopes ∷ drop 1 scopes)) → scopes ≡ first_marked scopes ∷ drop 1 scopes
 split_occupied [] h = absurd (omega (arith, h))
 split_occupied (s ∷ ss) h = refl
 
--- the same, also where there is none
+-- the same, also if there is none
 pub occupied_count : (scopes : List Marked) → length (occupied (first_marked scopes ∷ drop 1 scopes)) ≡ length (occupied scopes)
 occupied_count [] = refl
 occupied_count (s ∷ ss) = refl

@@ -1,5 +1,5 @@
--- Which types are read: exactly those that are well formed, of what was offered and within the limits, whose names can be read, for
--- which there is fuel, and that nest.
+-- Which types are read: exactly the types that are well formed, of what was offered and within the limits, whose names
+-- can be read, for which there is fuel, and that nest.
 use Rattle.std.proofs.Common.{ℕ, zero, suc, ◌+◌, ◌-◌, ◌≤◌, List, [], ◌∷◌, ◌++◌, length, arith, subst, sym}
 use Rattle.std.specs.Prelude.{max, ◌↔◌}
 use Rattle.smith_input.specs.Script.{AreBytes}
@@ -78,7 +78,7 @@ mutual
         decls_last ds config (after_decl outer own d) outer scopes (fuel - 1 - decl_cost d) f.1 x.1 p.2,
       )
 
--- What is asked of a type that is to be read with that much fuel where these scopes are.
+-- What is asked of a type to be read in these scopes with that much fuel.
 abbrev Asked : Config → Marked → List Marked → ℕ → Entry → Type 0
 Asked config own outer fuel e =
     FormedEntry e (scope_in own) (scopes_in_marked outer) × OfferedEntry e own outer × EntryLimits config e × IsReadableType e × (need e ≤ fuel)

@@ -23,7 +23,7 @@ use Rattle.smith_types.specs.Declarations.{NamedExtern, ReadsMaybeUrl, a_url, ur
 pub names_more : (so_far : List NamedExtern) (x : NamedExtern) → names (so_far ++ x ∷ []) ≡ names so_far ++ x.0 ∷ []
 names_more so_far x = map-append (λ y. y.0) so_far (x ∷ [])
 
--- The names with those of one more declaration, whose plain tree has the same.
+-- The names with the names of one more declaration, whose plain tree has the same.
 pub names_behind : (so_far more : List NamedExtern) (one : List (List ℕ × Unit {0})) → names one ≡ names more
     → names so_far ++ names one ≡ names (so_far ++ more)
 names_behind so_far more one same = ap (λ z. names so_far ++ z) same ∙ sym (map-append (λ x. x.0) so_far more)

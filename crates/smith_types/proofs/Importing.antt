@@ -13,7 +13,7 @@ use Rattle.smith_tree.specs.TypeOffers.{has_export, has_reference, ref_kinds, re
 use Rattle.smith_types.specs.References.{ReadsRef}
 use Rattle.smith_tree.specs.declared.choices.RefKind.TheVariants as kind
 
--- where nothing is offered, none is offered of the first
+-- if nothing is offered, the first is not offered
 first_offered : {A : Type 0} (b : Bool) (x : A) (os : List (Bool × A)) → offers_of ((b, x) ∷ os) ≡ [] → (b ≡ false) × (offers_of os ≡ [])
 first_offered true x os e = absurd (cc)
 first_offered false x os e = (refl, e)
@@ -22,7 +22,7 @@ left_true : (a b : Bool) → b ≡ true → a && b ≡ false → a ≡ false
 left_true true b t e = absurd (false≢true (sym e ∙ t))
 left_true false b t e = refl
 
--- An export has something to name where there is something to export.
+-- An export has something to name if there is something to export.
 pub export_possible : (config : Config) (own : Marked) → has_export own ≡ true → ref_kinds config own uncounted false true ≡ [] → ⊥
 export_possible config own has none =
     let offers = ref_offers config own uncounted false true in

@@ -29,7 +29,7 @@ use Rattle.smith_syntax.specs.declared.types.PrimitiveValType.TheVariants as pri
 use Rattle.smith_types.specs.Lifting.{IsLiftable, IsLiftableFunction, ReadsParams, no_params, a_param, ReadsLiftedType}
 use Rattle.smith_tree.specs.TypeOffers.{lifted}
 use Rattle.smith_tree.specs.ReadableTypes.{AreReadableNames}
-use Rattle.smith_core_types.proofs.Names.{AreNew, new_distinct}
+use Rattle.smith_input.proofs.DistinctNames.{AreNew, new_distinct}
 use Rattle.smith_input.proofs.Lists.{all_at, all_both}
 
 -- core value types
@@ -155,7 +155,7 @@ module _ {f : Function} {b : List ℕ} {s : Signature} {rest : List ℕ} (r : Re
   pub lifted_prims : (own : Scope) → AllByRecursion (λ p. FormedVal own p.1) s.params × FormedMaybe own s.result
   lifted_prims own = (params_primitive own r.params, subst (FormedMaybe own) (sym r.is) tt)
 
-  -- So is the function type where there are at most 16 parameters.
+  -- So is the function type if there are at most 16 parameters.
   pub lifted_formed : length f.0 ≤ 16 → (own : Scope) (outer : List Scope) → FormedEntry (function s) own outer
   lifted_formed few own outer =
       let prims = lifted_prims own in

@@ -24,7 +24,7 @@ use Rattle.smith_types.proofs.Judged.{IsType}
 use Rattle.smith_types.proofs.MarkedPlain.{after_plain, scope_after}
 use Rattle.smith_types.proofs.Made.{defined_is, function_is}
 use Rattle.smith_core_types.proofs.MadeCore.{made_core_formed}
-use Rattle.smith_core_types.proofs.Names.{AreNew, new_distinct, distinct_new, none_before}
+use Rattle.smith_input.proofs.DistinctNames.{AreNew, new_distinct, distinct_new, none_before}
 
 -- A declaration and its plain tree import and export the same names.
 module _ {N K : Type 0} where

@@ -1,4 +1,4 @@
--- The scopes, the bytes and the fuel decide which type is made, and what is left.
+-- The scopes, the bytes and the fuel decide which type is made, and the rest.
 use Rattle.std.proofs.Common.{◌≡◌, ℕ, ◌+◌, ◌-◌, Bool, true, false, List, ◌∷◌, refl, sym, ap, ◌∙◌, subst, arith}
 use Rattle.smith_input.specs.Choices.{ReadsAmong}
 use Rattle.smith_input.proofs.Choices.{among_same}
@@ -20,7 +20,7 @@ use Rattle.smith_types.proofs.Made.{defined_same, function_same}
 use Rattle.smith_core_types.proofs.MadeCore.{made_core_same}
 use Rattle.smith_core_types.proofs.MadeCoreSame.{Same}
 
--- a choice of what is declared, where no import is
+-- a choice of what is declared, if no import is
 items_same : (config : Config) (importing : Bool) (outer : List Marked) (own : Marked) (b mid low m l : List ℕ) (i j : DeclarationItem)
     → NoImportDecl config importing own b mid
     → ReadsAmong (declaration_items config outer own) mid i low → NoImportDecl config importing own b m → ReadsAmong (declaration_items config outer own) m j l

@@ -152,12 +152,12 @@ mutual
     declarations_limits config importing outer (done + 1) (after_one outer s d) low held ds rest left later,
   )
 
--- A type is declared only where one more scope may nest.
+-- A type is declared only if one more scope may nest.
 
 within_most : (n depth : ℕ) → n ≤ max n depth
 within_most n depth = le-max_left n depth
 
--- where a type of this nesting is declared within n scopes and one more
+-- if a type of this nesting is declared within n scopes and one more
 nested : (n k depth : ℕ) → n + 1 < depth → n + 1 + k ≤ max (n + 1 + 1) depth → n + 1 + k ≤ max (n + 1) depth
 nested n k depth room h = omega (arith, h, max-eq_right {n = n + 1 + 1} {m = depth} (omega (arith, room)), le-max_right (n + 1) depth)
 

@@ -1,4 +1,4 @@
--- Places of types with marks: what is at those where a test holds, and where what passes it is.
+-- Places of types with marks: what is at the places where a test holds, and where what passes it is.
 use Rattle.std.proofs.Common.{◌≡◌, ℕ, zero, suc, ◌+◌, Bool, true, false, ◌&&◌, List, [], ◌∷◌, refl, sym, ap, ◌∙◌, arith}
 use Rattle.std.proofs.lemmas.Bool.{and_from, and_parts}
 use Rattle.std.specs.Prelude.{Some, if◌then◌else◌, slice_get}

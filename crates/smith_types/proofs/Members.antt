@@ -21,7 +21,7 @@ use Rattle.smith_tree.specs.TypeScript.{script_members, script_label}
 use Rattle.smith_syntax.specs.Signature.{named}
 use Rattle.smith_syntax.specs.WellFormed.{Named}
 use Rattle.smith_core_types.proofs.MadeCoreSame.{Same}
-use Rattle.smith_core_types.proofs.Names.{AreNew, new_distinct}
+use Rattle.smith_input.proofs.DistinctNames.{AreNew, new_distinct}
 
 -- tails
 
@@ -60,7 +60,7 @@ module _ {A : Type 0} {Member : List A → List ℕ → A → List ℕ → Type 
   pub members_all : (P : A → Type 0) → ((so_far : List A) (c : List ℕ) (x : A) (r : List ℕ) → Member so_far c x r → P x) → AllByRecursion P xs
   members_all P one = loop_all P (λ s c x r t i. one s.0 c x r i.member) 0 ([], fuel) b xs rest (xs, left) l
 
--- members with names, of which none is that of a member before it
+-- members with names, none of which is the name of a member before it
 module _ {A : Type 0} {Member : List A → List ℕ → A → List ℕ → Type 0} {min max : ℕ} (name : A → List ℕ)
     (one : (so_far : List A) (b : List ℕ) (x : A) (rest : List ℕ) → Member so_far b x rest
     → (mid : List ℕ) × ReadsNew 100 (map name so_far) b (name x) mid) where
@@ -230,7 +230,7 @@ module _ {A : Type 0} (name : A → List ℕ) (Q : A → Type 0) where
   pub named_ready : (xs : List A) → Named (map name xs) → AreReadableNames (map name xs) → AllByRecursion Q xs → Ready (IsReady name Q) [] xs
   named_ready xs n r q = each_ready xs [] n.0 r q
 
--- A name that is new among those of the program's members.
+-- A name that is new among the names of the program's members.
 names_of : {B : Type 0} (so_far : List (String Global × B)) → map (λ p. string_bytes p.0) so_far ≡ map (λ y. y.0) (map named so_far)
 names_of [] = refl
 names_of (p ∷ ps) = ap (λ ns. string_bytes p.0 ∷ ns) (names_of ps)

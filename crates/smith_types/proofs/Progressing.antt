@@ -104,7 +104,7 @@ module _ {config : Config} {importing : Bool} {outer : List Marked} {start : Lis
           subst (λ all. All all rest rest_fuel) (sym (ap (λ xs. onto xs ds) a.defs ∙ onto_more (defs_in declared) a.added ds)) whole;
     }
 
--- One declaration was added to those of a component type, or to those of an instance type.
+-- One declaration was added to the declarations of a component type, or of an instance type.
 pub adds_to_component : (config : Config) (scopes next : List Contents) (s : SoFar) (old new : ComponentBody)
     (def : ComponentTypeDef) (b : List ℕ) (fuel : ℕ) (rest : List ℕ) (left : ℕ) → own_marked scopes ≡ s.own
     → MadeDeclaration config true (outer_marked scopes) (record { own = own_marked scopes; imports = s.imports; exports = s.exports }) b fuel

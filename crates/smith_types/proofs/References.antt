@@ -62,7 +62,7 @@ pub ref_offered : (config : Config) (own : Marked) (totals : RefTotals) (for_imp
     → ReadsRef config own totals for_import for_type_def b r rest → OfferedRef own for_import r
 ref_offered config own totals for_import for_type_def b r rest h = (ref_is config own totals for_import for_type_def b r rest h).1
 
--- What is offered is offered where there is room.
+-- What is offered is offered if there is room.
 pub offered_where : {A : Type 0} (room : Bool) (xs : List A) (k : ℕ) (x : A) → slice_get (if room then xs else []) k ≡ Some x → slice_get xs k ≡ Some x
 offered_where true xs k x h = h
 offered_where false xs k x h = absurd (cc)

@@ -104,7 +104,7 @@ module _ (own : Marked) where
   instance_there : has_place own false kind.Instance ≡ true → has_export own ≡ true
   instance_there h = or_right (has_place own false kind.Module || has_place own false kind.TypeEq || has_place own false kind.Component) _ h
 
-  -- An export is offered where one is allowed: what may be exported as a function may be equal to a type.
+  -- An export is offered if one is allowed: what may be exported as a function may be equal to a type.
   pub export_there : (r : ComponentTypeRef) → FormedRef (scope_in own) r → OfferedRef own false r → has_export own ≡ true
   export_there (to.Module i) f o = module_there (place_there false (to.Module i) f o)
   export_there (to.TypeEq i) f o = equal_there (place_there false (to.TypeEq i) f o)
@@ -123,7 +123,7 @@ open_few : {A : Type 0} (room : Bool) (xs : List A) → length (if room then xs 
 open_few true xs = omega arith
 open_few false xs = omega arith
 
--- the kinds that are offered, where there is room
+-- the kinds that are offered, if there is room
 open_kinds : (config : Config) (own : Marked) (totals : RefTotals) (for_import for_type_def : Bool) → has_room own for_type_def ≡ true
     → ref_kinds config own totals for_import for_type_def ≡ kinds_offered config own totals for_import for_type_def
 open_kinds config own totals for_import for_type_def room = ap (λ b. if b then kinds_offered config own totals for_import for_type_def else []) room
@@ -192,7 +192,7 @@ module _ (config : Config) (own : Marked) (totals : RefTotals) (for_import for_t
       → IsAllowed config own totals for_import for_type_def r → ref_kinds config own totals for_import for_type_def ≡ [] → ⊥
   ref_not_none r formed offered room allowed none = among_none none (kind_read r [] formed offered room allowed)
 
--- An import of a function where it can be of nothing else: its kind is not a choice.
+-- An import of a function if it can be of nothing else: its kind is not a choice.
 
 none_there : (xs : List ℕ) (b : Bool) → xs ≡ [] → (nat_lt 0 (length xs) && b) ≡ false
 none_there xs b e = ap (λ ys. nat_lt 0 (length ys) && b) e

@@ -38,7 +38,7 @@ url_name (Some url) = drop 20 url ∷ []
 abbrev pub url_names : List NamedExtern → List (List ℕ)
 url_names xs = flat_map (λ x. url_name x.1) xs
 
--- A boolean, and a URL where it is true: the host, and a name that is new among those of the URLs so far.
+-- A boolean, and a URL if it is true: the host, and a name that is new among the names of the URLs so far.
 pub data ReadsMaybeUrl (used : List (List ℕ)) : List ℕ → Option (List ℕ) → List ℕ → Type 0 where
   no_url : {bytes rest : List ℕ} → Flips bytes false rest → ReadsMaybeUrl used bytes None rest
   a_url : {bytes mid name rest : List ℕ} {url : Option (List ℕ)} → Flips bytes true mid → ReadsNew 100 used mid name rest
@@ -59,8 +59,8 @@ pub record ReadsAlias (scopes : List Marked) (bytes : List ℕ) (d : FullDecl) (
   pub stands : slice_get scopes count ≡ Some scope
   pub names : ReadsAmong (aliases_of count scope) mid d rest
 
--- No import is declared: in an instance type; and in a component type where there is nothing to name, where the choice of four does
--- not ask for an import, and where it does but none is possible.
+-- No import is declared: in an instance type; and in a component type if there is nothing to name, if the choice of
+-- four does not ask for an import, or if it does but none is possible.
 pub data NoImportDecl (config : Config) (importing : Bool) (own : Marked) : List ℕ → List ℕ → Type 0 where
   in_instance : {bytes : List ℕ} → importing ≡ false → NoImportDecl config importing own bytes bytes
   nothing_there : {bytes : List ℕ} → importing ≡ true → has_reference own ≡ false → NoImportDecl config importing own bytes bytes
@@ -69,7 +69,7 @@ pub data NoImportDecl (config : Config) (importing : Bool) (own : Marked) : List
   none_fits : {bytes rest : List ℕ} → importing ≡ true → has_reference own ≡ true → Reads 4 bytes 0 rest → ref_kinds config own uncounted true true ≡ []
       → NoImportDecl config importing own bytes rest
 
--- An import: where there is something to name, one of four choices, what it is of, and its name.
+-- An import: if there is something to name, one of four choices, what it is of, and its name.
 pub record ReadsImportDecl (config : Config) (own : Marked) (imports : List NamedExtern) (bytes : List ℕ) (d : FullDecl) (rest : List ℕ) : Type 0 where
   pub mid : List ℕ
   pub low : List ℕ

@@ -1,4 +1,4 @@
--- How a function type is read that flattens to a core function type (CanonicalABI.md, flattening, from the other side).
+-- How a function type that flattens to a core function type is read (CanonicalABI.md, flattening, from the other side).
 use Rattle.std.specs.Prelude.{◌≡◌, ℕ, ◌<◌, List, [], ◌∷◌, ◌++◌, length, Some}
 use Rattle.std.specs.List.{AllByRecursion}
 use Rattle.smith_format.specs.CoreTypes.{Function}

@@ -1,4 +1,4 @@
--- How types are read: the bytes and the fuel determine the type, and leave the rest and what is left of the fuel.
+-- How types are read: the bytes and the fuel determine the type, and leave the rest of both.
 use Rattle.std.specs.Prelude.{◌≡◌, ℕ, ◌+◌, ◌-◌, ◌<◌, Bool, true, false, List, [], ◌∷◌, ◌++◌, map, length, Option, Some, None}
 use Rattle.std.specs.Option.{option_to_list}
 use Rattle.smith_input.specs.Choices.{ReadsAmong}
@@ -23,8 +23,8 @@ use Rattle.smith_syntax.specs.declared.types.ComponentValType.TheVariants.{Primi
 use Rattle.smith_syntax.specs.declared.types.PrimitiveValType.{PrimitiveValType}
 use Rattle.smith_syntax.specs.declared.types.PrimitiveValType.TheVariants as prim
 
--- A value type is a primitive one where the scope has no defined types. Otherwise it is a choice of two: a primitive one, or one of the
--- defined types of the scope, by its index.
+-- A value type is a primitive one if the scope has no defined types. Otherwise it is a choice of two: a primitive one,
+-- or one of the defined types of the scope, by its index.
 pub data ReadsVal (own : Marked) : List ℕ → ComponentValType → List ℕ → Type 0 where
   only_primitive : {bytes : List ℕ} {p : PrimitiveValType} {rest : List ℕ} → value_places own ≡ [] → ReadsAmong primitives bytes p rest
       → ReadsVal own bytes (Primitive p) rest
@@ -33,13 +33,13 @@ pub data ReadsVal (own : Marked) : List ℕ → ComponentValType → List ℕ �
   either_index : {bytes mid : List ℕ} {i : ℕ} {rest : List ℕ} → Reads 2 bytes 1 mid → ReadsAmong (value_places own) mid i rest
       → ReadsVal own bytes (Indexed i) rest
 
--- a boolean, and a value type where it is true
+-- a boolean, and a value type if it is true
 pub data ReadsMaybe (own : Marked) : List ℕ → Option ComponentValType → List ℕ → Type 0 where
   absent : {bytes rest : List ℕ} → Flips bytes false rest → ReadsMaybe own bytes None rest
   present : {bytes mid : List ℕ} {v : ComponentValType} {rest : List ℕ} → Flips bytes true mid → ReadsVal own mid v rest → ReadsMaybe own bytes (Some v) rest
 
--- A turn of a loop over members takes one from the fuel. Where none is left then, the loop ends; the state is what was read so
--- far, and the fuel.
+-- A turn of a loop over members takes one from the fuel. If none is left then, the loop ends; the state is what was
+-- read so far, and the fuel.
 pub record IsSpent {A : Type 0} (s : List A × ℕ) (bytes rest : List ℕ) (t : List A × ℕ) : Type 0 where
   pub spent : s.1 - 1 ≡ 0
   pub stays : rest ≡ bytes
@@ -56,14 +56,14 @@ pub record ReadsMember {A : Type 0} (Member : List A → List ℕ → A → List
 abbrev pub ReadsMembers : {A : Type 0} → (List A → List ℕ → A → List ℕ → Type 0) → ℕ → ℕ → List ℕ → ℕ → List A → List ℕ → ℕ → Type 0
 ReadsMembers Member min max bytes fuel xs rest left = Loop IsSpent (ReadsMember Member) min max 0 ([], fuel) bytes xs rest (xs, left)
 
--- A member with a name, and what follows that. The name is new among those of the members so far.
+-- A member with a name, and what follows that. The name is new among the names of the members so far.
 pub record ReadsNamed {B : Type 0} (After : List ℕ → B → List ℕ → Type 0) (so_far : List (List ℕ × B)) (bytes : List ℕ) (x : List ℕ × B)
     (rest : List ℕ) : Type 0 where
   pub mid : List ℕ
   pub name : ReadsNew 100 (map (λ y. y.0) so_far) bytes x.0 mid
   pub after : After mid x.1 rest
 
--- a type of these members, or bool where there is none
+-- a type of these members, or bool if there is none
 abbrev pub or_bool : {A : Type 0} → (List A → DefValType) → List A → DefValType
 or_bool of [] = primitive_type prim.Bool
 or_bool of (x ∷ xs) = of (x ∷ xs)
@@ -105,8 +105,8 @@ pub record MadeFunction (own : Marked) (bytes : List ℕ) (fuel : ℕ) (s : Sign
   pub gives : ReadsResult own mid held s.result rest left
 
 mutual
-  -- A type takes one from the fuel. Where none is left then it is a defined type; otherwise its kind is a choice of four. The
-  -- declarations of a component type and of an instance type are in a scope of their own.
+  -- A type takes one from the fuel. If none is left then, it is a defined type; otherwise its kind is a choice of four.
+  -- The declarations of a component type and of an instance type are in a scope of their own.
   pub data Made (config : Config) : Marked → List Marked → List ℕ → ℕ → FullEntry → List ℕ → ℕ → Type 0 where
     spent_type : {own : Marked} {outer : List Marked} {bytes rest : List ℕ} {fuel left : ℕ} {t : DefValType} {e : FullEntry} → fuel - 1 ≡ 0
         → MadeDefined own bytes 0 t rest left → e ≡ defined t → Made config own outer bytes fuel e rest left
@@ -143,8 +143,8 @@ mutual
         → NoImportDecl config importing s.own bytes mid → ReadsAmong (declaration_items config outer s.own) mid item.Type low
         → Made config s.own outer low fuel e rest left → d ≡ type_decl e → MadeDeclaration config importing outer s bytes fuel d rest left
 
-  -- At most 100 declarations, `done` of which were made before. Each turn takes one from the fuel, and the loop ends where none is left
-  -- then. It is a loop like those over members, written out since it nests types.
+  -- At most 100 declarations, `done` of which were made before. Each turn takes one from the fuel, and the loop ends if
+  -- none is left then. It is a loop like those over members, written out since it nests types.
   pub data MadeDeclarations (config : Config) : Bool → List Marked → ℕ → SoFar → List ℕ → ℕ → FullDecls → List ℕ → ℕ → Type 0 where
     no_more_decls : {importing : Bool} {outer : List Marked} {done : ℕ} {s : SoFar} {bytes rest : List ℕ} {fuel left : ℕ} → More done 0 100 bytes false rest
         → left ≡ fuel → MadeDeclarations config importing outer done s bytes fuel no_decls rest left
@@ -157,7 +157,7 @@ mutual
         → MadeDeclarations config importing outer (done + 1) (after_one outer s d) low held ds rest left
         → MadeDeclarations config importing outer done s bytes fuel (then_decls d ds) rest left
 
--- the same as a plain tree, regardless of what is left of the fuel
+-- the same as a plain tree, whatever fuel is left
 pub record MadeWith (config : Config) (own : Marked) (outer : List Marked) (fuel : ℕ) (bytes : List ℕ) (e : Entry) (rest : List ℕ) : Type 0 where
   pub full : FullEntry
   pub left : ℕ

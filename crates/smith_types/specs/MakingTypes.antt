@@ -62,12 +62,12 @@ abbrev pub MaybeImport : Config → Marked → List NamedExtern → List ℕ →
 MaybeImport config own imports b None rest = NoImportDecl config true own b rest
 MaybeImport config own imports b (Some d) rest = ReadsImportDecl config own imports b d rest
 
--- the import of the program as a declaration, where there is one
+-- the import of the program as a declaration, if there is one
 abbrev pub shown_import_decl : Option Import → Option FullDecl
 shown_import_decl None = None
 shown_import_decl (Some i) = Some (import_decl (string_bytes i.name) (shown_url i.url) i.ty)
 
--- what is imported, where something is
+-- what is imported, if something is
 abbrev pub imported_by : Option FullDecl → List NamedExtern
 imported_by None = []
 imported_by (Some d) = import_of d
@@ -100,7 +100,7 @@ IsAliased scopes (core_type_alias count i k) = (e : CoreEntry) × (k ≡ keeps_c
 IsAliased scopes (import_decl name n r) = ⊥
 IsAliased scopes (export_decl name n r) = ⊥
 
--- The mark is that of the type in these scopes, where marks are kept.
+-- The mark is the type's mark in these scopes, if marks are kept.
 abbrev pub IsMarkOf : List Contents → FullEntry → Mark → Type 0
 IsMarkOf scopes e m = (own_marked scopes).keeps ≡ true → m ≡ mark e (own_marked scopes) (outer_marked scopes)
 
@@ -114,7 +114,7 @@ abbrev pub onto : List FullDecl → FullDecls → FullDecls
 onto [] ds = ds
 onto (x ∷ xs) ds = then_decls x (onto xs ds)
 
--- Are they those of a component type, which may import?
+-- Are they the declarations of a component type, which may import?
 abbrev pub is_importing : TypeBody → Bool
 is_importing (Component body) = true
 is_importing (Instance body) = false

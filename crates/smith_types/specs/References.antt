@@ -8,8 +8,8 @@ use Rattle.smith_syntax.specs.declared.deftype.ComponentTypeRef.TheVariants as t
 use Rattle.smith_tree.specs.declared.choices.RefKind.{RefKind}
 use Rattle.smith_tree.specs.declared.choices.RefKind.TheVariants as kind
 use Rattle.smith_tree.specs.declared.totals.RefTotals.{RefTotals}
-use Rattle.smith_scopes.specs.declared.scopes.offers.Offer.{Offer}
-use Rattle.smith_scopes.specs.declared.scopes.offers.Offer.TheVariants as offer
+use Rattle.smith_scopes.specs.declared.offers.Offer.{Offer}
+use Rattle.smith_scopes.specs.declared.offers.Offer.TheVariants as offer
 use Rattle.smith_tree.specs.TypeOffers.{ref_kinds, ref_places}
 
 -- the reference of a kind to an index
@@ -30,7 +30,7 @@ pub record ReadsRef (config : Config) (own : Marked) (totals : RefTotals) (for_i
   pub names : ReadsAmong (ref_places own for_import kind) mid index rest
   pub is : r ≡ ref_to kind index
 
--- a reference, or none exactly where there is no kind to choose, and then nothing is read
+-- a reference, or none exactly if there is no kind to choose, and then nothing is read
 abbrev pub MaybeRef : Config → Marked → RefTotals → Bool → Bool → List ℕ → Option ComponentTypeRef → List ℕ → Type 0
 MaybeRef config own totals for_import for_type_def b None rest = (ref_kinds config own totals for_import for_type_def ≡ []) × (rest ≡ b)
 MaybeRef config own totals for_import for_type_def b (Some r) rest = ReadsRef config own totals for_import for_type_def b r rest

@@ -25,7 +25,8 @@ LastsDefined fuel (enum_type ns) = length ns + 2 ≤ fuel
 LastsDefined fuel (option_type v) = Unit {0}
 LastsDefined fuel (result_type ok err) = Unit {0}
 
--- The same where that many scopes are on the stack: fewer may be than the nesting allows where a type is declared in a type.
+-- The same if that many scopes are on the stack: fewer may be than the nesting allows when a type is declared in a
+-- type.
 abbrev mutual
   pub Lasts : Entry → Config → ℕ → ℕ → Type 0
   Lasts (defined t) config scopes fuel = LastsDefined fuel t
@@ -50,8 +51,9 @@ pub record Fit (scopes : List Marked) : Type 0 where
   pub many : length scopes ≤ 2 ^ 64
   pub each : AllByRecursion (λ s. length s.types + length s.core_types ≤ 2 ^ 64) scopes
 
--- What a script can say of a type where these scopes are and that much fuel is left: it is well formed in them, all that it names is
--- offered, it is within the limits, its names can be read, the fuel lasts for it, and each choice in it can be spelled.
+-- What a script can say of a type in these scopes with that much fuel left: it is well formed in them, all that it
+-- names is offered, it is within the limits, its names can be read, the fuel lasts for it, and each choice in it can be
+-- spelled.
 pub record IsSayable (config : Config) (own : Marked) (outer : List Marked) (fuel : ℕ) (e : Entry) : Type 0 where
   pub formed : FormedEntry e (scope_in own) (scopes_in_marked outer)
   pub offered : OfferedEntry e own outer

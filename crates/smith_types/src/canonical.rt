@@ -90,8 +90,8 @@ fn lifted_params(
 }
 
 /// A function type that flattens to a core function type, of which all parameters and the one result are i32, i64, f32
-/// or f64. For each parameter it reads a name in kebab case that none before it has, and a choice among the primitives
-/// that flatten to the parameter's type; then a choice for the result. It fails only when out of memory.
+/// or f64. For each parameter it reads a name in kebab case that no parameter before it has, and a choice among the
+/// primitives that flatten to the parameter's type; then a choice for the result. It fails only when out of memory.
 pub fn inverse_scalar_canonical_abi_for(
     alloc: Global,
     u: &mut Unstructured,

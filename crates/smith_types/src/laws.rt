@@ -27,7 +27,7 @@ pub use smith_core_types::laws::{
 pub use smith_tree::laws::sizes_are_needed;
 
 /// The limits, the scopes, the bytes and the fuel alone decide which type is made, with its URLs and what its aliases
-/// keep, and what is left of both.
+/// keep, and the rest of the bytes and of the fuel.
 pub fn types_are_decided()
     ensures { (config : Config) (own : Marked) (outer : List Marked) (fuel : ℕ)
         → IsDecided (λ bytes (made : FullEntry × ℕ) rest. Made config own outer bytes fuel made.0 rest made.1) }
@@ -48,8 +48,8 @@ pub fn type_scripts_are_bytes()
         → AreBytes (script_type e config fuel own outer) }
 {}
 
-/// Where no type of a component, of an instance or of a core module can be imported, the script of what an import
-/// of a component is of has no byte for its kind: it is a choice among the function types that can be.
+/// If no type of a component, of an instance or of a core module can be imported, the script of what an import of a
+/// component is of has no byte for its kind: it is a choice among the function types that can be imported.
 pub fn function_imports_choose_no_kind()
     ensures { (config : Config) (own : Marked) (totals : RefTotals) (i : ℕ)
         → ref_places own true ref.Module ≡ [] → ref_places own true ref.Component ≡ []
@@ -58,8 +58,8 @@ pub fn function_imports_choose_no_kind()
         → script_ref config own totals true false (Func i) ≡ script_among nat_eq (ref_places own true ref.Func) i }
 {}
 
-/// A type that is read, on any input, needs no more fuel than there was, and declares types only where one more scope
-/// may nest. All names within it can be read.
+/// A type that is read, on any input, needs no more fuel than there was, and declares types only if one more scope may
+/// nest. All names within it can be read.
 pub fn answers_need_no_more()
     ensures { (config : Config) (own : Marked) (outer : List Marked) (bytes : List ℕ) (fuel : ℕ) (made : FullEntry)
         (rest : List ℕ) (left : ℕ)
@@ -69,7 +69,7 @@ pub fn answers_need_no_more()
         × IsReadableType (plain made) }
 {}
 
-/// All that a type names that is read, on any input, was offered.
+/// Everything that a type read on any input names was offered.
 pub fn answers_are_offered()
     ensures { (config : Config) (own : Marked) (outer : List Marked) (bytes : List ℕ) (fuel : ℕ) (made : FullEntry)
         (rest : List ℕ) (left : ℕ)
@@ -77,7 +77,7 @@ pub fn answers_are_offered()
 {}
 
 /// A type is read on some input exactly if it is well formed in its scopes, all that it names is offered, it is within
-/// the limits, its names can be read, there is fuel for it, and it declares types only where one more scope may nest.
+/// the limits, its names can be read, there is fuel for it, and it declares types only if one more scope may nest.
 pub fn types_are_exact()
     ensures { (config : Config) (own : Marked) (outer : List Marked) (fuel : ℕ) (e : Entry)
         → config.max_nesting_depth ≤ 1000 → Fit (own ∷ outer) → length (own ∷ outer) ≤ 1000

@@ -40,13 +40,13 @@ use std::alloc::Global;
 use std::rc::Rc;
 
 /// A type in these scopes, which takes fuel: one for itself, one for each turn of a loop over its members or
-/// declarations, and as much again for each type and core type in it. Where fuel is left at first, a choice of four
-/// kinds is read: a defined type, and that of a function, a component or an instance. Otherwise it is a defined type.
+/// declarations, and as much again for each type and core type in it. If fuel is left at first, a choice of four kinds
+/// is read: a defined type, or the type of a function, a component or an instance. Otherwise it is a defined type.
 ///
-/// A record, variant, tuple or enum has from 1 to 100 members and flags have from 1 to 32, or it is `bool` where it
-/// would have none; a function has at most 16 parameters; types of components and instances have at most 100
-/// declarations. Names within one type are in kebab case and distinct, and so are the names of its imports and those of
-/// its exports. Each outer alias keeps what it names. The type is well formed in the scopes, within the limits, and no
+/// A record, variant, tuple or enum has from 1 to 100 members and flags have from 1 to 32, or it is `bool` if it would
+/// have none; a function has at most 16 parameters; types of components and instances have at most 100 declarations.
+/// Names within one type are in kebab case and distinct, and so are the names of its imports and the names of its
+/// exports. Each outer alias keeps what it names. The type is well formed in the scopes, within the limits, and no
 /// larger than the fuel that it took; all that it names was offered. Its own scopes nest one deeper than the last one,
 /// or to `max_nesting_depth` if that is more. It fails only when out of memory. The scopes stay as they are, also after
 /// a refusal.

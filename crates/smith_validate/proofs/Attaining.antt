@@ -4,7 +4,7 @@ use Rattle.std.proofs.Common.{Option, None, Some}
 use Rattle.std.proofs.lemmas.Bool.{ltb-false}
 use Rattle.std.specs.Prelude.{ltb, not}
 use Rattle.smith_input.specs.NewNames.{is_among}
-use Rattle.smith_validity.specs.Facts.{Id}
+use Rattle.smith_tree.specs.Facts.{Id}
 use Rattle.smith_validate.specs.Attained.{Attains, AttainsInner, AttainsOuter}
 use Rattle.smith_validate.specs.Marks.{both, closed_needs, greater_of, no_needs, not_below, outer_of, outer_outside}
 use Rattle.smith_validate.specs.Places.{IsBefore}

@@ -1,4 +1,4 @@
--- What is kept of a body is exact, where types are added.
+-- What is kept of a body is exact, when types are added.
 use Rattle.std.proofs.Common.{◌≡◌, ◌⊎◌, inl, inr, ℕ, ◌+◌, ◌≤◌, Bool, true, false, List, [], ◌∷◌, ◌++◌, length, map, reverse}
 use Rattle.std.proofs.Common.{refl, sym, ap, ◌∙◌, subst, arith, length-append}
 use Rattle.std.proofs.lemmas.Bool.{ltb-false, ltb-true}
@@ -6,12 +6,12 @@ use Rattle.std.specs.List.{AllByRecursion}
 use Rattle.std.specs.Prelude.{ltb}
 use Rattle.smith_input.specs.NewNames.{is_among}
 use Rattle.smith_syntax.specs.Scope.{with_types}
-use Rattle.smith_validity.specs.Bodies.{Body, with_facts}
-use Rattle.smith_validity.specs.Facts.{Extern, FactScope, Facts, Id, id_at}
-use Rattle.smith_validity.specs.Validates.{exported, imported, names_of}
+use Rattle.smith_tree.specs.Bodies.{Body, with_facts}
+use Rattle.smith_tree.specs.Facts.{Extern, FactScope, Facts, Id, id_at}
+use Rattle.smith_tree.specs.Validates.{exported, imported, names_of}
 use Rattle.smith_validate.specs.Exact.{AreExportsExactly, AreKnown, IsBodyExactly, IsBodyExactlyNow, IsExposed, IsKeptExactly, IsOpening}
 use Rattle.smith_validate.specs.Exact.{IsRoleExactly, is_exposed}
-use Rattle.smith_validate.specs.Instances.{Exports, externs_in, place_of}
+use Rattle.smith_validate.specs.Instances.{Surface, externs_in, place_of}
 use Rattle.smith_validate.specs.Kept.{types_in}
 use Rattle.smith_validate.specs.Places.{IsBefore, IsInside, IsOpen}
 use Rattle.smith_validate.specs.Tables.{AreAdded, AreExact, Fits, IsGrown, IsLive, names_in}
@@ -30,7 +30,7 @@ use Rattle.smith_validate.proofs.Knowing.{grown_externs, grown_live, grown_long,
 use Rattle.smith_validate.proofs.Knowing.{known_push, names_grown, next_at, next_is}
 use Rattle.smith_validate.proofs.Names.{among_cases, sub_left}
 
-pub exposed_grown : (place : Id) (table new : List Exports) (s : Exposed) (ids : List Id) → IsGrown place table new
+pub exposed_grown : (place : Id) (table new : List Surface) (s : Exposed) (ids : List Id) → IsGrown place table new
     → ((id : Id) → is_among ids id ≡ true → IsBefore 0 place id) → IsExposed table s [] ids → IsExposed new s [] ids
 exposed_grown place table new s ids g before x = record {
   opened = λ n id l a i. by_length n id l a i (ltb n (length table)) refl;
@@ -49,17 +49,17 @@ exposed_grown place table new s ids g before x = record {
         absurd (not_under 0 place id (before id a)
         (under_then id (place_of new n) place (inside_under id (place_of new n) i) (g.places n (omega (arith, h)) l)))
 
-module _ (table new : List Exports) (old place around : Id) (named more : List Id) (m : Moves old place)
+module _ (table new : List Surface) (old place around : Id) (named more : List Id) (m : Moves old place)
     (n : Names old named more) (g : IsGrown old table new) where
   pub exports_move : (e : Exported) (xs : List Extern) → AreExportsExactly table old around named e xs → AreExportsExactly new place around more e xs
   exports_move e xs a =
-      let F : List Exports → Type 0 = λ t. (xs ≡ externs_in t a.pieces) × AllByRecursion (Fits t (length table) around) a.pieces in
+      let F : List Surface → Type 0 = λ t. (xs ≡ externs_in t a.pieces) × AllByRecursion (Fits t (length table) around) a.pieces in
       let f : F new = subst F (sym g.is) (
         a.externs_are ∙ sym (externs_fit table g.more (length table) around (omega arith) a.pieces a.fit),
         fit_more table g.more (length table) around (omega arith) a.pieces a.fit,
       ) in
       let long : length table ≤ length new =
-      let k : length new ≡ length table + length g.more = ap (λ (t : List Exports). length t) g.is ∙ length-append table g.more in omega (arith, k) in
+      let k : length new ≡ length table + length g.more = ap (λ (t : List Surface). length t) g.is ∙ length-append table g.more in omega (arith, k) in
       record {
         pieces = a.pieces;
         externs_are = f.0;
@@ -72,7 +72,7 @@ module _ (table new : List Exports) (old place around : Id) (named more : List I
       }
 
 -- what is imported or exported was added before
-module _ (asks : Bool) (k : Known) (o : KeptBody) (b : Body) (outer : List FactScope) (named : List Id) (table : List Exports)
+module _ (asks : Bool) (k : Known) (o : KeptBody) (b : Body) (outer : List FactScope) (named : List Id) (table : List Surface)
     (h : IsBodyExactly asks k o b outer named table) where
   abbrev place : Id
   place = id_at (b.own ∷ outer)
@@ -86,8 +86,8 @@ module _ (asks : Bool) (k : Known) (o : KeptBody) (b : Body) (outer : List FactS
   pub exported_before : (id : Id) → is_among (exported b) id ≡ true → IsBefore 0 place id
   exported_before id a = elim (among_cases (names_of b.imports) (names_of b.exports) id a) [ inl x ↦ imports_before id x | inr y ↦ exports_before id y ]
 
-  -- where there are more types of instances, and perhaps one more type
-  pub role_moves : (new : List Exports) (next : Id) → Moves place next → IsGrown place table new → (r : Role) → IsRoleExactly table outer named asks r b
+  -- when there are more types of instances, and perhaps one more type
+  pub role_moves : (new : List Surface) (next : Id) → Moves place next → IsGrown place table new → (r : Role) → IsRoleExactly table outer named asks r b
       → (own : FactScope) → id_at (own ∷ outer) ≡ next → (c : Body) → c.imports ≡ b.imports → c.exports ≡ b.exports → c.own ≡ own
       → IsRoleExactly new outer named asks r c
   role_moves new next m g (Naming s) r own at c i e w = (
@@ -110,7 +110,7 @@ module _ (asks : Bool) (k : Known) (o : KeptBody) (b : Body) (outer : List FactS
 
   module _ (new : Known) (p : KeptBody) (outers : new.outer.items ≡ k.outer.items) (role : p.role ≡ o.role) where
     -- a type is added
-    pub body_push : (kept : KeptFacts) (f : Facts) (table2 : List Exports) → new.own.types.items ≡ k.own.types.items ++ kept ∷ []
+    pub body_push : (kept : KeptFacts) (f : Facts) (table2 : List Surface) → new.own.types.items ≡ k.own.types.items ++ kept ∷ []
         → IsGrown place table table2 → AreExact new.instances.items table2 → AreAdded (next_at b.own outer) table2 → length new.instances.items ≡ length table2
         → IsKeptExactly table2 (next_at b.own outer) ((names_of b.exports ++ named) ++ names_in table2) kept f
         → IsBodyExactlyNow asks new p (with_facts b (f ∷ [])) outer named place table

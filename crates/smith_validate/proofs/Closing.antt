@@ -6,13 +6,13 @@ use Rattle.std.proofs.lemmas.Bool.{ltb-false, ltb-true}
 use Rattle.std.specs.List.{AllByRecursion}
 use Rattle.std.specs.Prelude.{ltb, slice_get}
 use Rattle.smith_input.specs.NewNames.{is_among}
-use Rattle.smith_validity.specs.Bodies.{Body}
-use Rattle.smith_validity.specs.Facts.{FactScope, Id, id_at}
-use Rattle.smith_validity.specs.Validates.{names_of}
+use Rattle.smith_tree.specs.Bodies.{Body}
+use Rattle.smith_tree.specs.Facts.{FactScope, Id, id_at}
+use Rattle.smith_tree.specs.Validates.{names_of}
 use Rattle.smith_validate.specs.Attained.{AttainsInner}
 use Rattle.smith_validate.specs.Exact.{AreExportsExactly, IsDeclaredExactly}
 use Rattle.smith_validate.specs.Exposing.{refers_own}
-use Rattle.smith_validate.specs.Instances.{Exports, Piece, equal, externs_in, externs_of, no_exports, place_of, refers_of, single, whole}
+use Rattle.smith_validate.specs.Instances.{Surface, Piece, equal, externs_in, externs_of, no_surface, place_of, refers_of, single, whole}
 use Rattle.smith_validate.specs.Marks.{closed_needs, instance_facts, is_below}
 use Rattle.smith_validate.specs.Nested.{instance_plain}
 use Rattle.smith_validate.specs.Places.{IsBefore, IsChild, IsClosed, IsInside, IsOpen, IsUnder}
@@ -61,7 +61,7 @@ deep_inside inner level place id h b =
         elim u [ inl e ↦ (let z : x ≡ place = cc in subst (λ y. IsUnder x y) z (under_same x)) | inr v ↦ under_up x place k v ]
 
 -- Exports that fit with more types of instances.
-module _ (table more : List Exports) (bound : ℕ) (around : Id) (h : bound ≤ length table) where
+module _ (table more : List Surface) (bound : ℕ) (around : Id) (h : bound ≤ length table) where
   seen_more : (n : ℕ) → IsSeen table bound around n → IsSeen (table ++ more) bound around n
   seen_more n s = record {
     scope = s.scope;
@@ -99,7 +99,7 @@ module _ (table more : List Exports) (bound : ℕ) (around : Id) (h : bound ≤ 
   externs_fit (equal n ns ∷ ps) f = externs_one_more table more (equal n ns) ps (omega (arith, f.0.0.below, h)) (externs_fit ps f.1)
 
 -- one that fits among more
-pub fit_wider : (table : List Exports) (a b : ℕ) (around : Id) → a ≤ b → (ps : List Piece) → AllByRecursion (Fits table a around) ps
+pub fit_wider : (table : List Surface) (a b : ℕ) (around : Id) → a ≤ b → (ps : List Piece) → AllByRecursion (Fits table a around) ps
     → AllByRecursion (Fits table b around) ps
 fit_wider table a b around h [] f = tt
 fit_wider table a b around h (single x ∷ ps) f = (f.0, fit_wider table a b around h ps f.1)
@@ -121,7 +121,7 @@ fit_wider table a b around h (equal n ns ∷ ps) f = (
   fit_wider table a b around h ps f.1,
 )
 
-pub fit_append : (table : List Exports) (bound : ℕ) (around : Id) (ps qs : List Piece) → AllByRecursion (Fits table bound around) ps
+pub fit_append : (table : List Surface) (bound : ℕ) (around : Id) (ps qs : List Piece) → AllByRecursion (Fits table bound around) ps
     → AllByRecursion (Fits table bound around) qs → AllByRecursion (Fits table bound around) (ps ++ qs)
 fit_append table bound around [] qs f g = g
 fit_append table bound around (p ∷ ps) qs f g = (f.0, fit_append table bound around ps qs f.1 g)
@@ -133,7 +133,7 @@ abbrev pub own_or : Option InstanceType → Bool
 own_or o = elim o [ None ↦ false | Some t ↦ t.refers_to_own ]
 
 -- one of those before
-pub exact_more : (all now : List InstanceType) (table more : List Exports) (n : ℕ) → n < length table → slice_get now n ≡ slice_get all n
+pub exact_more : (all now : List InstanceType) (table more : List Surface) (n : ℕ) → n < length table → slice_get now n ≡ slice_get all n
     → IsExact all table n → IsExact now (table ++ more) n
 exact_more all now table more n h same e =
     let place = place_more table more n h in
@@ -149,7 +149,7 @@ exact_more all now table more n h same e =
           (r.0, subst (λ xs. is_among (refers_of xs) r.0 ≡ true) (sym externs) r.1, subst (λ p. IsInside r.0 p) (sym place) r.2);
     }
 
-pub exact_less : (all : List InstanceType) (table more : List Exports) (n : ℕ) → n < length table → IsExact all (table ++ more) n → IsExact all table n
+pub exact_less : (all : List InstanceType) (table more : List Surface) (n : ℕ) → n < length table → IsExact all (table ++ more) n → IsExact all table n
 exact_less all table more n h e =
     let place = place_more table more n h in
     let externs = externs_more table more n h in
@@ -175,15 +175,15 @@ slice_seam [] y ys = refl
 slice_seam (x ∷ xs) y ys = slice_seam xs y ys
 
 -- one more type of instances
-module _ (all : List InstanceType) (table : List Exports) (t : InstanceType) (x : Exports) (long : length all ≡ length table) where
+module _ (all : List InstanceType) (table : List Surface) (t : InstanceType) (x : Surface) (long : length all ≡ length table) where
   abbrev now : List InstanceType
   now = all ++ t ∷ []
 
-  abbrev then : List Exports
+  abbrev then : List Surface
   then = table ++ x ∷ []
 
-  at_end : get_or then (length table) no_exports ≡ x
-  at_end = get_or-append_seam table x [] no_exports
+  at_end : get_or then (length table) no_surface ≡ x
+  at_end = get_or-append_seam table x [] no_surface
 
   type_at_end : slice_get now (length table) ≡ Some t
   type_at_end = subst (λ n. slice_get now n ≡ Some t) long (slice_seam all t [])
@@ -191,7 +191,7 @@ module _ (all : List InstanceType) (table : List Exports) (t : InstanceType) (x 
   then_long : length then ≡ length table + 1
   then_long = length-append table (x ∷ [])
 
-  -- each is one of those before, or the last
+  -- each is one of the earlier ones, or the last
   live_cases : (n : ℕ) → IsLive then n → (n < length table) ⊎ (n ≡ length table)
   live_cases n l =
       let h = live_known then n l in
@@ -231,8 +231,8 @@ scope_long f [] = refl
 scope_long f (x ∷ xs) = let h = scope_long f xs in omega (arith, h)
 
 -- An instance type is closed.
-module _ (b : Body) (own : FactScope) (outer : List FactScope) (named : List Id) (table : List Exports) (old : Known) (e : Exported) (t : InstanceType)
-    (size : ℕ) (depth : ℕ) (d : depth ≡ length outer) (new : List Exports) (grown : IsGrown (id_at (own ∷ outer)) table new)
+module _ (b : Body) (own : FactScope) (outer : List FactScope) (named : List Id) (table : List Surface) (old : Known) (e : Exported) (t : InstanceType)
+    (size : ℕ) (depth : ℕ) (d : depth ≡ length outer) (new : List Surface) (grown : IsGrown (id_at (own ∷ outer)) table new)
     (exact : AreExact old.instances.items new) (added : AreAdded (id_at (b.own ∷ own ∷ outer)) new) (long : length old.instances.items ≡ length new)
     (are : (id : Id) → is_among (names_of b.exports) id ≡ true
     → (is_among (names_in new) id ≡ true) ⊎ (IsOpen (id_at (b.own ∷ own ∷ outer)) id × (length id ≡ length (own ∷ outer) + 1)))
@@ -244,10 +244,10 @@ module _ (b : Body) (own : FactScope) (outer : List FactScope) (named : List Id)
   abbrev next : Id
   next = next_at own outer
 
-  abbrev last : Exports
+  abbrev last : Surface
   last = record { externs = b.exports; outside = []; place = place }
 
-  abbrev wide : List Exports
+  abbrev wide : List Surface
   wide = new ++ last ∷ []
 
   abbrev types : List InstanceType
@@ -315,7 +315,7 @@ module _ (b : Body) (own : FactScope) (outer : List FactScope) (named : List Id)
             (open_before 0 next place (added_open (length own.types) (id_at outer)) (omega arith)))
       ]
 
-  -- none of those before was added at the place
+  -- none of the earlier ones was added at the place
   not_place : (n : ℕ) → n < length new → IsLive wide n → place_of wide n ≡ place → ⊥
   not_place n h l e =
       let before = added.before n (live_before old.instances.items new t last long n h l) in

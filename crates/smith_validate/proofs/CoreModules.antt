@@ -5,15 +5,15 @@ use Rattle.std.proofs.lemmas.Option.{none-some, same_Some}
 use Rattle.smith_format.specs.Piece.{◌⊕◌, byte, bytes, framed}
 use Rattle.smith_format.proofs.Clear.{section_head}
 use Rattle.smith_format.proofs.Piece.{joined, parts_are, right_nil}
-use Rattle.smith_read_types.specs.declared.error.Reason.{Reason}
-use Rattle.smith_read_types.specs.declared.error.Unread.{Unread}
-use Rattle.smith_read_types.specs.declared.error.Unread.TheVariants.{Malformed}
-use Rattle.smith_read_types.specs.Reading.{Fails, Found, ◌>>=◌, frame_at, framed_at, u_at}
-use Rattle.smith_read_types.specs.Tells.{Tells, TellsAll}
-use Rattle.smith_read_types.proofs.Telling.{both_begin, parted, tells_u}
-use Rattle.smith_read_types.proofs.TellingFrames.{tells_framed}
-use Rattle.smith_validity.specs.CoreModules.{CountsFew, section}
-use Rattle.smith_validity.proofs.CoreModules.{few_counted}
+use Rattle.smith_read.specs.declared.unread.Reason.{Reason}
+use Rattle.smith_read.specs.declared.unread.Unread.{Unread}
+use Rattle.smith_read.specs.declared.unread.Unread.TheVariants.{Malformed}
+use Rattle.smith_read.specs.Reading.{Fails, Found, ◌>>=◌, frame_at, framed_at, u_at}
+use Rattle.smith_read.specs.Tells.{Tells, TellsAll}
+use Rattle.smith_read.proofs.Telling.{both_begin, parted, tells_u}
+use Rattle.smith_read.proofs.TellingFrames.{tells_framed}
+use Rattle.smith_tree.specs.CoreModules.{CountsFew, section}
+use Rattle.smith_tree.proofs.CoreModules.{few_counted}
 use Rattle.smith_validate.specs.CoreModules.{HasNoSection}
 
 -- what is not read, unless memory is out

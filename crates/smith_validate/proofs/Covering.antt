@@ -5,7 +5,7 @@ use Rattle.std.proofs.lemmas.Bool.{le-ltb, leb-true}
 use Rattle.std.proofs.lemmas.Slice.Eq.{bytes_eq-Decides}
 use Rattle.std.specs.Prelude.{bytes_eq, ltb}
 use Rattle.smith_input.specs.NewNames.{is_among}
-use Rattle.smith_validity.specs.Facts.{Id}
+use Rattle.smith_tree.specs.Facts.{Id}
 use Rattle.smith_validate.specs.Marks.{Covers, IsAbove, IsCoveredBy, IsNamedIn, IsUpTo, Within, both, closed_needs, greater_of, is_nothing, is_within}
 use Rattle.smith_validate.specs.Marks.{named_needs, not_below, outer_of, outer_outside}
 use Rattle.smith_validate.specs.declared.facts.Needs.{Needs}
@@ -72,7 +72,7 @@ covers_append names x (id ∷ a) b c d = (c.0, covers_append names x a b c.1 d)
 pub covers_both : (names : List (List Id)) (x y : Needs) (a b : List Id) → Covers names x a → Covers names y b → Covers names (both x y) (a ++ b)
 covers_both names x y a b c d = covers_append names (both x y) a b (covers_left names x y a c) (covers_right names x y b d)
 
--- one of them says nothing where it is named
+-- an unnamed one says nothing of where the types are named
 pub covers_unnamed : (names : List (List Id)) (i : Option ℕ) (ids : List Id) → Covers names (record { outermost = Unnamed; innermost = i }) ids
 covers_unnamed names i [] = tt
 covers_unnamed names i (id ∷ ids) = (tt, covers_unnamed names i ids)
@@ -109,7 +109,7 @@ covers_nothing names x named (id ∷ ids) h c = absurd (none x.outermost h c.0)
     none (Scope a) e d = let z : false ≡ true = e in cc
     none Nothing e d = d
 
--- levels are those of open scopes
+-- levels are levels of open scopes
 named_level : (from : ℕ) (i : Option ℕ) (names : List (List Id)) (id : Id) → IsNamedIn from i names id → from < length names
 named_level from i [] id n = absurd n
 named_level from i (here ∷ names) id n =
@@ -176,7 +176,7 @@ module _ (here : List Id) (names : List (List Id)) (x : Needs) where
         }
       ]
 
--- Where an instance type is closed, all that is left is named in the scopes around it.
+-- When an instance type is closed, all that remains is named in the scopes around it.
 named_closed : (from : ℕ) (i : Option ℕ) (depth : ℕ) (names : List (List Id)) (id : Id) → length names ≤ depth + 1 → IsNamedIn from i names id
     → IsNamedIn from (not_below i depth) names id
 named_closed from i depth [] id h n = n

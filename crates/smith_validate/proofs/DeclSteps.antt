@@ -10,16 +10,17 @@ use Rattle.std.specs.Prelude.{slice_get}
 use Rattle.smith_input.proofs.Rests.{drop_past, rest_at}
 use Rattle.smith_syntax.specs.Entries.{Decl, Decls, in_order, no_decls, then_decls}
 use Rattle.smith_syntax.specs.Scope.{empty_scope}
-use Rattle.smith_validity.specs.Bodies.{Body, IsSmall, after_decl, after_decls, empty_body, named_in}
-use Rattle.smith_validity.specs.Demands.{Demands, everything}
-use Rattle.smith_validity.specs.Facts.{FactScope, Id}
-use Rattle.smith_validity.specs.Validates.{ValidDecl, ValidDecls}
-use Rattle.smith_read_types.specs.TypeNodes.{shown_decl_node}
-use Rattle.smith_read_types.specs.declared.nodes.DeclNode.{DeclNode}
+use Rattle.smith_tree.specs.Bodies.{Body, IsSmall, after_decl, after_decls, empty_body, named_in}
+use Rattle.smith_tree.specs.Demands.{Demands, everything}
+use Rattle.smith_tree.specs.Facts.{FactScope, Id}
+use Rattle.smith_tree.specs.Validates.{ValidDecl, ValidDecls}
+use Rattle.smith_read.specs.TypeNodes.{shown_decl_node}
+use Rattle.smith_read.specs.declared.type_nodes.DeclNode.{DeclNode}
 use Rattle.smith_validate.specs.Bodies.{IsBody, IsBodyNow, IsEmpty, IsFresh, IsIn, IsRole}
-use Rattle.smith_validate.specs.Instances.{AreKept, Exports, IsTable, ScopesKept}
+use Rattle.smith_validate.specs.Instances.{AreKept, Surface, IsTable, ScopesKept}
 use Rattle.smith_validate.specs.Judges.{Refutes}
-use Rattle.smith_validate.specs.Kept.{Kept, capped, kept_core, kept_in, kept_of, named_at, outer_in, outer_types, own_in, types_in}
+use Rattle.smith_syntax.specs.Sizes.{capped}
+use Rattle.smith_validate.specs.Kept.{Kept, kept_core, kept_in, kept_of, named_at, outer_in, outer_types, own_in, types_in}
 use Rattle.smith_validate.specs.Nested.{IsJudged}
 use Rattle.smith_validate.specs.declared.body.Body.{Body as KeptBody}
 use Rattle.smith_validate.specs.declared.error.Stop.{Stop}
@@ -46,7 +47,7 @@ empty_small = (
 
 -- what an outer alias names
 
-pub scopes_kept : (k : Known) (own : FactScope) (outer : List FactScope) (here : List Id) (names : List (List Id)) (table : List Exports)
+pub scopes_kept : (k : Known) (own : FactScope) (outer : List FactScope) (here : List Id) (names : List (List Id)) (table : List Surface)
     → IsIn k own outer here names table → own_in k ∷ outer_in k ≡ map kept_of (own ∷ outer)
 scopes_kept k own outer here names table s = ap (λ o. o ∷ outer_in k) s.own_is ∙ ap (λ os. kept_of own ∷ os) s.outer_is
 
@@ -88,7 +89,7 @@ outer_kept old os e =
     ∙ (ap reverse (map-append (λ o. o.types.items) old.outer.items (old.own ∷ []))
     ∙ reverse-append (map (λ o. o.types.items) old.outer.items) (old.own.types.items ∷ []))
 
-module _ (k new : Known) (own : FactScope) (outer : List FactScope) (here : List Id) (names : List (List Id)) (table : List Exports)
+module _ (k new : Known) (own : FactScope) (outer : List FactScope) (here : List Id) (names : List (List Id)) (table : List Surface)
     (s : IsIn k own outer here names table) where
   pub in_entered : own_in new ≡ empty_scope → new.own.types.items ≡ [] → new.outer.items ≡ k.outer.items ++ k.own ∷ []
       → new.instances.items ≡ k.instances.items → IsIn new empty_scope (own ∷ outer) [] (here ∷ names) table
@@ -103,7 +104,7 @@ module _ (k new : Known) (own : FactScope) (outer : List FactScope) (here : List
     depth_is = omega (arith, s.depth_is, ap (λ (os : List Scope). length os) outers, length-append k.outer.items (k.own ∷ []));
   }
 
-  pub in_again : (more : List Exports) → new.own ≡ k.own → new.outer.items ≡ k.outer.items → IsTable new.instances.items (table ++ more)
+  pub in_again : (more : List Surface) → new.own ≡ k.own → new.outer.items ≡ k.outer.items → IsTable new.instances.items (table ++ more)
       → IsIn new own outer here names (table ++ more)
   in_again more same outers instances = record {
     own_is = ap kept_in same ∙ s.own_is;
@@ -135,27 +136,27 @@ last_same (z ∷ xs) (w ∷ ys) x y e =
 
 -- with more types of instances, or none
 
-pub body_now : (asks : Bool) (k : Known) (o : KeptBody) (b : Body) (outer : List FactScope) (names : List (List Id)) (table : List Exports)
+pub body_now : (asks : Bool) (k : Known) (o : KeptBody) (b : Body) (outer : List FactScope) (names : List (List Id)) (table : List Surface)
     → IsBody asks k o b outer names table → IsBodyNow asks k o b outer names table
 body_now asks k o b outer names table h = ([], subst (λ t. IsBody asks k o b outer names t) (sym (append-nil table)) h)
 
-pub body_more : (asks : Bool) (k : Known) (o : KeptBody) (b : Body) (outer : List FactScope) (names : List (List Id)) (table more : List Exports)
+pub body_more : (asks : Bool) (k : Known) (o : KeptBody) (b : Body) (outer : List FactScope) (names : List (List Id)) (table more : List Surface)
     → IsBodyNow asks k o b outer names (table ++ more) → IsBodyNow asks k o b outer names table
 body_more asks k o b outer names table more h = (more ++ h.0, subst (λ t. IsBody asks k o b outer names t) (append_assoc table more h.0) h.1)
 
--- What was judged and what is left are the whole, where b precedes what is left.
-pub record DeclsLeft (asks : Bool) (own : FactScope) (outer : List FactScope) (names : List (List Id)) (table : List Exports) (all : Decls)
+-- What was judged and what is left are the whole, if b precedes what is left.
+pub record DeclsLeft (asks : Bool) (own : FactScope) (outer : List FactScope) (names : List (List Id)) (table : List Surface) (all : Decls)
     (k : Known) (o : KeptBody)
     (rest : Decls) : Type 0 where
   pub b : Body
-  pub more : List Exports
+  pub more : List Surface
   pub is : IsBody asks k o b (own ∷ outer) names (table ++ more)
   pub left : (d : Demands) → ValidDecls d asks all (own ∷ outer) empty_body → ValidDecls d asks rest (own ∷ outer) b
   pub back : ValidDecls everything asks rest (own ∷ outer) b → ValidDecls everything asks all (own ∷ outer) empty_body
   pub after : after_decls all (own ∷ outer) empty_body ≡ after_decls rest (own ∷ outer) b
 
 module _ (asks : Bool) (own : FactScope) (outer : List FactScope) (all : Decls) where
-  pub decls_begin : (here : List Id) (names : List (List Id)) (table : List Exports) (k new : Known) (o : KeptBody) → IsIn k own outer here names table
+  pub decls_begin : (here : List Id) (names : List (List Id)) (table : List Surface) (k new : Known) (o : KeptBody) → IsIn k own outer here names table
       → IsEmpty o → IsFresh asks o.role → own_in new ≡ empty_scope → new.own.types.items ≡ [] → new.outer.items ≡ k.outer.items ++ k.own ∷ []
       → new.instances.items ≡ k.instances.items → DeclsLeft asks own outer (here ∷ names) table all new o all
   decls_begin here names table k new o s e f n t r i =
@@ -176,7 +177,7 @@ module _ (asks : Bool) (own : FactScope) (outer : List FactScope) (all : Decls) 
         after = refl;
       }
 
-  module _ (names : List (List Id)) (table : List Exports) (k : Known) (o : KeptBody) (d : Decl) (rest : Decls)
+  module _ (names : List (List Id)) (table : List Surface) (k : Known) (o : KeptBody) (d : Decl) (rest : Decls)
       (l : DeclsLeft asks own outer names table all k o (then_decls d rest)) where
     pub decls_more : (new : Known) (p : KeptBody)
         → ValidDecl everything asks d (own ∷ outer) l.b × IsSmall everything (after_decl d (own ∷ outer) l.b)
@@ -197,7 +198,7 @@ module _ (asks : Bool) (own : FactScope) (outer : List FactScope) (all : Decls) 
         → Refutes e (λ demands. ValidDecls demands asks all (own ∷ outer) empty_body)
     decls_exit r = refute_by (λ demands q. let h = l.left demands q in (h.0, h.1)) r
 
-  module _ (names : List (List Id)) (table : List Exports) (k : Known) (o : KeptBody) (l : DeclsLeft asks own outer names table all k o no_decls) where
+  module _ (names : List (List Id)) (table : List Surface) (k : Known) (o : KeptBody) (l : DeclsLeft asks own outer names table all k o no_decls) where
     pub decls_end : ValidDecls everything asks all (own ∷ outer) empty_body
     decls_end = l.back tt
 
@@ -213,7 +214,7 @@ module _ (asks : Bool) (own : FactScope) (outer : List FactScope) (all : Decls) 
         }
 
 -- what is left of the declarations of a node
-module _ (asks : Bool) (own : FactScope) (outer : List FactScope) (names : List (List Id)) (table : List Exports) (ds : List DeclNode) (k : Known)
+module _ (asks : Bool) (own : FactScope) (outer : List FactScope) (names : List (List Id)) (table : List Surface) (ds : List DeclNode) (k : Known)
     (o : KeptBody) (i : ℕ) where
   abbrev pub DeclsFrom : Type 0
   DeclsFrom = DeclsLeft asks own outer names table (in_order (map shown_decl_node ds)) k o (in_order (map shown_decl_node (drop i ds)))

@@ -9,15 +9,15 @@ use Rattle.smith_input.specs.NewNames.{is_among}
 use Rattle.smith_syntax.specs.Entries.{Decl, Decls, in_order, no_decls, then_decls}
 use Rattle.smith_syntax.specs.Scope.{empty_scope}
 use Rattle.smith_syntax.specs.declared.types.ComponentValType.{ComponentValType}
-use Rattle.smith_validity.specs.Bodies.{Body, after_decl, after_decls, empty_body, with_facts}
-use Rattle.smith_validity.specs.Facts.{FactScope, Facts, Id, id_at, value_needs}
-use Rattle.smith_validity.specs.Validates.{ValidDecl, ValidDecls, names_of}
-use Rattle.smith_read_types.specs.TypeNodes.{shown_decl_node}
-use Rattle.smith_read_types.specs.declared.nodes.DeclNode.{DeclNode}
+use Rattle.smith_tree.specs.Bodies.{Body, after_decl, after_decls, empty_body, with_facts}
+use Rattle.smith_tree.specs.Facts.{FactScope, Facts, Id, id_at, value_needs}
+use Rattle.smith_tree.specs.Validates.{ValidDecl, ValidDecls, names_of}
+use Rattle.smith_read.specs.TypeNodes.{shown_decl_node}
+use Rattle.smith_read.specs.declared.type_nodes.DeclNode.{DeclNode}
 use Rattle.smith_validate.specs.Attained.{Attains}
 use Rattle.smith_validate.specs.Bodies.{IsFresh}
 use Rattle.smith_validate.specs.Exact.{AreKnown, IsBodyExactly, IsBodyExactlyNow, IsDeclaredExactly, IsJudgedExactly, IsKeptExactly, IsRoleExactly}
-use Rattle.smith_validate.specs.Instances.{Exports}
+use Rattle.smith_validate.specs.Instances.{Surface}
 use Rattle.smith_validate.specs.Kept.{types_in}
 use Rattle.smith_validate.specs.Marks.{no_needs, plain_facts}
 use Rattle.smith_validate.specs.Tables.{AreExact, IsGrown, names_in}
@@ -39,12 +39,12 @@ use Rattle.smith_validate.proofs.BodySteps.{body_as, body_push}
 use Rattle.smith_validate.proofs.Typing.{fact_exact, marks_attained, members_before}
 use Rattle.smith_validate.proofs.Valued.{plain_marks}
 
-pub exactly_now : (asks : Bool) (k : Known) (o : KeptBody) (b : Body) (outer : List FactScope) (named : List Id) (place : Id) (table : List Exports)
+pub exactly_now : (asks : Bool) (k : Known) (o : KeptBody) (b : Body) (outer : List FactScope) (named : List Id) (place : Id) (table : List Surface)
     → IsBodyExactly asks k o b outer named table → IsBodyExactlyNow asks k o b outer named place table
 exactly_now asks k o b outer named place table h = record { new = table; grown = grown_same place table; is = h }
 
--- a type that names nothing, where there are more types of instances
-pub named_nothing : (table : List Exports) (own : FactScope) (outer : List FactScope) (full : List Id) (size : ℕ) (f : Facts) → f.nominal ≡ false
+-- a type that names nothing, when there are more types of instances
+pub named_nothing : (table : List Surface) (own : FactScope) (outer : List FactScope) (full : List Id) (size : ℕ) (f : Facts) → f.nominal ≡ false
     → f.id ≡ id_at (own ∷ outer) → f.exports ≡ [] → f.refers ≡ [] → IsKeptExactly table (next_at own outer) full (plain_facts no_needs size) f
 named_nothing table own outer full size f plain id none nothing =
     fact_exact table (length own.types) (id_at outer) full (plain_facts no_needs size) f no_needs
@@ -52,7 +52,7 @@ named_nothing table own outer full size f plain id none nothing =
     (λ x h. absurd (let z : is_among [] x ≡ true = subst (λ ids. is_among ids x ≡ true) nothing h in let y : false ≡ true = z in cc))
     (attains_nothing (next_at own outer) full f.refers) (λ h. absurd (let z : true ≡ false = sym h ∙ plain in cc))
 
-module _ (k : Known) (own : FactScope) (outer : List FactScope) (named : List Id) (table : List Exports)
+module _ (k : Known) (own : FactScope) (outer : List FactScope) (named : List Id) (table : List Surface)
     (h : AreKnown (types_in k) k.instances.items (own ∷ outer) named table) where
   abbrev place : Id
   place = id_at (own ∷ outer)
@@ -86,7 +86,7 @@ module _ (k : Known) (own : FactScope) (outer : List FactScope) (named : List Id
 
 -- a type of components is closed
 pub declared_component : (asks : Bool) (k : Known) (o : KeptBody) (b : Body) (own : FactScope) (outer : List FactScope) (named : List Id)
-    (table : List Exports) (size : ℕ) (f : Facts) → IsJudgedExactly asks k o b (own ∷ outer) named table → f.nominal ≡ false → f.id ≡ id_at (own ∷ outer)
+    (table : List Surface) (size : ℕ) (f : Facts) → IsJudgedExactly asks k o b (own ∷ outer) named table → f.nominal ≡ false → f.id ≡ id_at (own ∷ outer)
     → f.exports ≡ [] → f.refers ≡ [] → IsDeclaredExactly own outer named table k (plain_facts no_needs size) f
 declared_component asks k o b own outer named table size f j plain id none nothing = record {
   new = j.new;
@@ -98,7 +98,7 @@ declared_component asks k o b own outer named table size f j plain id none nothi
 }
 
 -- an alias
-module _ (asks : Bool) (k : Known) (o : KeptBody) (b : Body) (outer : List FactScope) (named : List Id) (table : List Exports)
+module _ (asks : Bool) (k : Known) (o : KeptBody) (b : Body) (outer : List FactScope) (named : List Id) (table : List Surface)
     (h : IsBodyExactly asks k o b outer named table) (new : Known) (p : KeptBody) (outers : new.outer.items ≡ k.outer.items)
     (instances : new.instances.items ≡ k.instances.items) (role : p.role ≡ o.role) where
   abbrev here : Id
@@ -123,7 +123,7 @@ module _ (asks : Bool) (k : Known) (o : KeptBody) (b : Body) (outer : List FactS
       (kept_moves here (next_at b.own outer) all all table table m (λ id x y. x) (grown_same here table) g f a.0)
 
 -- a type that was declared
-pub body_declared_exactly : (asks : Bool) (k : Known) (o : KeptBody) (b : Body) (outer : List FactScope) (named : List Id) (table : List Exports)
+pub body_declared_exactly : (asks : Bool) (k : Known) (o : KeptBody) (b : Body) (outer : List FactScope) (named : List Id) (table : List Surface)
     → IsBodyExactly asks k o b outer named table → (mid new : Known) (p : KeptBody) (g : KeptFacts) (f : Facts)
     → IsDeclaredExactly b.own outer (names_of b.exports ++ named) table mid g f
     → mid.own ≡ k.own → mid.outer.items ≡ k.outer.items → new.own.types.items ≡ mid.own.types.items ++ g ∷ [] → new.outer.items ≡ mid.outer.items
@@ -134,17 +134,17 @@ body_declared_exactly asks k o b outer named table h mid new p g f d own out typ
     (subst (λ is. AreExact is d.new) (sym instances) d.instances_are) d.added (ap (λ is. length is) instances ∙ d.long) d.is
 
 -- What was judged of declarations, and what is left of them.
-pub record DeclsExactly (asks : Bool) (own : FactScope) (outer : List FactScope) (named : List Id) (table : List Exports) (all : Decls) (k : Known)
+pub record DeclsExactly (asks : Bool) (own : FactScope) (outer : List FactScope) (named : List Id) (table : List Surface) (all : Decls) (k : Known)
     (o : KeptBody) (rest : Decls) : Type 0 where
   pub b : Body
-  pub new : List Exports
+  pub new : List Surface
   pub grown : IsGrown (id_at (own ∷ outer)) table new
   pub is : IsBodyExactly asks k o b (own ∷ outer) named new
   pub left : ValidDecls (asking Named) asks all (own ∷ outer) empty_body → ValidDecls (asking Named) asks rest (own ∷ outer) b
   pub usual : AreUsualDecls asks rest (own ∷ outer) b
   pub after : after_decls all (own ∷ outer) empty_body ≡ after_decls rest (own ∷ outer) b
 
-pub role_fresh_exactly : (table : List Exports) (outer : List FactScope) (named : List Id) (asks : Bool) (r : Role) → IsFresh asks r
+pub role_fresh_exactly : (table : List Surface) (outer : List FactScope) (named : List Id) (asks : Bool) (r : Role) → IsFresh asks r
     → IsRoleExactly table outer named asks r empty_body
 role_fresh_exactly table outer named asks (Naming s) f = (f.0, f.2 table)
 role_fresh_exactly table outer named asks (Exporting e) f = (
@@ -163,7 +163,7 @@ role_fresh_exactly table outer named asks (Exporting e) f = (
 )
 
 -- an empty scope within
-pub entered_exactly : (asks : Bool) (k new : Known) (o : KeptBody) (own : FactScope) (outer : List FactScope) (named : List Id) (table : List Exports)
+pub entered_exactly : (asks : Bool) (k new : Known) (o : KeptBody) (own : FactScope) (outer : List FactScope) (named : List Id) (table : List Surface)
     → AreKnown (types_in k) k.instances.items (own ∷ outer) named table → length outer ≡ length k.outer.items → IsFresh asks o.role
     → new.own.types.items ≡ [] → new.outer.items ≡ k.outer.items ++ k.own ∷ [] → new.instances.items ≡ k.instances.items
     → IsBodyExactly asks new o empty_body (own ∷ outer) named table
@@ -182,7 +182,7 @@ entered_exactly asks k new o own outer named table h d fresh types outers instan
       role_is = role_fresh_exactly table (own ∷ outer) named asks o.role fresh;
     }
 
-module _ (asks : Bool) (own : FactScope) (outer : List FactScope) (named : List Id) (table : List Exports) (all : Decls) where
+module _ (asks : Bool) (own : FactScope) (outer : List FactScope) (named : List Id) (table : List Surface) (all : Decls) where
   pub exactly_begin : (k new : Known) (o : KeptBody)
       → AreKnown (types_in k) k.instances.items (own ∷ outer) named table → length outer ≡ length k.outer.items → IsFresh asks o.role
       → AreUsualDecls asks all (own ∷ outer) empty_body
@@ -231,7 +231,7 @@ module _ (asks : Bool) (own : FactScope) (outer : List FactScope) (named : List 
   })
 
 -- of a node
-module _ (asks : Bool) (own : FactScope) (outer : List FactScope) (named : List Id) (table : List Exports) (ds : List DeclNode) (k : Known) (o : KeptBody)
+module _ (asks : Bool) (own : FactScope) (outer : List FactScope) (named : List Id) (table : List Surface) (ds : List DeclNode) (k : Known) (o : KeptBody)
     (i : ℕ) where
   abbrev pub ExactlyFrom : Type 0
   ExactlyFrom = DeclsExactly asks own outer named table (in_order (map shown_decl_node ds)) k o (in_order (map shown_decl_node (drop i ds)))

@@ -9,13 +9,13 @@ use Rattle.smith_syntax.specs.Scope.{with_types}
 use Rattle.smith_syntax.specs.WellFormed.{is_type_eq}
 use Rattle.smith_syntax.specs.declared.deftype.ComponentTypeRef.{ComponentTypeRef}
 use Rattle.smith_syntax.specs.declared.deftype.ComponentTypeRef.TheVariants as to
-use Rattle.smith_validity.specs.Bodies.{Body, after_export, after_import, equal_extern, equal_facts, exported_facts, externs_at, function_extern}
-use Rattle.smith_validity.specs.Facts.{Extern, FactScope, Facts, Id, id_at}
-use Rattle.smith_validity.specs.Validates.{names_of}
+use Rattle.smith_tree.specs.Bodies.{Body, after_export, after_import, equal_extern, equal_facts, exported_facts, externs_at, function_extern}
+use Rattle.smith_tree.specs.Facts.{Extern, FactScope, Facts, Id, id_at}
+use Rattle.smith_tree.specs.Validates.{names_of}
 use Rattle.smith_validate.specs.Exact.{AreExportsExactly, AreKnown, IsExposed, IsKeptExactly, IsNumberOf, IsRoleExactly}
 use Rattle.smith_validate.specs.Exact.{IsRoleExported, IsKeptBody}
 use Rattle.smith_validate.specs.Externs.{exported_of}
-use Rattle.smith_validate.specs.Instances.{Exports}
+use Rattle.smith_validate.specs.Instances.{Surface}
 use Rattle.smith_validate.specs.Kept.{types_in}
 use Rattle.smith_validate.specs.Marks.{named_facts}
 use Rattle.smith_validate.specs.Places.{IsBefore, IsOpen, IsUnder}
@@ -35,7 +35,7 @@ use Rattle.smith_validate.proofs.BodySteps.{exports_move}
 use Rattle.smith_validate.proofs.Typing.{equal_exact}
 use Rattle.smith_validate.proofs.Valued.{beside, none_beside}
 
-module _ (table : List Exports) (place : Id) (named : List Id) where
+module _ (table : List Surface) (place : Id) (named : List Id) where
   -- an instance names what its type does
   number_names : (i : Option ℕ) (f : Facts) → IsNumberOf table place i f → Sub (names_of f.exports) (names_in table)
   number_names None f n = λ id h. absurd (let z : is_among (names_of []) id ≡ true = subst (λ xs. is_among (names_of xs) id ≡ true) n h in
@@ -55,8 +55,8 @@ module _ (table : List Exports) (place : Id) (named : List Id) where
   function_names None = λ id h. absurd (let z : false ≡ true = h in cc)
   function_names (Some f) = λ id h. absurd (let z : false ≡ true = h in cc)
 
--- what is named where no type is added
-pub other_names : (table : List Exports) (named : List Id) (own : FactScope) (outer : List FactScope) (ks : List KeptFacts)
+-- what is named if no type is added
+pub other_names : (table : List Surface) (named : List Id) (own : FactScope) (outer : List FactScope) (ks : List KeptFacts)
     → AllZip (IsKeptExactly table (id_at (own ∷ outer)) named) ks own.types → (r : ComponentTypeRef) → is_type_eq r ≡ false
     → Sub (names_of (externs_at own outer r)) (names_in table)
 other_names table named own outer ks a (to.Module i) e = λ id h. absurd (let z : false ≡ true = h in cc)
@@ -65,7 +65,7 @@ other_names table named own outer ks a (to.TypeEq i) e = absurd (let z : true �
 other_names table named own outer ks a (to.Component i) e = λ id h. absurd (let z : false ≡ true = h in cc)
 other_names table named own outer ks a (to.Instance i) e = instance_names table (id_at (own ∷ outer)) named ks own.types a i
 
-module _ (asks : Bool) (k : Known) (r : Role) (b : Body) (outer : List FactScope) (named : List Id) (table : List Exports)
+module _ (asks : Bool) (k : Known) (r : Role) (b : Body) (outer : List FactScope) (named : List Id) (table : List Surface)
     (h : IsKeptBody asks k r b outer named table) where
   abbrev place : Id
   place = id_at (b.own ∷ outer)

@@ -4,14 +4,14 @@ use Rattle.std.proofs.Common.{sym, ap, ◌∙◌, subst, arith, append-nil, None
 use Rattle.std.specs.Option.{option_to_list}
 use Rattle.smith_input.specs.NewNames.{is_among}
 use Rattle.smith_syntax.specs.declared.deftype.ComponentTypeRef.{ComponentTypeRef}
-use Rattle.smith_validity.specs.Bodies.{Body, after_import, externs_at}
-use Rattle.smith_validity.specs.Facts.{Extern, FactScope, Id, id_at}
-use Rattle.smith_validity.specs.Validates.{names_of}
+use Rattle.smith_tree.specs.Bodies.{Body, after_import, externs_at}
+use Rattle.smith_tree.specs.Facts.{Extern, FactScope, Id, id_at}
+use Rattle.smith_tree.specs.Validates.{names_of}
 use Rattle.smith_validate.specs.Attained.{Attains}
 use Rattle.smith_validate.specs.Exact.{AreExportsExactly, AreNamedFor, IsExposed, IsPieceExactly, IsRoleExactly}
 use Rattle.smith_validate.specs.Exact.{IsRoleExported, IsKeptBody}
 use Rattle.smith_validate.specs.Externs.{extern_of}
-use Rattle.smith_validate.specs.Instances.{Exports, externs_in, refers_of, uses_in}
+use Rattle.smith_validate.specs.Instances.{Surface, externs_in, refers_of, uses_in}
 use Rattle.smith_validate.specs.Marks.{both}
 use Rattle.smith_validate.specs.Tables.{names_in}
 use Rattle.smith_validate.specs.declared.body.Exported.{Exported}
@@ -30,7 +30,7 @@ not_empty [] ys n = n
 not_empty (x ∷ xs) ys n = λ e. let z : x ∷ (xs ++ ys) ≡ [] = e in cc
 
 -- one more export of an instance type
-pub exports_push_exactly : (table : List Exports) (place around : Id) (full : List Id) (e f : Exported) (xs ys : List Extern) (k : KeptExtern)
+pub exports_push_exactly : (table : List Surface) (place around : Id) (full : List Id) (e f : Exported) (xs ys : List Extern) (k : KeptExtern)
     → AreExportsExactly table place around full e xs → IsPieceExactly table place around full k ys → f.refers ≡ both e.refers k.refers
     → f.uses.items ≡ e.uses.items ++ option_to_list k.used → f.any ≡ true → AreExportsExactly table place around full f (xs ++ ys)
 exports_push_exactly table place around full e f xs ys k a i refers uses any =
@@ -51,7 +51,7 @@ exports_push_exactly table place around full e f xs ys k a i refers uses any =
       none = λ h. absurd (let z : true ≡ false = sym any ∙ h in cc);
     }
 
-module _ (asks : Bool) (k : Known) (r : Role) (b : Body) (outer : List FactScope) (named : List Id) (table : List Exports)
+module _ (asks : Bool) (k : Known) (r : Role) (b : Body) (outer : List FactScope) (named : List Id) (table : List Surface)
     (h : IsKeptBody asks k r b outer named table) where
   abbrev place : Id
   place = id_at (b.own ∷ outer)

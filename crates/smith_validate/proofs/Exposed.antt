@@ -14,10 +14,10 @@ use Rattle.std.specs.declared.cmp.Ordering.TheVariants as order
 use Rattle.smith_input.proofs.Rests.{rest_at}
 use Rattle.std.specs.Option.{option_map}
 use Rattle.std.specs.Prelude.{slice_get}
-use Rattle.smith_validity.specs.Facts.{Extern, Id}
-use Rattle.smith_validity.specs.Validates.{RefersTo, names_of}
+use Rattle.smith_tree.specs.Facts.{Extern, Id}
+use Rattle.smith_tree.specs.Validates.{RefersTo, names_of}
 use Rattle.smith_validate.specs.Exposing.{IsMet, IsOnTheWay, IsPending, IsSettled, Meets, is_settled, named_after, number_of, refers_own, use_in, uses_of}
-use Rattle.smith_validate.specs.Instances.{Exports, Follow, IsInstanceType, IsTable, Piece, Rest, equal, externs_in, externs_of, no_exports}
+use Rattle.smith_validate.specs.Instances.{Surface, Follow, IsInstanceType, IsTable, Piece, Rest, equal, externs_in, externs_of, no_surface}
 use Rattle.smith_validate.specs.Instances.{outside_of, refers_of, single, uses_in, whole}
 use Rattle.smith_validate.specs.Marks.{Within}
 use Rattle.smith_validate.specs.declared.instances.Exposed.{Exposed}
@@ -53,8 +53,8 @@ both_at R (x ∷ xs) (y ∷ ys) zero d a h = record { item = x; at = refl; is = 
 both_at R (x ∷ xs) (y ∷ ys) (suc n) d a h =
     let b = both_at R xs ys n d a.1 (omega (arith, h)) in record { item = b.item; at = b.at; is = b.is }
 
-module _ (table : List Exports) where
-  -- what a use refers to is named where it is met
+module _ (table : List Surface) where
+  -- what a use refers to is named if it is met
   pub met_within : (u : Use) (named : List Id) → IsMet table u named → Within (named_after table u named) (refers_of (externs_of table (number_of u)))
   met_within (Instance n) named m = refers_within named (externs_of table n) m
   met_within (Equal n) named m = m
@@ -74,10 +74,10 @@ module _ (table : List Exports) where
     -- a use that is opened
     module _ (n : ℕ) (named : List Id) (us : List (Use × ℕ)) (ts : IsTable all table) (h : n < length table) (w : Within named (outside_of table n)) where
       abbrev Entry : Type 0
-      Entry = Both (IsInstanceType table) all n (get_or table n no_exports)
+      Entry = Both (IsInstanceType table) all n (get_or table n no_surface)
 
       entry : Entry
-      entry = both_at (IsInstanceType table) all table n no_exports ts h
+      entry = both_at (IsInstanceType table) all table n no_surface ts h
 
       uses_at : (e : Entry) → uses_in e.is.pieces ≡ drop 0 (uses_of all n)
       uses_at e = sym (ap (λ o. elim o as (λ x. List Use) [ None ↦ [] | Some t ↦ t.uses.items ]) e.at ∙ e.is.uses_are)
@@ -300,7 +300,7 @@ use_missing None i e = refl
 use_missing (Some u) i e = absurd (let z : None ≡ Some (with_next i u) = e in cc)
 
 -- All uses are done.
-pub reached : (table : List Exports) (all : List InstanceType) (u : Use) (before : List Id) (s : Exposed) → IsOnTheWay table all u before s []
+pub reached : (table : List Surface) (all : List InstanceType) (u : Use) (before : List Id) (s : Exposed) → IsOnTheWay table all u before s []
     → Meets table u s before
 reached table all u before s on = record {
   met = on.pending.met;

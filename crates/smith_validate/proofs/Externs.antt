@@ -4,16 +4,16 @@ use Rattle.std.proofs.Common.{Option, None, Some}
 use Rattle.std.specs.List.{flat_map}
 use Rattle.std.specs.Option.{option_map, option_to_list}
 use Rattle.std.specs.Prelude.{slice_get}
-use Rattle.smith_validity.specs.Facts.{Extern, Facts, Id}
+use Rattle.smith_tree.specs.Facts.{Extern, Facts, Id}
 use Rattle.smith_validate.specs.Externs.{IsExtern, IsPiece, kept_extern, kept_instance}
-use Rattle.smith_validate.specs.Instances.{AreKept, Exports, IsKept, IsNumbered, equal, reach_of, single, whole}
+use Rattle.smith_validate.specs.Instances.{AreKept, Surface, IsKept, IsNumbered, equal, reach_of, single, whole}
 use Rattle.smith_validate.specs.Marks.{Covers}
 use Rattle.smith_validate.specs.declared.facts.Facts.{Facts as KeptFacts}
 use Rattle.smith_validate.specs.declared.facts.Needs.{Needs}
 use Rattle.smith_validate.specs.declared.instances.Use.TheVariants.{Instance, Equal}
 use Rattle.smith_validate.proofs.Valued.{beside, none_beside}
 
-module _ (table : List Exports) (names : List (List Id)) where
+module _ (table : List Surface) (names : List (List Id)) where
   of_equal : (refers : Needs) (f : Facts) (ids : List Id) (i : Option ℕ) → Covers names refers (reach_of table i f) → IsNumbered table i f
       → IsPiece table names (record { refers = refers; used = option_map (λ n. Equal n) i }) (record { refers = f.refers; names = ids } ∷ [])
   of_equal refers f ids None c n = record {

@@ -1,6 +1,6 @@
 -- Where types were added.
 use Rattle.std.proofs.Common.{◌≡◌, inl, inr, ℕ, ◌+◌, ◌<◌, ◌≤◌, [], ◌∷◌, length, refl, sym, ap, ◌∙◌, subst, arith}
-use Rattle.smith_validity.specs.Facts.{Id}
+use Rattle.smith_tree.specs.Facts.{Id}
 use Rattle.smith_validate.specs.Places.{IsBefore, IsChild, IsClosed, IsInside, IsOpen, IsUnder}
 
 pub under_same : (id : Id) → IsUnder id id

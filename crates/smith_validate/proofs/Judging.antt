@@ -5,10 +5,10 @@ use Rattle.smith_input.proofs.Rests.{rest_at}
 use Rattle.std.specs.Prelude.{IfErr, IfOk, OnOk, ◌∷◌}
 use Rattle.smith_syntax.specs.Entries.{export_decl}
 use Rattle.smith_syntax.specs.declared.deftype.ComponentTypeRef.{ComponentTypeRef}
-use Rattle.smith_validity.specs.Bodies.{Body, IsSmall, after_export, externs_at}
-use Rattle.smith_validity.specs.Demands.{Demands, Keeps, everything}
-use Rattle.smith_validity.specs.Facts.{FactScope}
-use Rattle.smith_validity.specs.Validates.{ValidDecl, exported}
+use Rattle.smith_tree.specs.Bodies.{Body, IsSmall, after_export, externs_at}
+use Rattle.smith_tree.specs.Demands.{Demands, Keeps, everything}
+use Rattle.smith_tree.specs.Facts.{FactScope}
+use Rattle.smith_tree.specs.Validates.{ValidDecl, exported}
 use Rattle.smith_validate.specs.Externs.{IsAskedFor}
 use Rattle.smith_validate.specs.Judges.{IsNamed, Judges, Refutes, asked}
 use Rattle.smith_validate.specs.declared.error.Stop.{Stop}
@@ -74,7 +74,7 @@ pub on_judged : {A : Type 0} (r : Result A Stop) (R : Demands → Type 0) {P Q S
 on_judged (Ok x) R {P} {Q} {S} f p q j = f p q j
 on_judged (Err e) R {P} {Q} {S} f p q j = tt
 
--- an export, where names are asked or not
+-- an export, whether names are asked or not
 pub export_judged : {A : Type 0} (r : Result A Stop) (asks : Bool) (name : List ℕ) (to : ComponentTypeRef) (outer : List FactScope) (b : Body)
     → Judges r (λ d. IsAskedFor d asks (exported b) (externs_at b.own outer to) × IsSmall d (after_export outer b to))
     → Judges r (λ d. ValidDecl d asks (export_decl name tt to) outer b × IsSmall d (after_export outer b to))

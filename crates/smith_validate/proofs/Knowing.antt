@@ -1,4 +1,4 @@
--- What is known of types, where types and names are added.
+-- What is known of types, when types and names are added.
 use Rattle.std.proofs.Common.{◌≡◌, inl, inr, ℕ, ◌+◌, ◌<◌, Bool, true, false, List, [], ◌∷◌, ◌++◌, length}
 use Rattle.std.proofs.Common.{refl, sym, ap, ◌∙◌, subst, arith, append_assoc, append-nil, length-append, Option, None, Some}
 use Rattle.std.proofs.lemmas.Bool.{ltb-false, ltb-true}
@@ -7,10 +7,10 @@ use Rattle.std.specs.List.{AllZip}
 use Rattle.std.specs.Prelude.{ltb}
 use Rattle.smith_input.specs.NewNames.{is_among}
 use Rattle.smith_syntax.specs.Scope.{empty_scope, with_types}
-use Rattle.smith_validity.specs.Facts.{FactScope, Facts, Id, id_at, needs}
-use Rattle.smith_validity.specs.Validates.{names_of}
+use Rattle.smith_tree.specs.Facts.{FactScope, Facts, Id, id_at, needs}
+use Rattle.smith_tree.specs.Validates.{names_of}
 use Rattle.smith_validate.specs.Exact.{AreKnown, IsKeptExactly, IsNumberOf}
-use Rattle.smith_validate.specs.Instances.{Exports, externs_of, place_of, refers_of}
+use Rattle.smith_validate.specs.Instances.{Surface, externs_of, place_of, refers_of}
 use Rattle.smith_validate.specs.Places.{IsBefore, IsOpen, IsUnder}
 use Rattle.smith_validate.specs.Tables.{AreAdded, AreExact, IsGrown, IsLive, names_in}
 use Rattle.smith_validate.specs.declared.facts.Facts.{Facts as KeptFacts}
@@ -36,11 +36,11 @@ next_is own outer f =
     let e : length (own.types ++ f ∷ []) ≡ length own.types + 1 = length-append own.types (f ∷ []) in
     ap (λ n. n ∷ id_at outer) e
 
-pub names_in_append : (a b : List Exports) → names_in (a ++ b) ≡ names_in a ++ names_in b
+pub names_in_append : (a b : List Surface) → names_in (a ++ b) ≡ names_in a ++ names_in b
 names_in_append a b = flat_map-append (λ e. names_of e.externs) a b
 
 -- Types of instances that have grown in number.
-module _ (place : Id) (old new : List Exports) (g : IsGrown place old new) where
+module _ (place : Id) (old new : List Surface) (g : IsGrown place old new) where
   pub grown_names : Sub (names_in old) (names_in new)
   grown_names = λ id h.
       subst (λ t. is_among (names_in t) id ≡ true) (sym g.is)
@@ -53,7 +53,7 @@ module _ (place : Id) (old new : List Exports) (g : IsGrown place old new) where
   grown_externs n h = ap (λ t. externs_of t n) g.is ∙ externs_more old g.more n h
 
   pub grown_long : (n : ℕ) → n < length old → n < length new
-  grown_long n h = subst (λ (t : List Exports). n < length t) (sym g.is) (longer old g.more n h)
+  grown_long n h = subst (λ (t : List Surface). n < length t) (sym g.is) (longer old g.more n h)
 
   pub grown_live : (n : ℕ) → n < length old → IsLive new n → IsLive old n
   grown_live n h l = λ e. l (grown_place n h ∙ e)
@@ -61,7 +61,7 @@ module _ (place : Id) (old new : List Exports) (g : IsGrown place old new) where
   pub live_grown : (n : ℕ) → IsLive old n → IsLive new n
   live_grown n l = λ e. l (sym (grown_place n (live_known old n l)) ∙ e)
 
-pub grown_same : (place : Id) (table : List Exports) → IsGrown place table table
+pub grown_same : (place : Id) (table : List Surface) → IsGrown place table table
 grown_same place table = record {
   more = [];
   is = sym (append-nil table);
@@ -69,7 +69,7 @@ grown_same place table = record {
   places = λ n h l. absurd (let k = live_known table n l in omega (arith, h, k));
 }
 
-pub grown_then : (place : Id) (a b c : List Exports) → IsGrown place a b → IsGrown place b c → IsGrown place a c
+pub grown_then : (place : Id) (a b c : List Surface) → IsGrown place a b → IsGrown place b c → IsGrown place a c
 grown_then place a b c g h = record {
   more = g.more ++ h.more;
   is = h.is ∙ (ap (λ t. t ++ h.more) g.is ∙ append_assoc a g.more h.more);
@@ -83,8 +83,8 @@ grown_then place a b c g h = record {
         subst (λ p. IsUnder p place) (sym (grown_place place b c h n i)) (g.places n k (grown_live place b c h n i l))
     by_length n k l false e = let i = ltb-false n (length b) e in h.places n (omega (arith, i)) l
 
--- what is grown where a place is within another is grown there
-pub grown_out : (count : ℕ) (place : Id) (a b : List Exports) → IsGrown (count ∷ place) a b → IsGrown place a b
+-- what is grown at a place within another is grown at that one
+pub grown_out : (count : ℕ) (place : Id) (a b : List Surface) → IsGrown (count ∷ place) a b → IsGrown place a b
 grown_out count place a b g = record {
   more = g.more;
   is = g.is;
@@ -92,8 +92,8 @@ grown_out count place a b g = record {
   places = λ n h l. under_up (place_of b n) place count (g.places n h l);
 }
 
--- What is kept of a type is exact where more is known.
-module _ (old new : Id) (named more : List Id) (a b : List Exports) (m : Moves old new) (n : Names old named more) (g : IsGrown old a b) where
+-- What is kept of a type stays exact when more is known.
+module _ (old new : Id) (named more : List Id) (a b : List Surface) (m : Moves old new) (n : Names old named more) (g : IsGrown old a b) where
   number_moves : (k : Option ℕ) (f : Facts) → IsNumberOf a old k f → IsNumberOf b new k f
   number_moves None f i = i
   number_moves (Some k) f i = (
@@ -124,22 +124,22 @@ module _ (old new : Id) (named more : List Id) (a b : List Exports) (m : Moves o
   types_move kept scopes h =
       zip_map Old New (λ ks s i. zip_map (IsKeptExactly a old named) (IsKeptExactly b new more) kept_moves ks s.types i) kept scopes h
 
-pub added_moves : (old new : Id) (table : List Exports) → Moves old new → AreAdded old table → AreAdded new table
+pub added_moves : (old new : Id) (table : List Surface) → Moves old new → AreAdded old table → AreAdded new table
 added_moves old new table m a = record {
   before = λ n l. m.before 0 (place_of table n) (a.before n l);
   distinct = a.distinct;
   closed = λ id h. closed_moves old new m id (a.closed id h);
 }
 
-pub added_leave : (inner count : ℕ) (scope : Id) (table : List Exports) → AreAdded (inner ∷ count ∷ scope) table → AreAdded ((count + 1) ∷ scope) table
+pub added_leave : (inner count : ℕ) (scope : Id) (table : List Surface) → AreAdded (inner ∷ count ∷ scope) table → AreAdded ((count + 1) ∷ scope) table
 added_leave inner count scope table a = record {
   before = λ n l. before_leave inner count scope 0 0 (place_of table n) (omega arith) (omega arith) (a.before n l);
   distinct = a.distinct;
   closed = λ id h. closed_leave inner count scope id (a.closed id h);
 }
 
--- Names that were added before a place do not count as new where types of instances have grown in number.
-pub names_grown : (place : Id) (named : List Id) (a b : List Exports) → IsGrown place a b → Names place (named ++ names_in a) (named ++ names_in b)
+-- Names that were added before a place do not count as new when types of instances have grown in number.
+pub names_grown : (place : Id) (named : List Id) (a b : List Surface) → IsGrown place a b → Names place (named ++ names_in a) (named ++ names_in b)
 names_grown place named a b g = λ id h before.
     elim (among_cases named (names_in b) id h) [
       | inl x ↦ sub_left named (names_in a) id x
@@ -147,12 +147,12 @@ names_grown place named a b g = λ id h before.
     ]
 
 module _ (ks : List KeptFacts) (kept : List (List KeptFacts)) (all : List InstanceType) (own : FactScope) (outer : List FactScope) (named : List Id)
-    (table : List Exports) (known : AreKnown (ks ∷ kept) all (own ∷ outer) named table) where
+    (table : List Surface) (known : AreKnown (ks ∷ kept) all (own ∷ outer) named table) where
   abbrev here : Id
   here = id_at (own ∷ outer)
 
-  -- with one more type, where more is named and there are more types of instances
-  pub known_push : (now : List InstanceType) (more : List Id) (new : List Exports) (k : KeptFacts) (f : Facts)
+  -- with one more type, when more is named and there are more types of instances
+  pub known_push : (now : List InstanceType) (more : List Id) (new : List Surface) (k : KeptFacts) (f : Facts)
       → IsGrown here table new → AreExact now new → AreAdded (next_at own outer) new → length now ≡ length new
       → Names here (named ++ names_in table) (more ++ names_in new)
       → ((id : Id) → is_among more id ≡ true → IsBefore 0 (next_at own outer) id)
@@ -178,7 +178,7 @@ module _ (ks : List KeptFacts) (kept : List (List KeptFacts)) (all : List Instan
   known_none = subst (λ ts. AreKnown (ks ∷ kept) all (record { types = ts; core_types = own.core_types } ∷ outer) named table)
       (sym (append-nil own.types)) known
 
-  -- where more is named
+  -- when more is named
   pub known_named : (more : List Id) → Names here (named ++ names_in table) (more ++ names_in table)
       → ((id : Id) → is_among more id ≡ true → IsBefore 0 here id)
       → AreKnown (ks ∷ kept) all (own ∷ outer) more table

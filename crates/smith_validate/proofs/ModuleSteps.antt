@@ -37,12 +37,13 @@ use Rattle.smith_format.specs.declared.types.ExportKind.TheVariants as kind
 use Rattle.smith_input.proofs.Rests.{drop_past, rest_at}
 use Rattle.smith_syntax.specs.Entries.{CoreEntry, ModuleDecl, core_func, core_module}
 use Rattle.smith_syntax.specs.ModuleTypes.{adds, func_in, is_of_kind, module_import_of}
-use Rattle.smith_validity.specs.Demands.{everything}
-use Rattle.smith_validity.specs.Facts.{CoreFacts}
-use Rattle.smith_validity.specs.Sizes.{ValidCore, core_size, function_size, imported_of_kind, module_size}
-use Rattle.smith_read_types.specs.Nodes.{shown_module_node}
-use Rattle.smith_read_types.specs.declared.core_types.ModuleNode.{ModuleNode}
-use Rattle.smith_validate.specs.Kept.{capped, kept_core}
+use Rattle.smith_tree.specs.Demands.{everything}
+use Rattle.smith_tree.specs.Facts.{CoreFacts}
+use Rattle.smith_tree.specs.Sizes.{ValidCore, core_size, function_size, imported_of_kind, module_size}
+use Rattle.smith_read.specs.Nodes.{shown_module_node}
+use Rattle.smith_read.specs.declared.core_types.ModuleNode.{ModuleNode}
+use Rattle.smith_syntax.specs.Sizes.{capped}
+use Rattle.smith_validate.specs.Kept.{kept_core}
 use Rattle.smith_validate.specs.Modules.{Fits, Grows, IsSmallModule, added_size, memories_in, sizes_in, tables_in}
 use Rattle.smith_validate.specs.declared.core_types.Module.{Module}
 use Rattle.smith_validate.specs.declared.error.Stop.{Stop}

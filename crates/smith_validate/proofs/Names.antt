@@ -5,8 +5,8 @@ use Rattle.std.proofs.lemmas.List.Folds.{list_any-append}
 use Rattle.std.proofs.lemmas.Slice.Eq.{bytes_eq-Decides}
 use Rattle.std.specs.Prelude.{bytes_eq}
 use Rattle.smith_input.specs.NewNames.{is_among}
-use Rattle.smith_validity.specs.Facts.{Extern, Id}
-use Rattle.smith_validity.specs.Validates.{RefersTo, names_of}
+use Rattle.smith_tree.specs.Facts.{Extern, Id}
+use Rattle.smith_tree.specs.Validates.{RefersTo, names_of}
 use Rattle.smith_validate.specs.Instances.{refers_of}
 use Rattle.smith_validate.specs.Marks.{Within}
 

@@ -9,11 +9,11 @@ use Rattle.std.specs.Ordering.{nat_cmp}
 use Rattle.std.specs.Prelude.{slice_get}
 use Rattle.std.specs.declared.cmp.Ordering.TheVariants as order
 use Rattle.smith_input.specs.NewNames.{is_among}
-use Rattle.smith_validity.specs.Facts.{Extern, Id}
-use Rattle.smith_validity.specs.Validates.{RefersTo, names_of}
+use Rattle.smith_tree.specs.Facts.{Extern, Id}
+use Rattle.smith_tree.specs.Validates.{RefersTo, names_of}
 use Rattle.smith_validate.specs.Exact.{IsExposed, IsOpening, is_exposed}
 use Rattle.smith_validate.specs.Exposing.{IsMet, is_settled, named_after, named_past, number_of, refers_own, use_in, uses_of}
-use Rattle.smith_validate.specs.Instances.{Exports, Piece, equal, externs_in, externs_of, place_of, refers_of, single, uses_in, whole}
+use Rattle.smith_validate.specs.Instances.{Surface, Piece, equal, externs_in, externs_of, place_of, refers_of, single, uses_in, whole}
 use Rattle.smith_validate.specs.Marks.{Within}
 use Rattle.smith_validate.specs.Opening.{AreAfter, AreHalf, IsMidway, IsNamedThen, IsOpenable, IsReached}
 use Rattle.smith_validate.specs.Places.{IsChild, IsUnder}
@@ -46,12 +46,12 @@ after_not n [] a o = o
 after_not n (u ∷ us) a o =
     elim o [ inl e ↦ let h : number_of u.0 ≡ n = ap number_of e in omega (arith, h, a.0) | inr r ↦ after_not n us a.1 r ]
 
-pub live_known : (table : List Exports) (n : ℕ) → IsLive table n → n < length table
+pub live_known : (table : List Surface) (n : ℕ) → IsLive table n → n < length table
 live_known [] n l = absurd (l refl)
 live_known (e ∷ table) zero l = omega arith
 live_known (e ∷ table) (suc n) l = let h = live_known table n l in omega (arith, h)
 
-module _ (table : List Exports) where
+module _ (table : List Surface) where
   seen_live : (bound n : ℕ) (around : Id) → IsSeen table bound around n → IsLive table n
   seen_live bound n around s = λ e. let z : (s.index ∷ s.scope) ≡ [] = sym s.place_is ∙ e in cc
 
@@ -391,6 +391,6 @@ module _ (a b : BTreeSet ℕ) (n : ℕ) (u : Updates nat_cmp a b n true) where
       by_case false e = u.2 m e ∙ h
 
 -- All uses are done.
-pub found : (table : List Exports) (all : List InstanceType) (u : Use) (before : List Id) (s : Exposed) → IsMidway table all u before s []
+pub found : (table : List Surface) (all : List InstanceType) (u : Use) (before : List Id) (s : Exposed) → IsMidway table all u before s []
     → IsExposed table s [] (named_after table u before)
 found table all u before s m = subst (λ ids. IsExposed table s [] ids) m.half m.exposed

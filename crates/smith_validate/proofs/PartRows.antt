@@ -10,16 +10,16 @@ use Rattle.smith_syntax.specs.declared.deftype.ComponentTypeRef.TheVariants as t
 use Rattle.smith_tree.specs.Spaces.{Spaces, after_canon as spaces_after_canon, after_export as spaces_after_export, after_import as spaces_after_import}
 use Rattle.smith_tree.specs.Spaces.{after_part as spaces_after, no_spaces}
 use Rattle.smith_tree.specs.Tree.{Canon, ExportEntry, Part, tree_of}
-use Rattle.smith_validity.specs.Bodies.{Body, IsSmall, after_export, after_import, core_facts, empty_body, externs_at, facts, with_core_facts}
-use Rattle.smith_validity.specs.Bodies.{with_facts}
-use Rattle.smith_validity.specs.Demands.{Demands, Keeps}
-use Rattle.smith_validity.specs.Facts.{FactScope, Id}
-use Rattle.smith_validity.specs.Sizes.{ValidCore}
-use Rattle.smith_validity.specs.Validates.{ValidCanons, ValidCores, ValidEntries, ValidEntry, ValidExports, ValidImports, after_canon, after_cores}
-use Rattle.smith_validity.specs.Validates.{RefersTo, ValidPart, ValidParts, after_entries, after_part, exported_reference}
-use Rattle.smith_validity.specs.Validates.{exported_references, imported, imported_references}
+use Rattle.smith_tree.specs.Bodies.{Body, IsSmall, after_export, after_import, core_facts, empty_body, externs_at, facts, with_core_facts}
+use Rattle.smith_tree.specs.Bodies.{with_facts}
+use Rattle.smith_tree.specs.Demands.{Demands, Keeps}
+use Rattle.smith_tree.specs.Facts.{FactScope, Id}
+use Rattle.smith_tree.specs.Sizes.{ValidCore}
+use Rattle.smith_tree.specs.Validates.{ValidCanons, ValidCores, ValidEntries, ValidEntry, ValidExports, ValidImports, after_canon, after_cores}
+use Rattle.smith_tree.specs.Validates.{RefersTo, ValidPart, ValidParts, after_entries, after_part, exported_reference}
+use Rattle.smith_tree.specs.Validates.{exported_references, imported, imported_references}
 use Rattle.smith_validate.specs.Bodies.{IsBody, IsBodyNow, IsEmpty, IsFresh, IsIn}
-use Rattle.smith_validate.specs.Instances.{Exports}
+use Rattle.smith_validate.specs.Instances.{Surface}
 use Rattle.smith_validate.specs.Modules.{entries_in}
 use Rattle.smith_validate.specs.Parts.{IsOpen, IsOpenNow}
 use Rattle.smith_validate.specs.declared.body.Body.{Body as KeptBody}
@@ -34,7 +34,7 @@ use Rattle.smith_validate.proofs.Rows.{Row}
 abbrev pub At : Type 0
 At = Spaces × Body
 
-module _ (outer : List FactScope) (names : List (List Id)) (table : List Exports) where
+module _ (outer : List FactScope) (names : List (List Id)) (table : List Surface) where
   abbrev pub BodyAt : Known → KeptBody → Body → Type 0
   BodyAt k o b = IsBody true k o b outer names table
 
@@ -133,15 +133,15 @@ parts_row outer = record {
   none = λ d at. tt;
 }
 
-pub open_now : (k : Known) (o : Open) (s : Spaces) (b : Body) (outer : List FactScope) (names : List (List Id)) (table : List Exports)
+pub open_now : (k : Known) (o : Open) (s : Spaces) (b : Body) (outer : List FactScope) (names : List (List Id)) (table : List Surface)
     → IsOpen k o s b outer names table → IsOpenNow k o s b outer names table
 open_now k o s b outer names table h = ([], subst (λ es. IsOpen k o s b outer names es) (sym (append-nil table)) h)
 
-pub open_more : (k : Known) (o : Open) (s : Spaces) (b : Body) (outer : List FactScope) (names : List (List Id)) (table more : List Exports)
+pub open_more : (k : Known) (o : Open) (s : Spaces) (b : Body) (outer : List FactScope) (names : List (List Id)) (table more : List Surface)
     → IsOpenNow k o s b outer names (table ++ more) → IsOpenNow k o s b outer names table
 open_more k o s b outer names table more h = (more ++ h.0, subst (λ es. IsOpen k o s b outer names es) (append_assoc table more h.0) h.1)
 
-pub open_begin : (k : Known) (o : Open) (outer : List FactScope) (names : List (List Id)) (table : List Exports) → IsIn k empty_scope outer [] names table
+pub open_begin : (k : Known) (o : Open) (outer : List FactScope) (names : List (List Id)) (table : List Surface) → IsIn k empty_scope outer [] names table
     → o.functions.items ≡ [] → IsEmpty o.body → IsFresh true o.body.role → OpenNow outer names table k o (no_spaces, empty_body)
 open_begin k o outer names table s f e fresh = open_now k o no_spaces empty_body outer names table (record {
   body = record {

@@ -1,4 +1,4 @@
--- The sections of a component, where what is kept is exact.
+-- The sections of a component, if what is kept is exact.
 use Rattle.std.proofs.Common.{◌≡◌, inl, inr, ℕ, zero, suc, ◌+◌, ◌<◌, ◌≤◌, Bool, true, false, List, [], ◌∷◌, ◌++◌, length, map, fold, reverse}
 use Rattle.std.proofs.Common.{refl, sym, ap, ◌∙◌, subst, arith, append_assoc, append-nil, length-append}
 use Rattle.std.proofs.lemmas.Bool.{ltb-false, ltb-true}
@@ -8,11 +8,11 @@ use Rattle.smith_input.specs.NewNames.{is_among}
 use Rattle.smith_syntax.specs.Entries.{CoreEntry, Entry, ImportEntry}
 use Rattle.smith_syntax.specs.Scope.{empty_scope}
 use Rattle.smith_tree.specs.Tree.{Canon, ExportEntry, Part, tree_of}
-use Rattle.smith_validity.specs.Bodies.{Body, core_facts, empty_body, with_core_facts}
-use Rattle.smith_validity.specs.Facts.{Extern, FactScope, Id, id_at}
-use Rattle.smith_validity.specs.Validates.{after_canon, after_cores, imported_references, names_of}
+use Rattle.smith_tree.specs.Bodies.{Body, core_facts, empty_body, with_core_facts}
+use Rattle.smith_tree.specs.Facts.{Extern, FactScope, Id, id_at}
+use Rattle.smith_tree.specs.Validates.{after_canon, after_cores, imported_references, names_of}
 use Rattle.smith_validate.specs.Exact.{AreKnown, IsBodyExactly, IsBodyExactlyAfter, IsBodyExactlyNow, IsKeptExactly, IsRoleExactly}
-use Rattle.smith_validate.specs.Instances.{Exports, no_exports, place_of}
+use Rattle.smith_validate.specs.Instances.{Surface, no_surface, place_of}
 use Rattle.smith_validate.specs.Kept.{types_in}
 use Rattle.smith_validate.specs.Places.{IsBefore}
 use Rattle.smith_validate.specs.Tables.{AreAdded, AreExact, IsGrown, IsLive, names_in}
@@ -42,15 +42,15 @@ usual_imports is at = AllByRecursion (IsUsualImport true) (imported_references i
 abbrev pub usual_exports : List ExportEntry → At → Type 0
 usual_exports es at = Unit {0}
 
-pub now_after : (asks : Bool) (k : Known) (o : KeptBody) (b : Body) (outer : List FactScope) (named : List Id) (place : Id) (table : List Exports)
+pub now_after : (asks : Bool) (k : Known) (o : KeptBody) (b : Body) (outer : List FactScope) (named : List Id) (place : Id) (table : List Surface)
     → IsBodyExactlyNow asks k o b outer named place table → IsBodyExactlyAfter asks k o b outer named table
 now_after asks k o b outer named place table n = (n.grown.more, subst (λ t. IsBodyExactly asks k o b outer named t) n.grown.is n.is)
 
-pub after_none : (asks : Bool) (k : Known) (o : KeptBody) (b : Body) (outer : List FactScope) (named : List Id) (table : List Exports)
+pub after_none : (asks : Bool) (k : Known) (o : KeptBody) (b : Body) (outer : List FactScope) (named : List Id) (table : List Surface)
     → IsBodyExactly asks k o b outer named table → IsBodyExactlyAfter asks k o b outer named table
 after_none asks k o b outer named table h = ([], subst (λ t. IsBodyExactly asks k o b outer named t) (sym (append-nil table)) h)
 
-pub after_more : (asks : Bool) (k : Known) (o : KeptBody) (b : Body) (outer : List FactScope) (named : List Id) (table more : List Exports)
+pub after_more : (asks : Bool) (k : Known) (o : KeptBody) (b : Body) (outer : List FactScope) (named : List Id) (table more : List Surface)
     → IsBodyExactlyAfter asks k o b outer named (table ++ more) → IsBodyExactlyAfter asks k o b outer named table
 after_more asks k o b outer named table more h = (more ++ h.0, subst (λ t. IsBodyExactly asks k o b outer named t) (append_assoc table more h.0) h.1)
 
@@ -81,7 +81,7 @@ canons_exports [] b = refl
 canons_exports (f ∷ fs) b = canons_exports fs (after_canon b f)
 
 -- what is known in a component within
-pub entered_known : (k new : Known) (own : FactScope) (outer : List FactScope) (named : List Id) (table : List Exports)
+pub entered_known : (k new : Known) (own : FactScope) (outer : List FactScope) (named : List Id) (table : List Surface)
     → AreKnown (types_in k) k.instances.items (own ∷ outer) named table
     → new.own.types.items ≡ [] → new.outer.items ≡ k.outer.items ++ k.own ∷ [] → new.instances.items ≡ k.instances.items
     → AreKnown (types_in new) new.instances.items (empty_scope ∷ own ∷ outer) named table
@@ -99,26 +99,26 @@ entered_long k new own outer d outers = omega (arith, d, ap (λ (os : List Scope
 
 -- Types of instances that can no longer be referred to.
 
-abbrev pub forgotten : List Exports → List Exports
-forgotten more = map (λ e. no_exports) more
+abbrev pub forgotten : List Surface → List Surface
+forgotten more = map (λ e. no_surface) more
 
-forgotten_long : (more : List Exports) → length (forgotten more) ≡ length more
+forgotten_long : (more : List Surface) → length (forgotten more) ≡ length more
 forgotten_long [] = refl
 forgotten_long (e ∷ more) = let h = forgotten_long more in omega (arith, h)
 
-forgotten_names : (more : List Exports) → names_in (forgotten more) ≡ []
+forgotten_names : (more : List Surface) → names_in (forgotten more) ≡ []
 forgotten_names [] = refl
 forgotten_names (e ∷ more) = forgotten_names more
 
-past_table : (table more : List Exports) (n : ℕ) → length table ≤ n → place_of (table ++ forgotten more) n ≡ []
+past_table : (table more : List Surface) (n : ℕ) → length table ≤ n → place_of (table ++ forgotten more) n ≡ []
 past_table [] [] n h = refl
 past_table [] (e ∷ more) zero h = refl
 past_table [] (e ∷ more) (suc n) h = past_table [] more n (omega arith)
 past_table (e ∷ table) more zero h = absurd (omega (arith, h))
 past_table (e ∷ table) more (suc n) h = past_table table more n (omega (arith, h))
 
-module _ (place : Id) (table more : List Exports) where
-  abbrev padded : List Exports
+module _ (place : Id) (table more : List Surface) where
+  abbrev padded : List Surface
   padded = table ++ forgotten more
 
   padded_live : (n : ℕ) → IsLive padded n → n < length table
@@ -150,9 +150,9 @@ module _ (place : Id) (table more : List Exports) where
   }
 
 -- A component within is judged.
-module _ (asks : Bool) (k : Known) (o : KeptBody) (b : Body) (outer : List FactScope) (named : List Id) (table : List Exports)
+module _ (asks : Bool) (k : Known) (o : KeptBody) (b : Body) (outer : List FactScope) (named : List Id) (table : List Surface)
     (h : IsBodyExactly asks k o b outer named table) where
-  pub body_after_component : (new : Known) (p : KeptBody) (c : Body) (more : List Exports) → new.own ≡ k.own → new.outer.items ≡ k.outer.items
+  pub body_after_component : (new : Known) (p : KeptBody) (c : Body) (more : List Surface) → new.own ≡ k.own → new.outer.items ≡ k.outer.items
       → AreExact new.instances.items (table ++ more) → length new.instances.items ≡ length (table ++ more) → p.role ≡ o.role → c.own ≡ b.own
       → c.imports ≡ b.imports → c.exports ≡ b.exports → IsBodyExactlyAfter asks new p c outer named table
   body_after_component new p c more owns outers exact long role own imports exports =
@@ -221,7 +221,7 @@ start_known k types outers instances = record {
   named_before = λ id h. absurd (let z : false ≡ true = h in cc);
 }
 
-pub open_exactly : (k : Known) (o : KeptBody) (outer : List FactScope) (named : List Id) (table : List Exports)
+pub open_exactly : (k : Known) (o : KeptBody) (outer : List FactScope) (named : List Id) (table : List Surface)
     → AreKnown (types_in k) k.instances.items (empty_scope ∷ outer) named table → length outer ≡ length k.outer.items → IsFresh true o.role
     → IsBodyExactly true k o empty_body outer named table
 open_exactly k o outer named table h d fresh = record {
@@ -236,5 +236,5 @@ abbrev pub usual_parts : List FactScope → List Part → At → Type 0
 usual_parts outer ps at = AreUsualParts (tree_of ps) at.0 outer at.1
 
 -- what is kept is of the component, and exact
-abbrev pub BothNow : List FactScope → List (List Id) → List Id → List Exports → List Exports → Known → Open → At → Type 0
+abbrev pub BothNow : List FactScope → List (List Id) → List Id → List Surface → List Surface → Known → Open → At → Type 0
 BothNow outer names named covered table k o at = OpenNow outer names covered k o at × IsBodyExactlyAfter true k o.body at.1 outer named table

@@ -7,14 +7,14 @@ use Rattle.std.specs.Prelude.{slice_get}
 use Rattle.smith_input.specs.NewNames.{is_among}
 use Rattle.smith_syntax.specs.declared.deftype.ComponentTypeRef.{ComponentTypeRef}
 use Rattle.smith_syntax.specs.declared.deftype.ComponentTypeRef.TheVariants as to
-use Rattle.smith_validity.specs.Bodies.{externs_at}
-use Rattle.smith_validity.specs.Facts.{Extern, FactScope, Facts, Id, id_at}
-use Rattle.smith_validity.specs.Validates.{RefersTo, names_of}
+use Rattle.smith_tree.specs.Bodies.{externs_at}
+use Rattle.smith_tree.specs.Facts.{Extern, FactScope, Facts, Id, id_at}
+use Rattle.smith_tree.specs.Validates.{RefersTo, names_of}
 use Rattle.smith_validate.specs.Attained.{Attains, AttainsOuter}
 use Rattle.smith_validate.specs.Exact.{IsExposed, IsKeptExactly, IsNumberOf, IsPieceExactly, placed_by}
 use Rattle.smith_validate.specs.Exposing.{IsMet, named_after, number_of}
 use Rattle.smith_validate.specs.Externs.{extern_of, kept_extern, kept_instance}
-use Rattle.smith_validate.specs.Instances.{Exports, Piece, equal, externs_in, externs_of, place_of, refers_of, single, uses_in, whole}
+use Rattle.smith_validate.specs.Instances.{Surface, Piece, equal, externs_in, externs_of, place_of, refers_of, single, uses_in, whole}
 use Rattle.smith_validate.specs.Marks.{is_nothing}
 use Rattle.smith_validate.specs.Opening.{IsOpenable, IsReached}
 use Rattle.smith_validate.specs.Places.{IsBefore, IsChild, IsOpen, IsUnder}
@@ -32,12 +32,12 @@ use Rattle.smith_validate.proofs.Names.{Sub, among_cases, among_one, refers_with
 use Rattle.smith_validate.proofs.Valued.{beside, none_beside}
 
 -- what one type of instances names is named by one of them
-pub names_of_one : (table : List Exports) (n : ℕ) → Sub (names_of (externs_of table n)) (names_in table)
+pub names_of_one : (table : List Surface) (n : ℕ) → Sub (names_of (externs_of table n)) (names_in table)
 names_of_one [] n id h = absurd (let z : false ≡ true = h in cc)
 names_of_one (e ∷ table) zero id h = sub_left (names_of e.externs) (names_in table) id h
 names_of_one (e ∷ table) (suc n) id h = sub_right (names_of e.externs) (names_in table) id (names_of_one table n id h)
 
-module _ (table : List Exports) (outer : List FactScope) (own : FactScope) (named : List Id) where
+module _ (table : List Surface) (outer : List FactScope) (own : FactScope) (named : List Id) where
   abbrev place : Id
   place = id_at (own ∷ outer)
 
@@ -159,7 +159,7 @@ module _ (table : List Exports) (outer : List FactScope) (own : FactScope) (name
   piece_exact ks are (to.Component i) = refl
   piece_exact ks are (to.Instance i) = instance_found ks are i (slice_get ks i) refl
 
-module _ (table : List Exports) (place around : Id) (full : List Id) (k : KeptExtern) (xs : List Extern) (added : AreAdded place table)
+module _ (table : List Surface) (place around : Id) (full : List Id) (k : KeptExtern) (xs : List Extern) (added : AreAdded place table)
     (i : IsPieceExactly table place around full k xs) where
   -- It may be opened.
   pub piece_openable : (s : Exposed) (u : Use) → k.used ≡ Some u → IsOpenable table s [] u
@@ -177,7 +177,7 @@ module _ (table : List Exports) (place around : Id) (full : List Id) (k : KeptEx
                 (under_then place o.scope (place_of table m) (under_up place o.scope o.count o.place_is) v))
           ]
 
-  -- it is met where it refers to what is named
+  -- it is met if it refers to what is named
   pub piece_met : (u : Use) → k.used ≡ Some u → (named : List Id) → RefersTo named xs → IsMet table u named
   piece_met u e named r = by_piece i.piece (i.used_is ∙ ap option_to_list e) (subst (λ ys. RefersTo named ys) i.externs_are r)
     where
@@ -201,7 +201,7 @@ module _ (table : List Exports) (place around : Id) (full : List Id) (k : KeptEx
     names = λ n h. ((x.names n h).0, λ id a. sub_left named more id ((x.names n h).1 id a));
   }
 
-  -- what is named with it, where it is of no type of instances
+  -- what is named with it, if it is of no type of instances
   pub single_exposed : (s : Exposed) (named : List Id) → k.used ≡ None → IsExposed table s [] named → IsExposed table s [] (named ++ names_of xs)
   single_exposed s named e x =
       let is = i.used_is ∙ ap option_to_list e in
@@ -213,7 +213,7 @@ module _ (table : List Exports) (place around : Id) (full : List Id) (k : KeptEx
       by_piece (whole n) is f = absurd (let z : Instance n ∷ [] ≡ [] = is in cc)
       by_piece (equal n ns) is f = absurd (let z : Equal n ∷ [] ≡ [] = is in cc)
 
-  -- where it is of one
+  -- if it is of one
   pub used_exposed : (s : Exposed) (named : List Id) (u : Use) → k.used ≡ Some u → IsExposed table s [] (named_after table u named)
       → IsExposed table s [] (named ++ names_of xs)
   used_exposed s named u e x =

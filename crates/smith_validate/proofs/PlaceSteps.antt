@@ -9,19 +9,20 @@ use Rattle.smith_read.specs.PartNodes.{shown_part_node}
 use Rattle.smith_read.specs.declared.nodes.PartNode.{PartNode}
 use Rattle.smith_check.specs.Upto.{some_entries, upto, upto_in}
 use Rattle.smith_check.proofs.PlaceSteps.{shown_at, upto_is}
-use Rattle.smith_validity.specs.Bodies.{Body, empty_body}
-use Rattle.smith_validity.specs.Counts.{ValidCounts, with_component}
-use Rattle.smith_validity.specs.Demands.{Demands, everything}
-use Rattle.smith_validity.specs.Facts.{FactScope}
-use Rattle.smith_validity.specs.Validates.{ValidPart, ValidParts, ValidTree, Validates}
+use Rattle.smith_tree.specs.Bodies.{Body, empty_body}
+use Rattle.smith_tree.specs.Counts.{ValidCounts, with_component}
+use Rattle.smith_tree.specs.Demands.{Demands, everything}
+use Rattle.smith_tree.specs.Facts.{FactScope}
+use Rattle.smith_tree.specs.Validates.{ValidPart, ValidParts, ValidTree, Validates}
 use Rattle.smith_validate.specs.Judges.{IsNamed, IsPassed, Judges, Refutes, asked}
 use Rattle.smith_validate.specs.Outcome.{FallsShort, IsJudged, IsUnmet, asking}
-use Rattle.smith_validate.specs.Tracks.{IsAt, OnStop, PartUpto, StopsBefore, TreeUpto, path_of}
+use Rattle.smith_check.specs.Tracks.{path_of}
+use Rattle.smith_validate.specs.Tracks.{IsAt, OnStop, PartUpto, StopsBefore, TreeUpto}
 use Rattle.smith_validate.specs.declared.error.Demand.{Demand}
 use Rattle.smith_validate.specs.declared.error.Demand.TheVariants.{Named, Size, Count, Memories, Tables}
 use Rattle.smith_validate.specs.declared.error.Stop.{Stop}
 use Rattle.smith_validate.specs.declared.error.Stop.TheVariants.{OutOfMemory, Invalid}
-use Rattle.smith_validate.specs.declared.track.Track.{Track}
+use Rattle.smith_check.specs.declared.track.Track.{Track}
 use Rattle.smith_validate.proofs.PartRows.{At, parts_row}
 use Rattle.smith_validate.proofs.Rows.{RowLeft, judged_count, row_within, taken}
 use Rattle.smith_validate.proofs.RowsExactly.{RowExactly, exact_within}

@@ -5,13 +5,13 @@ use Rattle.std.proofs.Math.Seq.{get_or-append_seam}
 use Rattle.std.proofs.lemmas.Bool.{ltb-false}
 use Rattle.std.proofs.lemmas.Slice.Zip.{AllZip-long}
 use Rattle.std.specs.Option.{option_to_list}
-use Rattle.smith_validity.specs.Bodies.{Body, empty_body}
-use Rattle.smith_validity.specs.Facts.{Extern, Id}
-use Rattle.smith_validity.specs.Validates.{RefersTo, exported, imported, names_of}
+use Rattle.smith_tree.specs.Bodies.{Body, empty_body}
+use Rattle.smith_tree.specs.Facts.{Extern, Id}
+use Rattle.smith_tree.specs.Validates.{RefersTo, exported, imported, names_of}
 use Rattle.smith_validate.specs.Bodies.{AreExports, AreSets, IsFresh, IsRole}
 use Rattle.smith_validate.specs.Exposing.{IsMet, IsSettled, named_after, number_of}
 use Rattle.smith_validate.specs.Externs.{IsPiece}
-use Rattle.smith_validate.specs.Instances.{Exports, Follow, IsInstanceType, IsKnown, IsTable, Piece, Rest, equal, externs_in, externs_of, named_by, no_exports}
+use Rattle.smith_validate.specs.Instances.{Surface, Follow, IsInstanceType, IsKnown, IsTable, Piece, Rest, equal, externs_in, externs_of, named_by, no_surface}
 use Rattle.smith_validate.specs.Instances.{outside_of, reach, refers_of, single, uses_in, whole}
 use Rattle.smith_validate.specs.Marks.{Covers, IsAbove, Within, both, closed_needs, greater_of, instance_facts, is_below}
 use Rattle.smith_validate.specs.Nested.{IsDeclared, instance_plain}
@@ -30,7 +30,7 @@ use Rattle.smith_validate.proofs.Names.{Sub, names_append, sub_both, sub_left, s
 use Rattle.smith_validate.proofs.Tables.{externs_in_more, follow_more, follow_sub, rest_more, rest_sub, settled_more, table_push}
 
 -- what is kept is only of what is imported and exported
-pub role_of : (table : List Exports) (names : List (List Id)) (asks : Bool) (r : Role) (b c : Body) → b.imports ≡ c.imports → b.exports ≡ c.exports
+pub role_of : (table : List Surface) (names : List (List Id)) (asks : Bool) (r : Role) (b c : Body) → b.imports ≡ c.imports → b.exports ≡ c.exports
     → IsRole table names asks r b → IsRole table names asks r c
 role_of table names asks (Names s) b c i e h = (
   h.0,
@@ -42,7 +42,7 @@ role_of table names asks (Names s) b c i e h = (
 )
 role_of table names asks (Exporting x) b c i e h = (h.0, subst (λ xs. AreExports table names x xs) e h.1)
 
-pub role_more : (table more : List Exports) (names : List (List Id)) (asks : Bool) (r : Role) (b : Body) → IsRole table names asks r b
+pub role_more : (table more : List Surface) (names : List (List Id)) (asks : Bool) (r : Role) (b : Body) → IsRole table names asks r b
     → IsRole (table ++ more) names asks r b
 role_more table more names asks (Names s) b h = (
   h.0,
@@ -65,7 +65,7 @@ role_more table more names asks (Exporting x) b h = (
   },
 )
 
-pub role_fresh : (table : List Exports) (names : List (List Id)) (asks : Bool) (r : Role) → IsFresh asks r → IsRole table names asks r empty_body
+pub role_fresh : (table : List Surface) (names : List (List Id)) (asks : Bool) (r : Role) → IsFresh asks r → IsRole table names asks r empty_body
 role_fresh table names asks (Names s) h = (h.0, record { imported_are = (h.1 table []).0; exported_are = (h.1 table []).1 })
 role_fresh table names asks (Exporting x) h = (
   h.0,
@@ -73,7 +73,7 @@ role_fresh table names asks (Exporting x) h = (
 )
 
 -- Pieces after others.
-module _ (table : List Exports) where
+module _ (table : List Surface) where
   pub externs_append : (ps qs : List Piece) → externs_in table (ps ++ qs) ≡ externs_in table ps ++ externs_in table qs
   externs_append [] qs = refl
   externs_append (single x ∷ ps) qs = ap (λ xs. x ∷ xs) (externs_append ps qs)
@@ -108,7 +108,7 @@ uses_append (whole n ∷ ps) qs = ap (λ us. Instance n ∷ us) (uses_append ps 
 uses_append (equal n ns ∷ ps) qs = ap (λ us. Equal n ∷ us) (uses_append ps qs)
 
 -- one more export of an instance type
-module _ (table : List Exports) (names : List (List Id)) (e f : Exported) (xs ys : List Extern) (k : KeptExtern) where
+module _ (table : List Surface) (names : List (List Id)) (e f : Exported) (xs ys : List Extern) (k : KeptExtern) where
   pub exports_push : AreExports table names e xs → IsPiece table (names_of xs ∷ names) k ys → f.refers ≡ both e.refers k.refers
       → f.uses.items ≡ e.uses.items ++ option_to_list k.used → f.any ≡ true → AreExports table names f (xs ++ ys)
   exports_push a i refers uses any =
@@ -148,17 +148,17 @@ above_by : (i : Option ℕ) (depth level : ℕ) → is_below i depth ≡ false �
 above_by None depth level h e = tt
 above_by (Some k) depth level h e = let b = ltb-false depth k h in omega (arith, b, e)
 
-module _ (table : List Exports) (here : List Id) (names : List (List Id)) (e : Exported) (b : Body) (depth : ℕ) (t : InstanceType) (refers : Needs) where
+module _ (table : List Surface) (here : List Id) (names : List (List Id)) (e : Exported) (b : Body) (depth : ℕ) (t : InstanceType) (refers : Needs) where
   pub instance_closed : (old new : Known) (id : Id) (size number : ℕ) → AreExports table (here ∷ names) e b.exports → length names ≡ depth
       → refers ≡ closed_needs e.refers depth
       → t.uses.items ≡ e.uses.items → t.refers_to_own ≡ is_below e.refers.innermost depth → IsTable old.instances.items table
       → number ≡ length old.instances.items → new.instances.items ≡ old.instances.items ++ t ∷ []
       → IsDeclared table (here ∷ names) new (instance_facts refers size number) (instance_plain id b)
   instance_closed old new id size number a d refs uses own ts n pushed =
-      let x : Exports = record { externs = b.exports; outside = a.outside; place = id } in
+      let x : Surface = record { externs = b.exports; outside = a.outside; place = id } in
       let long : length table ≡ number = AllZip-long (IsInstanceType table) old.instances.items table ts ∙ sym n in
-      let at : get_or (table ++ x ∷ []) number no_exports ≡ x =
-      ap (λ k. get_or (table ++ x ∷ []) k no_exports) (sym long) ∙ get_or-append_seam table x [] no_exports in
+      let at : get_or (table ++ x ∷ []) number no_surface ≡ x =
+      ap (λ k. get_or (table ++ x ∷ []) k no_surface) (sym long) ∙ get_or-append_seam table x [] no_surface in
       let type : IsInstanceType table t x = record {
         pieces = a.pieces;
         externs_are = a.externs_are;
@@ -179,23 +179,23 @@ module _ (table : List Exports) (here : List Id) (names : List (List Id)) (e : E
         };
       }
 
--- What is met where names are asked.
+-- What is met if names are asked.
 
 -- a piece that is of no type of instances
-pub single_met : (table : List Exports) (p : Piece) (named : List Id) → uses_in (p ∷ []) ≡ [] → Within named (reach table p)
+pub single_met : (table : List Surface) (p : Piece) (named : List Id) → uses_in (p ∷ []) ≡ [] → Within named (reach table p)
     → RefersTo named (externs_in table (p ∷ []))
 single_met table (single x) named u w = (w, tt)
 single_met table (whole n) named u w = absurd (let z : Instance n ∷ [] ≡ [] = u in cc)
 single_met table (equal n ns) named u w = absurd (let z : Equal n ∷ [] ≡ [] = u in cc)
 
 -- a piece of one
-pub record UseOf (table : List Exports) (u : Use) (p : Piece) : Type 0 where
+pub record UseOf (table : List Surface) (u : Use) (p : Piece) : Type 0 where
   pub known : number_of u < length table
   pub reach_is : reach table p ≡ outside_of table (number_of u)
   pub met : (named : List Id) → IsMet table u named → RefersTo named (externs_in table (p ∷ []))
   pub after : (named : List Id) → Sub (named_after table u named) (named ++ names_of (externs_in table (p ∷ [])))
 
-pub use_of : (table : List Exports) (u : Use) (p : Piece) → uses_in (p ∷ []) ≡ u ∷ [] → IsKnown table p → UseOf table u p
+pub use_of : (table : List Surface) (u : Use) (p : Piece) → uses_in (p ∷ []) ≡ u ∷ [] → IsKnown table p → UseOf table u p
 use_of table u (single x) e k = absurd (let z : [] ≡ u ∷ [] = e in cc)
 use_of table u (whole n) e k =
     let same : Instance n ≡ u = cc in
@@ -218,5 +218,5 @@ use_of table u (equal n ns) e k =
     } in
     subst (λ v. UseOf table v (equal n ns)) same it
 
-pub sets_of : (table : List Exports) (s : Sets) (b c : Body) → b.imports ≡ c.imports → b.exports ≡ c.exports → AreSets table s b → AreSets table s c
+pub sets_of : (table : List Surface) (s : Sets) (b c : Body) → b.imports ≡ c.imports → b.exports ≡ c.exports → AreSets table s b → AreSets table s c
 sets_of table s b c i e h = (role_of table [] true (Names s) b c i e (refl, h)).1

@@ -4,7 +4,7 @@ use Rattle.std.proofs.Common.{append-nil, append_assoc, length-append}
 use Rattle.std.proofs.lemmas.List.{length-drop, length-map}
 use Rattle.std.proofs.Math.ListN.{drop}
 use Rattle.smith_input.proofs.Rests.{drop_past, rest_at}
-use Rattle.smith_validity.specs.Demands.{Demands, everything}
+use Rattle.smith_tree.specs.Demands.{Demands, everything}
 use Rattle.smith_validate.specs.Judges.{Refutes, asked}
 use Rattle.smith_validate.specs.Tracks.{StopsBefore}
 use Rattle.smith_validate.specs.declared.error.Stop.{Stop}
@@ -20,8 +20,8 @@ pub record Row (B St : Type 0) : Type 1 where
   pub step : (x : B) (rest : List B) (s : St) → after (x ∷ rest) s ≡ after rest (next x s)
   pub none : (d : Demands) (s : St) → valid d [] s
 
--- What was judged, and what is left. What was judged, with anything behind it, is judged as that is alone, where `at` precedes it and has the
--- property.
+-- What was judged, and what is left. What was judged, with anything behind it, is judged as the rest is alone, if `at` precedes it and has
+-- the property.
 pub record RowLeft {B St : Type 0} (r : Row B St) (start : St) (all : List B) (T : St → Type 0) (rest : List B) : Type 0 where
   pub done : List B
   pub all_is : all ≡ done ++ rest

@@ -1,4 +1,4 @@
--- Entries of a section one by one, where what is kept is exact.
+-- Entries of a section one by one, if what is kept is exact.
 use Rattle.std.proofs.Common.{◌≡◌, ℕ, ◌+◌, ◌<◌, ◌≤◌, List, [], ◌∷◌, ◌++◌, map, length, get_or, take, sym, ◌∙◌, subst, refl, append_assoc}
 use Rattle.std.proofs.Math.ListN.{drop}
 use Rattle.smith_input.proofs.Rests.{drop_past, rest_at}

@@ -9,13 +9,14 @@ use Rattle.smith_input.specs.NewNames.{is_among}
 use Rattle.smith_syntax.specs.Scope.{with_core_type, with_core_types, with_type, with_types}
 use Rattle.smith_syntax.specs.declared.deftype.ComponentTypeRef.{ComponentTypeRef}
 use Rattle.smith_syntax.specs.declared.deftype.ComponentTypeRef.TheVariants as to
-use Rattle.smith_validity.specs.Bodies.{equal_extern, equal_facts, exported_facts, externs_at}
-use Rattle.smith_validity.specs.Counts.{Counts, with_type_count}
-use Rattle.smith_validity.specs.Facts.{CoreFacts, FactScope, Facts, Id, id_at, needs, sizes}
-use Rattle.smith_validity.specs.Validates.{names_of}
+use Rattle.smith_tree.specs.Bodies.{equal_extern, equal_facts, exported_facts, externs_at}
+use Rattle.smith_tree.specs.Counts.{Counts, with_type_count}
+use Rattle.smith_tree.specs.Facts.{CoreFacts, FactScope, Facts, Id, id_at, needs, sizes}
+use Rattle.smith_tree.specs.Validates.{names_of}
 use Rattle.smith_validate.specs.Bodies.{IsIn}
-use Rattle.smith_validate.specs.Instances.{AreKept, Exports, IsKept, IsNumbered, IsTable, ScopesKept, reach_of}
-use Rattle.smith_validate.specs.Kept.{capped, kept_core, kept_in, kept_of, own_in}
+use Rattle.smith_validate.specs.Instances.{AreKept, Surface, IsKept, IsNumbered, IsTable, ScopesKept, reach_of}
+use Rattle.smith_syntax.specs.Sizes.{capped}
+use Rattle.smith_validate.specs.Kept.{kept_core, kept_in, kept_of, own_in}
 use Rattle.smith_validate.specs.Marks.{Covers, named_facts, named_needs}
 use Rattle.smith_validate.specs.declared.facts.Facts.{Facts as KeptFacts}
 use Rattle.smith_validate.specs.declared.known.Known.{Known}
@@ -71,15 +72,15 @@ count_none c = let e : c.types ≡ c.types + 0 = omega arith in ap (λ n. record
 
 -- the scopes are what they were, except for what is named
 
-reach_equal : (table : List Exports) (i : Option ℕ) (id : Id) (f : Facts) → reach_of table i f ≡ reach_of table i (equal_facts id f)
+reach_equal : (table : List Surface) (i : Option ℕ) (id : Id) (f : Facts) → reach_of table i f ≡ reach_of table i (equal_facts id f)
 reach_equal table None id f = refl
 reach_equal table (Some n) id f = refl
 
-numbered_equal : (table : List Exports) (i : Option ℕ) (id : Id) (f : Facts) → IsNumbered table i f → IsNumbered table i (equal_facts id f)
+numbered_equal : (table : List Surface) (i : Option ℕ) (id : Id) (f : Facts) → IsNumbered table i f → IsNumbered table i (equal_facts id f)
 numbered_equal table None id f n = n
 numbered_equal table (Some m) id f n = n
 
-module _ (table : List Exports) (here there : List Id) (names : List (List Id)) (sub : Sub here there) where
+module _ (table : List Surface) (here there : List Id) (names : List (List Id)) (sub : Sub here there) where
   kept_here : (k : KeptFacts) (f : Facts) → IsKept table (here ∷ names) k f → IsKept table (there ∷ names) k f
   kept_here k f i = record {
     nominal_is = i.nominal_is;
@@ -119,7 +120,7 @@ module _ (table : List Exports) (here there : List Id) (names : List (List Id)) 
           (sym i.nominal_is) (of_sort f.nominal refl)
 
 -- one more type, or none
-module _ (k : Known) (own : FactScope) (outer : List FactScope) (here there : List Id) (names : List (List Id)) (table : List Exports)
+module _ (k : Known) (own : FactScope) (outer : List FactScope) (here there : List Id) (names : List (List Id)) (table : List Surface)
     (s : IsIn k own outer here names table) (sub : Sub here there) where
   pub in_none : (fs : List Facts) → fs ≡ [] → IsIn k (with_types own fs) outer there names table
   in_none fs e = record {

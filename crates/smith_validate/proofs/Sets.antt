@@ -2,13 +2,13 @@
 use Rattle.std.proofs.Common.{◌≡◌, true, List, ◌∷◌, ◌++◌, length, sym, ap, ◌∙◌, subst}
 use Rattle.std.proofs.Common.{None, Some}
 use Rattle.std.specs.Option.{option_to_list}
-use Rattle.smith_validity.specs.Bodies.{Body}
-use Rattle.smith_validity.specs.Facts.{Extern, Id}
-use Rattle.smith_validity.specs.Validates.{RefersTo, exported, imported, names_of}
+use Rattle.smith_tree.specs.Bodies.{Body}
+use Rattle.smith_tree.specs.Facts.{Extern, Id}
+use Rattle.smith_tree.specs.Validates.{RefersTo, exported, imported, names_of}
 use Rattle.smith_validate.specs.Bodies.{AreSets}
 use Rattle.smith_validate.specs.Exposing.{Meets, named_after, number_of}
 use Rattle.smith_validate.specs.Externs.{IsPiece, with_exports, with_imports}
-use Rattle.smith_validate.specs.Instances.{Exports, outside_of, reach}
+use Rattle.smith_validate.specs.Instances.{Surface, outside_of, reach}
 use Rattle.smith_validate.specs.Marks.{Within, is_nothing, is_within}
 use Rattle.smith_validate.specs.declared.body.Extern.{Extern as KeptExtern}
 use Rattle.smith_validate.specs.declared.body.Sets.{Sets}
@@ -46,7 +46,7 @@ module _ (b : Body) (xs : List Extern) where
       (sub_both i e (i ++ f) (sub_left i f) (sub_then e (e ++ names_of xs) (i ++ f) (sub_left e (names_of xs)) up))
       (sub_then (names_of xs) (e ++ names_of xs) (i ++ f) (sub_right e (names_of xs)) up)
 
-module _ (table : List Exports) (names : List (List Id)) (k : KeptExtern) (xs : List Extern) (i : IsPiece table names k xs) where
+module _ (table : List Surface) (names : List (List Id)) (k : KeptExtern) (xs : List Extern) (i : IsPiece table names k xs) where
   -- what is of no type of instances
   pub refers_single : (named : List Id) → k.used ≡ None → Within named (reach table i.piece) → RefersTo named xs
   refers_single named e w = subst (λ ys. RefersTo named ys) (sym i.externs_are) (single_met table i.piece named (i.used_is ∙ ap option_to_list e) w)
@@ -65,8 +65,8 @@ module _ (table : List Exports) (names : List (List Id)) (k : KeptExtern) (xs : 
     pub after_met : Sub (named_after table u named) (named ++ names_of xs)
     after_met = subst (λ ys. Sub (named_after table u named) (named ++ names_of ys)) (sym i.externs_are) ((use_is u e).after named)
 
--- What an import or an export names, where names are asked.
-module _ (table : List Exports) (names : List (List Id)) (s : Sets) (b : Body) (k : KeptExtern) (xs : List Extern) where
+-- What an import or an export names, if names are asked.
+module _ (table : List Surface) (names : List (List Id)) (s : Sets) (b : Body) (k : KeptExtern) (xs : List Extern) where
   module _ (i : IsPiece table names k xs) (sets : AreSets table s b) (none : is_nothing k.refers.outermost ≡ true) where
     pub import_single : k.used ≡ None → RefersTo (imported b) xs × AreSets table s (with_imports b xs)
     import_single e = (
@@ -99,7 +99,7 @@ module _ (table : List Exports) (names : List (List Id)) (s : Sets) (b : Body) (
       },
     )
 
-module _ (table : List Exports) (names : List (List Id)) (s : Sets) (b : Body) (k : KeptExtern) (xs : List Extern) where
+module _ (table : List Surface) (names : List (List Id)) (s : Sets) (b : Body) (k : KeptExtern) (xs : List Extern) where
   module _ (i : IsPiece table (names_of b.exports ∷ names) k xs) (sets : AreSets table s b) (own : is_within k.refers.outermost (length names) ≡ true) where
     export_reach : Within (exported b) (reach table i.piece)
     export_reach =

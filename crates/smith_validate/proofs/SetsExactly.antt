@@ -3,13 +3,13 @@ use Rattle.std.proofs.Common.{◌≡◌, inl, inr, ℕ, ◌+◌, true, false, Li
 use Rattle.std.proofs.Common.{refl, sym, ap, ◌∙◌, subst, arith, append_assoc, None, Some}
 use Rattle.std.proofs.lemmas.Bool.{leb-false}
 use Rattle.smith_input.specs.NewNames.{is_among}
-use Rattle.smith_validity.specs.Bodies.{Body}
-use Rattle.smith_validity.specs.Facts.{Extern, Id}
-use Rattle.smith_validity.specs.Validates.{RefersTo, exported, imported, names_of}
+use Rattle.smith_tree.specs.Bodies.{Body}
+use Rattle.smith_tree.specs.Facts.{Extern, Id}
+use Rattle.smith_tree.specs.Validates.{RefersTo, exported, imported, names_of}
 use Rattle.smith_validate.specs.Exact.{AreNamedFor, AreSetsExactly, IsExposed, IsPieceExactly}
 use Rattle.smith_validate.specs.Exposing.{IsMet, named_after}
 use Rattle.smith_validate.specs.Externs.{with_exports, with_imports}
-use Rattle.smith_validate.specs.Instances.{Exports}
+use Rattle.smith_validate.specs.Instances.{Surface}
 use Rattle.smith_validate.specs.Marks.{is_nothing, is_within}
 use Rattle.smith_validate.specs.Tables.{AreAdded, names_in}
 use Rattle.smith_validate.specs.declared.body.Extern.{Extern as KeptExtern}
@@ -24,7 +24,7 @@ use Rattle.smith_validate.proofs.Opened.{exposed_sub}
 use Rattle.smith_validate.proofs.Piecing.{AttainedBy, not_closed, not_referred, piece_met, single_exposed, used_exposed}
 use Rattle.smith_validate.proofs.Sets.{imports_export}
 
-module _ (table : List Exports) (s : Exposed) (b : Body) (xs : List Extern) where
+module _ (table : List Surface) (s : Exposed) (b : Body) (xs : List Extern) where
   -- for imports
   after_import : IsExposed table s [] (imported b ++ names_of xs) → IsExposed table s [] (imported (with_imports b xs))
   after_import x = subst (λ ids. IsExposed table s [] ids) (sym (names_append b.imports xs)) x
@@ -52,7 +52,7 @@ module _ (table : List Exports) (s : Exposed) (b : Body) (xs : List Extern) wher
       append_assoc (names_of b.imports) (names_of b.exports) (names_of xs) ∙ ap (λ ids. names_of b.imports ++ ids) (sym (names_append b.exports xs)) in
       subst (λ ids. IsExposed table s [] ids) same x
 
-module _ (table : List Exports) (place around : Id) (full : List Id) (k : KeptExtern) (xs : List Extern) (added : AreAdded place table)
+module _ (table : List Surface) (place around : Id) (full : List Id) (k : KeptExtern) (xs : List Extern) (added : AreAdded place table)
     (i : IsPieceExactly table place around full k xs) (b : Body) where
   pub import_alone : (s : Sets) → AreSetsExactly table s b → k.used ≡ None → AreSetsExactly table s (with_imports b xs)
   import_alone s a e = (

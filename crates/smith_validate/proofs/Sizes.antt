@@ -1,6 +1,6 @@
 -- Sizes as they are kept.
 use Rattle.std.proofs.Common.{◌≡◌, ℕ, ◌+◌, arith}
-use Rattle.smith_validate.specs.Kept.{capped}
+use Rattle.smith_syntax.specs.Sizes.{capped}
 
 -- one more of a sum
 pub capped_more : (kept more all sum part : ℕ) → kept ≡ capped (all + 1) → (capped kept ≡ kept → more ≡ capped (kept + part)) → sum ≡ all + part

@@ -3,21 +3,21 @@ use Rattle.std.proofs.Common.{◌≡◌, ℕ, ◌<◌, List, [], ◌∷◌, ◌+
 use Rattle.std.proofs.Common.{Option, None, Some}
 use Rattle.std.proofs.lemmas.List.{get_or_append_left}
 use Rattle.std.specs.List.{AllZip}
-use Rattle.smith_validity.specs.Facts.{FactScope, Facts, Id}
-use Rattle.smith_validity.specs.Validates.{names_of}
+use Rattle.smith_tree.specs.Facts.{FactScope, Facts, Id}
+use Rattle.smith_tree.specs.Validates.{names_of}
 use Rattle.smith_validate.specs.Exposing.{IsSettled}
-use Rattle.smith_validate.specs.Instances.{AreKept, Exports, Follow, IsInstanceType, IsKept, IsKnown, IsNumbered, IsTable}
+use Rattle.smith_validate.specs.Instances.{AreKept, Surface, Follow, IsInstanceType, IsKept, IsKnown, IsNumbered, IsTable}
 use Rattle.smith_validate.specs.Instances.{Piece, Rest, ScopesKept, equal, externs_in}
-use Rattle.smith_validate.specs.Instances.{externs_of, named_by, no_exports, outside_of, place_of, reach, reach_of, refers_of, single, whole}
+use Rattle.smith_validate.specs.Instances.{externs_of, named_by, no_surface, outside_of, place_of, reach, reach_of, refers_of, single, whole}
 use Rattle.smith_validate.specs.Marks.{Covers, Within}
 use Rattle.smith_validate.specs.declared.facts.Facts.{Facts as KeptFacts}
 use Rattle.smith_validate.specs.declared.instances.Exposed.{Exposed}
 use Rattle.smith_validate.specs.declared.instances.InstanceType.{InstanceType}
 use Rattle.smith_validate.proofs.Names.{Sub, sub_more, within_sub}
 
-module _ (table more : List Exports) where
-  at_more : (n : ℕ) → n < length table → get_or (table ++ more) n no_exports ≡ get_or table n no_exports
-  at_more n h = get_or_append_left table more no_exports n h
+module _ (table more : List Surface) where
+  at_more : (n : ℕ) → n < length table → get_or (table ++ more) n no_surface ≡ get_or table n no_surface
+  at_more n h = get_or_append_left table more no_surface n h
 
   pub externs_more : (n : ℕ) → n < length table → externs_of (table ++ more) n ≡ externs_of table n
   externs_more n h = ap (λ e. e.externs) (at_more n h)
@@ -70,7 +70,7 @@ module _ (table more : List Exports) where
   rest_more named [] f = tt
   rest_more named (p ∷ ps) f = (known_more p f.0, subst (λ ids. Within named ids) (sym (reach_more p f.0)) f.1, rest_more named ps f.2)
 
-  pub type_more : (t : InstanceType) (e : Exports) → IsInstanceType table t e → IsInstanceType (table ++ more) t e
+  pub type_more : (t : InstanceType) (e : Surface) → IsInstanceType table t e → IsInstanceType (table ++ more) t e
   type_more t e i = record {
     pieces = i.pieces;
     externs_are = i.externs_are ∙ sym (externs_in_more e.outside i.pieces i.follow);
@@ -119,21 +119,21 @@ module _ (table more : List Exports) where
 
 -- what is named grows
 
-pub follow_sub : (table : List Exports) (a b : List Id) (ps : List Piece) → Sub a b → Follow table a ps → Follow table b ps
+pub follow_sub : (table : List Surface) (a b : List Id) (ps : List Piece) → Sub a b → Follow table a ps → Follow table b ps
 follow_sub table a b [] s f = tt
 follow_sub table a b (p ∷ ps) s f =
     (f.0, within_sub a b (reach table p) s f.1, follow_sub table (a ++ named_by table p) (b ++ named_by table p) ps (sub_more a b (named_by table p) s) f.2)
 
-pub rest_sub : (table : List Exports) (a b : List Id) (ps : List Piece) → Sub a b → Rest table a ps → Rest table b ps
+pub rest_sub : (table : List Surface) (a b : List Id) (ps : List Piece) → Sub a b → Rest table a ps → Rest table b ps
 rest_sub table a b [] s f = tt
 rest_sub table a b (p ∷ ps) s f = (f.0, within_sub a b (reach table p) s f.1, rest_sub table a b ps s f.2)
 
-pub settled_sub : (table : List Exports) (s : Exposed) (a b : List Id) → Sub a b → IsSettled table s a → IsSettled table s b
+pub settled_sub : (table : List Surface) (s : Exposed) (a b : List Id) → Sub a b → IsSettled table s a → IsSettled table s b
 settled_sub table s a b f i = λ n h. ((i n h).0, within_sub a b (refers_of (externs_of table n)) f (i n h).1)
 
 -- one more type of instances
 
-types_more : (table more : List Exports) (ts : List InstanceType) (es : List Exports) → AllZip (IsInstanceType table) ts es
+types_more : (table more : List Surface) (ts : List InstanceType) (es : List Surface) → AllZip (IsInstanceType table) ts es
     → AllZip (IsInstanceType (table ++ more)) ts es
 types_more table more [] [] a = tt
 types_more table more [] (e ∷ es) a = a
@@ -146,7 +146,7 @@ zip_push R [] (z ∷ ys) x y a r = absurd a
 zip_push R (z ∷ xs) [] x y a r = absurd a
 zip_push R (z ∷ xs) (w ∷ ys) x y a r = (a.0, zip_push R xs ys x y a.1 r)
 
-pub table_push : (ts : List InstanceType) (table : List Exports) (t : InstanceType) (e : Exports) → IsTable ts table → IsInstanceType table t e
+pub table_push : (ts : List InstanceType) (table : List Surface) (t : InstanceType) (e : Surface) → IsTable ts table → IsInstanceType table t e
     → IsTable (ts ++ t ∷ []) (table ++ e ∷ [])
 table_push ts table t e a i =
     zip_push (IsInstanceType (table ++ e ∷ [])) ts table t e (types_more table (e ∷ []) ts table a) (type_more table (e ∷ []) t e i)

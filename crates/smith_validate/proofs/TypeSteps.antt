@@ -2,13 +2,14 @@
 use Rattle.std.proofs.Common.{◌≡◌, ℕ, zero, suc, Bool, List, [], ◌∷◌, ◌++◌, sym, subst, append-nil, append_assoc, Option, Some, None, Result}
 use Rattle.std.specs.Option.{option_map, option_to_list}
 use Rattle.std.specs.Prelude.{slice_get}
-use Rattle.smith_validity.specs.Bodies.{Body, IsSmall, named_in, with_core_facts, with_facts}
-use Rattle.smith_validity.specs.Facts.{CoreFacts, FactScope, Facts, Id, needs}
-use Rattle.smith_validity.specs.Validates.{names_of}
+use Rattle.smith_tree.specs.Bodies.{Body, IsSmall, named_in, with_core_facts, with_facts}
+use Rattle.smith_tree.specs.Facts.{CoreFacts, FactScope, Facts, Id, needs}
+use Rattle.smith_tree.specs.Validates.{names_of}
 use Rattle.smith_validate.specs.Bodies.{IsBody}
-use Rattle.smith_validate.specs.Instances.{AreKept, Exports, IsKept, IsTable, ScopesKept, reach_of}
+use Rattle.smith_validate.specs.Instances.{AreKept, Surface, IsKept, IsTable, ScopesKept, reach_of}
 use Rattle.smith_validate.specs.Judges.{Judges}
-use Rattle.smith_validate.specs.Kept.{capped, kept_core, type_in}
+use Rattle.smith_syntax.specs.Sizes.{capped}
+use Rattle.smith_validate.specs.Kept.{kept_core, type_in}
 use Rattle.smith_validate.specs.Nested.{IsDeclared}
 use Rattle.smith_validate.specs.declared.body.Body.{Body as KeptBody}
 use Rattle.smith_validate.specs.declared.error.Stop.{Stop}
@@ -19,7 +20,7 @@ use Rattle.smith_validate.proofs.Covering.{covers_outer}
 use Rattle.smith_validate.proofs.DeclSteps.{in_again}
 use Rattle.smith_validate.proofs.Roles.{role_more}
 
-module _ (table : List Exports) where
+module _ (table : List Surface) where
   kept_option : (names : List (List Id)) (ks : List KeptFacts) (fs : List Facts) (i : ℕ) → AreKept table names ks fs
       → AreKept table names (option_to_list (slice_get ks i)) (option_to_list (slice_get fs i))
   kept_option names [] [] i a = tt
@@ -63,7 +64,7 @@ module _ (table : List Exports) where
       is = subst (λ es. IsKept es names g f) (sym (append-nil table)) i;
     }
 
-    pub declared_more : (more : List Exports) → IsDeclared (table ++ more) names k g f → IsDeclared table names k g f
+    pub declared_more : (more : List Surface) → IsDeclared (table ++ more) names k g f → IsDeclared table names k g f
     declared_more more d = record {
       more = more ++ d.more;
       instances_are = subst (λ es. IsTable k.instances.items es) (append_assoc table more d.more) d.instances_are;
@@ -71,7 +72,7 @@ module _ (table : List Exports) where
     }
 
 -- the body after a type was read, before it is added
-pub body_declared : (asks : Bool) (k new : Known) (o : KeptBody) (b : Body) (outer : List FactScope) (names : List (List Id)) (table more : List Exports)
+pub body_declared : (asks : Bool) (k new : Known) (o : KeptBody) (b : Body) (outer : List FactScope) (names : List (List Id)) (table more : List Surface)
     → IsBody asks k o b outer names table → new.own ≡ k.own → new.outer.items ≡ k.outer.items → IsTable new.instances.items (table ++ more)
     → IsBody asks new o b outer names (table ++ more)
 body_declared asks k new o b outer names table more s own outers instances = record {

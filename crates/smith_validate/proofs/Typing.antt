@@ -7,11 +7,11 @@ use Rattle.std.specs.Prelude.{slice_get, if◌then◌else◌}
 use Rattle.smith_input.specs.NewNames.{is_among}
 use Rattle.smith_syntax.specs.declared.types.ComponentValType.{ComponentValType}
 use Rattle.smith_syntax.specs.declared.types.ComponentValType.TheVariants.{Primitive, Indexed}
-use Rattle.smith_validity.specs.Bodies.{equal_facts, named_in}
-use Rattle.smith_validity.specs.Facts.{FactScope, Facts, Id, needs, value_needs}
+use Rattle.smith_tree.specs.Bodies.{equal_facts, named_in}
+use Rattle.smith_tree.specs.Facts.{FactScope, Facts, Id, needs, value_needs}
 use Rattle.smith_validate.specs.Attained.{Attains}
 use Rattle.smith_validate.specs.Exact.{IsKeptExactly, IsNumberOf}
-use Rattle.smith_validate.specs.Instances.{Exports}
+use Rattle.smith_validate.specs.Instances.{Surface}
 use Rattle.smith_validate.specs.Kept.{type_in}
 use Rattle.smith_validate.specs.Marks.{both, named_facts, named_needs, no_needs, unnamed_needs}
 use Rattle.smith_validate.specs.Places.{IsBefore}
@@ -24,8 +24,8 @@ use Rattle.smith_validate.proofs.Ids.{added_open, open_before}
 use Rattle.smith_validate.proofs.Names.{among_cases, among_itself, among_one}
 use Rattle.smith_validate.proofs.Valued.{beside}
 
--- What value types need, where what is kept of types is exact.
-module _ (table : List Exports) (place : Id) (named : List Id) (ks : List KeptFacts) (types : List Facts)
+-- What value types need, if what is kept of types is exact.
+module _ (table : List Surface) (place : Id) (named : List Id) (ks : List KeptFacts) (types : List Facts)
     (are : AllZip (IsKeptExactly table place named) ks types) where
   value_attained : (v : ComponentValType) → IsOfValues types v → Attains place named (value_marks ks v) (value_needs types v)
   value_attained (Primitive p) h = attains_nothing place named []
@@ -72,7 +72,7 @@ module _ (table : List Exports) (place : Id) (named : List Id) (ks : List KeptFa
       [ inl x ↦ values_before types ks are i id x | inr y ↦ members_before vs id y ]
 
 -- a type of values or of functions, or of components
-module _ (table : List Exports) (count : ℕ) (scope : Id) (named : List Id) (k : KeptFacts) (f : Facts) (marks : Needs) where
+module _ (table : List Surface) (count : ℕ) (scope : Id) (named : List Id) (k : KeptFacts) (f : Facts) (marks : Needs) where
   needs_by : (next : Id) (b : Bool) → IsBefore 0 next f.id → (b ≡ true → is_among named f.id ≡ false) → Attains next named marks f.refers
       → Attains next named (if b then unnamed_needs else marks) (if b then f.id ∷ [] else f.refers)
   needs_by next true own fresh a = record { outer = (f.id, among_itself f.id [], own, fresh refl); inner = tt }
@@ -97,7 +97,7 @@ module _ (table : List Exports) (count : ℕ) (scope : Id) (named : List Id) (k 
       }
 
 -- a type that is equal to another, and is named
-module _ (table : List Exports) (count : ℕ) (scope : Id) (named more : List Id) (n : Names (count ∷ scope) named more) (depth : ℕ)
+module _ (table : List Surface) (count : ℕ) (scope : Id) (named more : List Id) (n : Names (count ∷ scope) named more) (depth : ℕ)
     (d : depth ≡ length scope) where
   number_equal : (i : Option ℕ) (id : Id) (f : Facts) → IsNumberOf table ((count + 1) ∷ scope) i f → IsNumberOf table ((count + 1) ∷ scope) i (equal_facts id f)
   number_equal None id f h = h

@@ -20,9 +20,9 @@ use Rattle.smith_tree.specs.Spaces.{after_part as spaces_after, no_spaces, space
 use Rattle.smith_tree.specs.Tree.{Canon, ExportEntry, Part, Tree, add, canons, component, core_module, core_types, custom, ends, exports, first, imports, lift}
 use Rattle.smith_tree.specs.Tree.{lower, types as types_part}
 use Rattle.smith_tree.specs.WellFormed.{Formed, FormedImport, FormedPart, WellFormed, scope_of}
-use Rattle.smith_validity.specs.Bodies.{Body, after_decl, after_export, after_import, empty_body, equal_facts, facts, named_in, with_facts}
-use Rattle.smith_validity.specs.Facts.{FactScope, Facts, Id, id_at, members}
-use Rattle.smith_validity.specs.Validates.{after_canon, after_entries, after_part, exported_reference, exported_references, imported_references}
+use Rattle.smith_tree.specs.Bodies.{Body, after_decl, after_export, after_import, empty_body, equal_facts, facts, named_in, with_facts}
+use Rattle.smith_tree.specs.Facts.{FactScope, Facts, Id, id_at, members}
+use Rattle.smith_tree.specs.Validates.{after_canon, after_entries, after_part, exported_reference, exported_references, imported_references}
 use Rattle.smith_validate.specs.Usual.{AreUsualDecls, AreUsualEntries, AreUsualParts, IsOfValues, IsUsual, IsUsualDecl, IsUsualEntry, IsUsualImport}
 use Rattle.smith_validate.specs.Usual.{IsUsualPart}
 use Rattle.smith_validate.proofs.PartsExactly.{canons_types, cores_types}

@@ -9,8 +9,8 @@ use Rattle.std.specs.Option.{option_to_list}
 use Rattle.std.specs.Prelude.{slice_get, if◌then◌else◌}
 use Rattle.smith_syntax.specs.declared.types.ComponentValType.{ComponentValType}
 use Rattle.smith_syntax.specs.declared.types.ComponentValType.TheVariants.{Indexed}
-use Rattle.smith_validity.specs.Facts.{Facts, Id, needs, value_needs}
-use Rattle.smith_validate.specs.Instances.{AreKept, Exports, IsKept}
+use Rattle.smith_tree.specs.Facts.{Facts, Id, needs, value_needs}
+use Rattle.smith_validate.specs.Instances.{AreKept, Surface, IsKept}
 use Rattle.smith_validate.specs.Marks.{Covers, both, no_needs, nominal_facts, plain_facts}
 use Rattle.smith_validate.specs.Values.{CoversValues, HasMarks, marks_from, value_marks}
 use Rattle.smith_validate.specs.declared.facts.Facts.{Facts as KeptFacts}
@@ -39,7 +39,7 @@ module _ {A B : Type 0} (R : A → B → Type 0) where
   none_beside (x ∷ xs) (y ∷ ys) zero a e = absurd (let z : None ≡ Some x = e in cc)
   none_beside (x ∷ xs) (y ∷ ys) (suc i) a e = none_beside xs ys i a.1 e
 
-module _ (table : List Exports) (names : List (List Id)) (ks : List KeptFacts) (types : List Facts) (i : ℕ) (are : AreKept table names ks types) where
+module _ (table : List Surface) (names : List (List Id)) (ks : List KeptFacts) (types : List Facts) (i : ℕ) (are : AreKept table names ks types) where
   pub value_found : (k : KeptFacts) → Some k ≡ slice_get ks i → Covers names k.needs (value_needs types (Indexed i))
   value_found k e =
       let b = beside (IsKept table names) ks types i k are e in
@@ -75,7 +75,7 @@ module _ (types : List Facts) (names : List (List Id)) where
 
 -- what is kept of a type
 
-module _ (table : List Exports) (names : List (List Id)) (n : Needs) (size : ℕ) (f : Facts) (exports : f.exports ≡ []) (c : Covers names n f.refers) where
+module _ (table : List Surface) (names : List (List Id)) (n : Needs) (size : ℕ) (f : Facts) (exports : f.exports ≡ []) (c : Covers names n f.refers) where
   pub plain_kept : false ≡ f.nominal → IsKept table names (plain_facts n size) f
   plain_kept h = record {
     nominal_is = h;

@@ -1,7 +1,7 @@
 -- What is kept of types that have to be named is kept of one of them.
 use Rattle.std.specs.Prelude.{◌≡◌, ℕ, ◌+◌, true, false, List, length, Option, None, Some}
 use Rattle.smith_input.specs.NewNames.{is_among}
-use Rattle.smith_validity.specs.Facts.{Id}
+use Rattle.smith_tree.specs.Facts.{Id}
 use Rattle.smith_validate.specs.Places.{IsBefore, IsOpen}
 use Rattle.smith_validate.specs.declared.facts.Needs.{Needs}
 use Rattle.smith_validate.specs.declared.facts.Outermost.{Outermost}

@@ -1,14 +1,14 @@
 -- What the program keeps of a component, a component type or an instance type.
 use Rattle.std.specs.Prelude.{◌≡◌, Bool, true, false, List, [], ◌∷◌, ◌++◌, length, map}
-use Rattle.smith_validity.specs.Bodies.{Body, IsSmall}
-use Rattle.smith_validity.specs.Counts.{no_counts}
-use Rattle.smith_validity.specs.Demands.{everything}
-use Rattle.smith_validity.specs.Facts.{Extern, FactScope, Id}
-use Rattle.smith_validity.specs.Validates.{exported, imported, names_of}
+use Rattle.smith_tree.specs.Bodies.{Body, IsSmall}
+use Rattle.smith_tree.specs.Counts.{no_counts}
+use Rattle.smith_tree.specs.Demands.{everything}
+use Rattle.smith_tree.specs.Facts.{Extern, FactScope, Id}
+use Rattle.smith_tree.specs.Validates.{exported, imported, names_of}
 use Rattle.smith_validate.specs.Counted.{counted}
 use Rattle.smith_validate.specs.Exposure.{IsExposed}
 use Rattle.smith_validate.specs.Exposing.{IsSettled}
-use Rattle.smith_validate.specs.Instances.{Exports, Follow, IsTable, Piece, Rest, ScopesKept, externs_in, uses_in}
+use Rattle.smith_validate.specs.Instances.{Surface, Follow, IsTable, Piece, Rest, ScopesKept, externs_in, uses_in}
 use Rattle.smith_validate.specs.Judges.{IsPassed}
 use Rattle.smith_validate.specs.Kept.{kept_of, outer_in, own_in, types_in}
 use Rattle.smith_validate.specs.Marks.{Covers, IsAbove, no_needs}
@@ -24,8 +24,8 @@ use Rattle.smith_validate.specs.declared.known.Known.{Known}
 abbrev pub IsOther : Stop → Type 0
 IsOther e = ¬ (IsPassed e)
 
--- The scopes are these. The innermost and those around it name these, and types of instances export that.
-pub record IsIn (k : Known) (own : FactScope) (outer : List FactScope) (here : List Id) (names : List (List Id)) (table : List Exports) : Type 0 where
+-- The scopes are these. The innermost and the ones around it name these, and types of instances export that.
+pub record IsIn (k : Known) (own : FactScope) (outer : List FactScope) (here : List Id) (names : List (List Id)) (table : List Surface) : Type 0 where
   pub own_is : own_in k ≡ kept_of own
   pub outer_is : outer_in k ≡ map kept_of outer
   pub types_are : ScopesKept table (here ∷ names) (types_in k) (own ∷ outer)
@@ -33,12 +33,12 @@ pub record IsIn (k : Known) (own : FactScope) (outer : List FactScope) (here : L
   pub depth_is : length names ≡ length k.outer.items
 
 -- What is named for imports and for exports is that.
-pub record AreSets (table : List Exports) (s : Sets) (b : Body) : Type 0 where
+pub record AreSets (table : List Surface) (s : Sets) (b : Body) : Type 0 where
   pub imported_are : IsSettled table s.imported (imported b)
   pub exported_are : IsSettled table s.exported (exported b)
 
 -- What an instance type exports in these scopes is that.
-pub record AreExports (table : List Exports) (names : List (List Id)) (e : Exported) (xs : List Extern) : Type 0 where
+pub record AreExports (table : List Surface) (names : List (List Id)) (e : Exported) (xs : List Extern) : Type 0 where
   pub outside : List Id
   pub pieces : List Piece
   pub externs_are : xs ≡ externs_in table pieces
@@ -49,18 +49,18 @@ pub record AreExports (table : List Exports) (names : List (List Id)) (e : Expor
   pub none : e.any ≡ false → xs ≡ []
 
 -- What is kept of imports and exports is of that. Names are asked but in an instance type.
-abbrev pub IsRole : List Exports → List (List Id) → Bool → Role → Body → Type 0
+abbrev pub IsRole : List Surface → List (List Id) → Bool → Role → Body → Type 0
 IsRole table names asks (Names s) b = (asks ≡ true) × AreSets table s b
 IsRole table names asks (Exporting e) b = (asks ≡ false) × AreExports table names e b.exports
 
 -- Nothing is imported or exported.
 abbrev pub IsFresh : Bool → Role → Type 0
-IsFresh asks (Names s) = (asks ≡ true) × ((table : List Exports) (named : List Id) → IsSettled table s.imported named × IsSettled table s.exported named)
-    × ((table : List Exports) → IsExposed table s.imported [] [] × IsExposed table s.exported [] [])
+IsFresh asks (Names s) = (asks ≡ true) × ((table : List Surface) (named : List Id) → IsSettled table s.imported named × IsSettled table s.exported named)
+    × ((table : List Surface) → IsExposed table s.imported [] [] × IsExposed table s.exported [] [])
 IsFresh asks (Exporting e) = (asks ≡ false) × (e.refers ≡ no_needs) × (e.uses.items ≡ []) × (e.any ≡ false)
 
 -- What is kept is of that, which is below the bounds.
-pub record IsBody (asks : Bool) (k : Known) (o : Kept) (b : Body) (outer : List FactScope) (names : List (List Id)) (table : List Exports) : Type 0 where
+pub record IsBody (asks : Bool) (k : Known) (o : Kept) (b : Body) (outer : List FactScope) (names : List (List Id)) (table : List Surface) : Type 0 where
   pub scopes : IsIn k b.own outer (names_of b.exports) names table
   pub size_is : o.size ≡ b.size
   pub counts_are : counted o.counts ≡ b.counts
@@ -68,8 +68,8 @@ pub record IsBody (asks : Bool) (k : Known) (o : Kept) (b : Body) (outer : List 
   pub role_is : IsRole table names asks o.role b
 
 -- The same, with more types of instances.
-abbrev pub IsBodyNow : Bool → Known → Kept → Body → List FactScope → List (List Id) → List Exports → Type 0
-IsBodyNow asks k o b outer names table = (more : List Exports) × IsBody asks k o b outer names (table ++ more)
+abbrev pub IsBodyNow : Bool → Known → Kept → Body → List FactScope → List (List Id) → List Surface → Type 0
+IsBodyNow asks k o b outer names table = (more : List Surface) × IsBody asks k o b outer names (table ++ more)
 
 -- Nothing is in it.
 pub record IsEmpty (o : Kept) : Type 0 where

@@ -2,7 +2,7 @@
 use Rattle.std.specs.Prelude.{◌≡◌, ℕ, List, ◌++◌, Some}
 use Rattle.smith_core.specs.Preamble.{core_preamble}
 use Rattle.smith_format.specs.Piece.{◌⊕◌, bytes}
-use Rattle.smith_validity.specs.CoreModules.{section}
+use Rattle.smith_tree.specs.CoreModules.{section}
 
 abbrev pub HasPreamble : List ℕ → Type 0
 HasPreamble text = (rest : List ℕ) × (text ≡ core_preamble ++ rest)

@@ -1,5 +1,5 @@
 -- How many entries there are, as the program counts them.
-use Rattle.smith_validity.specs.Counts.{Counts}
+use Rattle.smith_tree.specs.Counts.{Counts}
 use Rattle.smith_validate.specs.declared.counts.Counts.{Counts as Counted}
 
 abbrev pub counted : Counted → Counts

@@ -1,10 +1,10 @@
--- What is known of types of instances whose types are named, and of those that are being judged.
+-- What is known of types of instances whose types are named, and of the ones that are being judged.
 use Rattle.std.specs.Prelude.{◌≡◌, ℕ, ◌<◌, ◌||◌, Bool, true, false, List, [], ◌∷◌, ◌++◌, length, drop, None, Some, slice_get}
 use Rattle.std.specs.BTreeSet.{contains}
 use Rattle.std.specs.Ordering.{nat_cmp}
-use Rattle.smith_validity.specs.Facts.{Id}
-use Rattle.smith_validity.specs.Validates.{RefersTo, names_of}
-use Rattle.smith_validate.specs.Instances.{Exports, Follow, Piece, Rest, externs_in, externs_of, refers_of, uses_in}
+use Rattle.smith_tree.specs.Facts.{Id}
+use Rattle.smith_tree.specs.Validates.{RefersTo, names_of}
+use Rattle.smith_validate.specs.Instances.{Surface, Follow, Piece, Rest, externs_in, externs_of, refers_of, uses_in}
 use Rattle.smith_validate.specs.Marks.{Within}
 use Rattle.smith_validate.specs.declared.instances.Exposed.{Exposed}
 use Rattle.smith_validate.specs.declared.instances.InstanceType.{InstanceType}
@@ -30,10 +30,10 @@ abbrev pub is_settled : Exposed → ℕ → Bool
 is_settled s n = contains nat_cmp s.named n || contains nat_cmp s.settled n
 
 -- What is settled refers to what is named.
-abbrev pub IsSettled : List Exports → Exposed → List Id → Type 0
+abbrev pub IsSettled : List Surface → Exposed → List Id → Type 0
 IsSettled table s named = (n : ℕ) → is_settled s n ≡ true → (n < length table) × Within named (refers_of (externs_of table n))
 
-module _ (table : List Exports) where
+module _ (table : List Surface) where
   -- An instance may be exported; a type that is equal to one of instances may be.
   abbrev pub IsMet : Use → List Id → Type 0
   IsMet (Instance n) named = RefersTo named (externs_of table n)
@@ -69,17 +69,17 @@ module _ (table : List Exports) where
         × (AreMet u.0 named ps → Within (named_past u.0 named ps) (refers_of (externs_of table (number_of u.0))) × IsPending us (named_past u.0 named ps))
 
 -- A use is met, and what is settled then refers to what is named then.
-pub record Meets (table : List Exports) (u : Use) (s : Exposed) (named : List Id) : Type 0 where
+pub record Meets (table : List Surface) (u : Use) (s : Exposed) (named : List Id) : Type 0 where
   pub met : IsMet table u named
   pub settled : IsSettled table s (named_after table u named)
 
--- The goal of a use, where that was named before it.
-pub record IsGoal (table : List Exports) (u : Use) (before named : List Id) : Type 0 where
+-- The goal of a use, if that was named before it.
+pub record IsGoal (table : List Surface) (u : Use) (before named : List Id) : Type 0 where
   pub met : IsMet table u before
   pub named_is : named ≡ named_after table u before
 
 -- Uses are open, and lead to that goal.
-pub record IsOnTheWay (table : List Exports) (all : List InstanceType) (u : Use) (before : List Id) (s : Exposed) (open_uses : List (Use × ℕ)) : Type 0 where
+pub record IsOnTheWay (table : List Surface) (all : List InstanceType) (u : Use) (before : List Id) (s : Exposed) (open_uses : List (Use × ℕ)) : Type 0 where
   pub named : List Id
   pub settled : IsSettled table s named
   pub pending : IsPending table all (IsGoal table u before) open_uses named

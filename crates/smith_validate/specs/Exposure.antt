@@ -3,9 +3,9 @@ use Rattle.std.specs.Prelude.{◌≡◌, ◌⊎◌, ℕ, ◌<◌, Bool, true, Li
 use Rattle.std.specs.BTreeSet.{contains}
 use Rattle.std.specs.Ordering.{nat_cmp}
 use Rattle.smith_input.specs.NewNames.{is_among}
-use Rattle.smith_validity.specs.Facts.{Id}
-use Rattle.smith_validity.specs.Validates.{names_of}
-use Rattle.smith_validate.specs.Instances.{Exports, externs_of, place_of}
+use Rattle.smith_tree.specs.Facts.{Id}
+use Rattle.smith_tree.specs.Validates.{names_of}
+use Rattle.smith_validate.specs.Instances.{Surface, externs_of, place_of}
 use Rattle.smith_validate.specs.Places.{IsInside}
 use Rattle.smith_validate.specs.Tables.{IsLive}
 use Rattle.smith_validate.specs.declared.instances.Exposed.{Exposed}
@@ -21,7 +21,7 @@ abbrev pub is_exposed : Exposed → ℕ → Bool
 is_exposed s n = contains nat_cmp s.named n
 
 -- What is named of a type of instances, or within it, is named since an instance of it was opened; and then all that it names is.
-pub record IsExposed (table : List Exports) (s : Exposed) (us : List (Use × ℕ)) (named : List Id) : Type 0 where
+pub record IsExposed (table : List Surface) (s : Exposed) (us : List (Use × ℕ)) (named : List Id) : Type 0 where
   pub opened : (n : ℕ) (id : Id) → IsLive table n → is_among named id ≡ true → IsInside id (place_of table n)
       → (is_exposed s n ≡ true) ⊎ IsOpening us n
   pub names : (n : ℕ) → is_exposed s n ≡ true

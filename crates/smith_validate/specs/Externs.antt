@@ -3,11 +3,11 @@ use Rattle.std.specs.Prelude.{◌≡◌, ℕ, Bool, List, [], ◌∷◌, ◌++�
 use Rattle.std.specs.Option.{option_map, option_to_list}
 use Rattle.smith_syntax.specs.declared.deftype.ComponentTypeRef.{ComponentTypeRef}
 use Rattle.smith_syntax.specs.declared.deftype.ComponentTypeRef.TheVariants as to
-use Rattle.smith_validity.specs.Bodies.{Body}
-use Rattle.smith_validity.specs.Demands.{Demands, Keeps, everything}
-use Rattle.smith_validity.specs.Facts.{Extern, Id}
-use Rattle.smith_validity.specs.Validates.{RefersTo}
-use Rattle.smith_validate.specs.Instances.{Exports, IsKnown, Piece, externs_in, reach, uses_in}
+use Rattle.smith_tree.specs.Bodies.{Body}
+use Rattle.smith_tree.specs.Demands.{Demands, Keeps, everything}
+use Rattle.smith_tree.specs.Facts.{Extern, Id}
+use Rattle.smith_tree.specs.Validates.{RefersTo}
+use Rattle.smith_validate.specs.Instances.{Surface, IsKnown, Piece, externs_in, reach, uses_in}
 use Rattle.smith_validate.specs.Marks.{Covers, named_facts}
 use Rattle.smith_validate.specs.declared.body.Extern.{Extern as KeptExtern}
 use Rattle.smith_validate.specs.declared.facts.Facts.{Facts as KeptFacts}
@@ -42,7 +42,7 @@ exported_of kept depth (to.Component i) = []
 exported_of kept depth (to.Instance i) = []
 
 -- What is kept is of an export of that sort.
-pub record IsPiece (table : List Exports) (names : List (List Id)) (k : KeptExtern) (xs : List Extern) : Type 0 where
+pub record IsPiece (table : List Surface) (names : List (List Id)) (k : KeptExtern) (xs : List Extern) : Type 0 where
   pub piece : Piece
   pub externs_are : xs ≡ externs_in table (piece ∷ [])
   pub used_is : uses_in (piece ∷ []) ≡ option_to_list k.used
@@ -50,7 +50,7 @@ pub record IsPiece (table : List Exports) (names : List (List Id)) (k : KeptExte
   pub covered : Covers names k.refers (reach table piece)
 
 -- The same, or nothing is kept and there is nothing.
-abbrev pub IsExtern : List Exports → List (List Id) → Option KeptExtern → List Extern → Type 0
+abbrev pub IsExtern : List Surface → List (List Id) → Option KeptExtern → List Extern → Type 0
 IsExtern table names None xs = xs ≡ []
 IsExtern table names (Some k) xs = IsPiece table names k xs
 
@@ -62,7 +62,7 @@ with_imports b xs = record b { imports = b.imports ++ xs }
 abbrev pub with_exports : Body → List Extern → Body
 with_exports b xs = record b { exports = b.exports ++ xs }
 
--- Where names are asked, what is referred to is named, if that is demanded.
+-- If names are asked and demanded, what is referred to is named.
 abbrev pub IsAskedFor : Demands → Bool → List Id → List Extern → Type 0
 IsAskedFor d asks named xs = Keeps asks (Keeps d.names (RefersTo named xs))
 

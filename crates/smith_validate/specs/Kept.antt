@@ -1,18 +1,15 @@
 -- What is kept of types and core types for their sizes.
-use Rattle.std.specs.Prelude.{ℕ, List, ◌∷◌, map, min, reverse, Option, None, Some, slice_get}
+use Rattle.std.specs.Prelude.{ℕ, List, ◌∷◌, map, reverse, Option, None, Some, slice_get}
 use Rattle.smith_syntax.specs.Entries.{core_func, core_module}
 use Rattle.smith_syntax.specs.Scope.{ScopeOf}
-use Rattle.smith_validity.specs.Facts.{CoreFacts, FactScope}
-use Rattle.smith_validity.specs.Sizes.{function_size, size_bound}
+use Rattle.smith_tree.specs.Facts.{CoreFacts, FactScope}
+use Rattle.smith_syntax.specs.Sizes.{capped}
+use Rattle.smith_tree.specs.Sizes.{function_size}
 use Rattle.smith_validate.specs.declared.facts.CoreFacts.{CoreFacts as KeptCore}
 use Rattle.smith_validate.specs.declared.facts.CoreFacts.TheVariants as core
 use Rattle.smith_validate.specs.declared.facts.Facts.{Facts}
 use Rattle.smith_validate.specs.declared.known.Known.{Known}
 use Rattle.smith_validate.specs.declared.known.Scope.{Scope}
-
--- a size as it is kept: none is greater than the bound
-abbrev pub capped : ℕ → ℕ
-capped n = min n size_bound
 
 abbrev pub kept_core : CoreFacts → KeptCore
 kept_core f = elim f.entry [ core_func g ↦ core.Func (capped (function_size g)) | core_module ds ↦ core.Module (capped f.size) ]
@@ -27,7 +24,7 @@ kept_in s = record { types = map (λ f. f.size) s.types.items; core_types = s.co
 abbrev pub kept_of : FactScope → Kept
 kept_of s = record { types = map (λ f. capped f.size) s.types; core_types = map kept_core s.core_types }
 
--- the innermost scope, and those around it, innermost first
+-- the innermost scope, and the ones around it, innermost first
 abbrev pub own_in : Known → Kept
 own_in k = kept_in k.own
 

@@ -2,7 +2,7 @@
 use Rattle.std.specs.Prelude.{◌≡◌, ℕ, ◌<◌, ◌≤◌, ◌⊎◌, min, max, Bool, true, false, nat_le, nat_lt, List, [], ◌∷◌, length, Option, None, Some, if◌then◌else◌}
 use Rattle.std.specs.List.{AllByRecursion}
 use Rattle.smith_input.specs.NewNames.{is_among}
-use Rattle.smith_validity.specs.Facts.{Id}
+use Rattle.smith_tree.specs.Facts.{Id}
 use Rattle.smith_validate.specs.declared.facts.Facts.{Facts as KeptFacts}
 use Rattle.smith_validate.specs.declared.facts.Needs.{Needs}
 use Rattle.smith_validate.specs.declared.facts.Outermost.{Outermost}
@@ -32,7 +32,7 @@ is_within Unnamed level = false
 is_within (Scope a) level = nat_le level a
 is_within Nothing level = true
 
--- without what is named deeper than that level, where all is or nothing
+-- without what is named deeper than that level, if all of it is or none
 abbrev pub outer_outside : Outermost → ℕ → Outermost
 outer_outside Unnamed level = Unnamed
 outer_outside (Scope a) level = if nat_lt level a then Nothing else Scope a
@@ -43,7 +43,7 @@ abbrev pub is_below : Option ℕ → ℕ → Bool
 is_below None depth = false
 is_below (Some level) depth = nat_lt depth level
 
--- the level, or that one where it is deeper
+-- the level, or that one if it is deeper
 abbrev pub not_below : Option ℕ → ℕ → Option ℕ
 not_below None depth = None
 not_below (Some level) depth = Some (min level depth)
@@ -81,7 +81,7 @@ named_facts f level = record f { needs = if f.nominal then named_needs level els
 
 -- What the values that are kept stand for.
 
--- Each of the types is among those.
+-- Each of the types is among these.
 abbrev pub Within : List Id → List Id → Type 0
 Within those ids = AllByRecursion (λ id. is_among those id ≡ true) ids
 
@@ -104,6 +104,6 @@ IsCoveredBy Unnamed deepest names id = Unit {0}
 IsCoveredBy (Scope from) deepest names id = IsNamedIn from deepest names id
 IsCoveredBy Nothing deepest names id = ⊥
 
--- What is kept says where each of the types is named. Where one of them is not, it says nothing of the others.
+-- What is kept says where each of the types is named. If one of them is not, it says nothing of the others.
 abbrev pub Covers : List (List Id) → Needs → List Id → Type 0
 Covers names needs ids = AllByRecursion (λ id. IsCoveredBy needs.outermost needs.innermost names id) ids

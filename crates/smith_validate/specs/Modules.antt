@@ -7,10 +7,10 @@ use Rattle.smith_format.specs.declared.types.ExportKind.{ExportKind}
 use Rattle.smith_format.specs.declared.types.ExportKind.TheVariants as kind
 use Rattle.smith_syntax.specs.Entries.{CoreEntry, ModuleDecl}
 use Rattle.smith_syntax.specs.ModuleTypes.{entities_in, is_of_kind}
-use Rattle.smith_validity.specs.Demands.{Demands, Keeps}
-use Rattle.smith_validity.specs.Facts.{FactScope}
-use Rattle.smith_validity.specs.Sizes.{entity_size, function_size, imported_of_kind, size_bound}
-use Rattle.smith_validate.specs.Kept.{capped}
+use Rattle.smith_tree.specs.Demands.{Demands, Keeps}
+use Rattle.smith_tree.specs.Facts.{FactScope}
+use Rattle.smith_tree.specs.Sizes.{entity_size, function_size, imported_of_kind, size_bound}
+use Rattle.smith_syntax.specs.Sizes.{capped}
 use Rattle.smith_validate.specs.declared.core_types.Module.{Module}
 
 abbrev pub sizes_in : List Function → List ℕ
@@ -20,7 +20,7 @@ sizes_in fs = map (λ f. capped (function_size f)) fs
 abbrev pub entries_in : FactScope → List CoreEntry
 entries_in s = map (λ f. f.entry) s.core_types
 
--- 1 where it is of that kind, or else 0
+-- 1 if it is of that kind, or else 0
 abbrev pub one_of_kind : ExportKind → EntityType → ℕ
 one_of_kind k e = length (filter (is_of_kind k) (e ∷ []))
 
@@ -34,7 +34,7 @@ pub record IsSmallModule (m : Module) : Type 0 where
   pub memories : m.memories ≤ 100
   pub tables : m.tables ≤ 100
 
--- It is below those that are asked, with that much more.
+-- It is below the ones that are asked, with that much more.
 pub record Fits (d : Demands) (m : Module) (size memories tables : ℕ) : Type 0 where
   pub size_fits : Keeps d.sizes (m.size + size < size_bound)
   pub memories_fit : Keeps d.memories (m.memories + memories ≤ 100)

@@ -3,8 +3,8 @@ use Rattle.std.specs.Prelude.{ℕ, ◌+◌, List, true, false}
 use Rattle.smith_tree.specs.Tree.{Tree}
 use Rattle.smith_tree.specs.WellFormed.{WellFormed}
 use Rattle.smith_check.specs.Upto.{upto}
-use Rattle.smith_validity.specs.Demands.{Demands}
-use Rattle.smith_validity.specs.Validates.{ValidTree, Validates}
+use Rattle.smith_tree.specs.Demands.{Demands}
+use Rattle.smith_tree.specs.Validates.{ValidTree, Validates}
 use Rattle.smith_validate.specs.declared.error.Demand.TheVariants.{Named, Size, Count, Memories, Tables}
 use Rattle.smith_validate.specs.declared.error.Demand.{Demand}
 use Rattle.smith_validate.specs.declared.error.Validity.{Validity}
@@ -25,7 +25,7 @@ asking Tables = record nothing { tables = true }
 abbrev pub IsUnmet : Demand → Tree → Type 0
 IsUnmet demand t = ¬ (ValidTree (asking demand) t)
 
--- Names are judged where the component is well formed, and bounds always.
+-- Names are judged if the component is well formed, and bounds always.
 abbrev pub IsJudged : Demand → Tree → Type 0
 IsJudged Named t = WellFormed t
 IsJudged Size t = Unit {0}
@@ -38,7 +38,7 @@ pub record FallsShort (demand : Demand) (path : List ℕ) (entry : ℕ) (t : Tre
   pub before : Validates (upto path entry t)
   pub there : IsJudged demand t → IsUnmet demand t × IsUnmet demand (upto path (entry + 1) t)
 
--- It is `Valid` only where all demands are met, and `Invalid` only where the demand that it names is not, from that entry on.
+-- It is `Valid` only if all demands are met, and `Invalid` only if the demand that it names is not, from that entry on.
 abbrev pub IsOutcome : Tree → Validity → Type 0
 IsOutcome t validity.Valid = Validates t
 IsOutcome t (validity.Invalid shortfall) = FallsShort shortfall.demand shortfall.place.sections.items shortfall.place.entry t

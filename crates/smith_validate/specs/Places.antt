@@ -1,6 +1,6 @@
 -- Types by where they were added: in scopes that are open at a place, or in types that are closed there.
 use Rattle.std.specs.Prelude.{◌≡◌, ℕ, ◌<◌, ◌≤◌, ◌⊎◌, [], ◌∷◌, length}
-use Rattle.smith_validity.specs.Facts.{Id}
+use Rattle.smith_tree.specs.Facts.{Id}
 
 -- It is that one, or was added within it.
 abbrev pub IsUnder : Id → Id → Type 0

@@ -2,26 +2,23 @@
 use Rattle.std.specs.Prelude.{◌≡◌, ◌+◌, ◌++◌, ℕ, List, Result, Ok, Err}
 use Rattle.smith_tree.specs.Spaces.{Spaces, no_spaces}
 use Rattle.smith_tree.specs.Tree.{Part, Tree, tree_of}
+use Rattle.smith_check.specs.Tracks.{path_of}
 use Rattle.smith_check.specs.Upto.{upto, upto_in}
-use Rattle.smith_validity.specs.Bodies.{Body, empty_body}
-use Rattle.smith_validity.specs.Demands.{Demands, everything}
-use Rattle.smith_validity.specs.Facts.{FactScope}
-use Rattle.smith_validity.specs.Validates.{ValidParts}
+use Rattle.smith_tree.specs.Bodies.{Body, empty_body}
+use Rattle.smith_tree.specs.Demands.{Demands, everything}
+use Rattle.smith_tree.specs.Facts.{FactScope}
+use Rattle.smith_tree.specs.Validates.{ValidParts}
 use Rattle.smith_validate.specs.Judges.{IsPassed, asked}
 use Rattle.smith_validate.specs.declared.error.Stop.{Stop}
 use Rattle.smith_validate.specs.declared.error.Stop.TheVariants.{OutOfMemory}
-use Rattle.smith_validate.specs.declared.track.Track.{Track}
-
--- the indexes of the sections that it is in
-abbrev pub path_of : Track → List ℕ
-path_of t = t.place.sections.items
+use Rattle.smith_check.specs.declared.track.Track.{Track}
 
 -- Something stops at an entry: what precedes it meets every demand, and with it a bound is exceeded, if it stops at one.
 pub record StopsBefore (e : Stop) (P : Demands → ℕ → Type 0) (entry : ℕ) : Type 0 where
   pub met : P everything entry
   pub unmet : IsPassed e → ¬ (P (asked e) (entry + 1))
 
--- It holds where a judgement stops, unless memory ran out.
+-- It holds when a judgement stops, unless memory ran out.
 abbrev pub OnStop : {A : Type 0} → Result A Stop → (Stop → Type 0) → Type 0
 OnStop (Ok x) P = Unit {0}
 OnStop (Err e) P = ¬ (e ≡ OutOfMemory) → P e

@@ -10,10 +10,10 @@ use Rattle.smith_syntax.specs.declared.types.ComponentValType.{ComponentValType}
 use Rattle.smith_syntax.specs.declared.types.ComponentValType.TheVariants.{Primitive, Indexed}
 use Rattle.smith_tree.specs.Spaces.{Spaces, after_part as spaces_after, no_spaces}
 use Rattle.smith_tree.specs.Tree.{Tree, Part, ends, first, custom, core_module, core_types, component, canons, imports, exports, types as types_part}
-use Rattle.smith_validity.specs.Bodies.{Body, after_decl, empty_body, facts, with_facts}
-use Rattle.smith_validity.specs.Facts.{FactScope, Facts, members}
-use Rattle.smith_validity.specs.Sizes.{signature_members}
-use Rattle.smith_validity.specs.Validates.{after_part, imported_references}
+use Rattle.smith_tree.specs.Bodies.{Body, after_decl, empty_body, facts, with_facts}
+use Rattle.smith_tree.specs.Facts.{FactScope, Facts, members}
+use Rattle.smith_tree.specs.Sizes.{signature_members}
+use Rattle.smith_tree.specs.Validates.{after_part, imported_references}
 
 -- It is of no type of instances that export anything.
 abbrev pub IsOfValues : List Facts → ComponentValType → Type 0

@@ -1,11 +1,11 @@
--- Types of values and of functions, and what has to be named where they are used.
+-- Types of values and of functions, and what has to be named when they are used.
 use Rattle.std.specs.Prelude.{◌≡◌, Bool, false, List, [], None, Some, fold, slice_get, if◌then◌else◌}
 use Rattle.std.specs.List.{flat_map}
 use Rattle.smith_syntax.specs.Entries.{DefValType, Signature}
 use Rattle.smith_syntax.specs.declared.types.ComponentValType.{ComponentValType}
 use Rattle.smith_syntax.specs.declared.types.ComponentValType.TheVariants.{Primitive, Indexed}
-use Rattle.smith_validity.specs.Facts.{Facts, Id, is_nominal, members, sizes, value_needs}
-use Rattle.smith_validity.specs.Sizes.{defined_size, signature_members, signature_size}
+use Rattle.smith_tree.specs.Facts.{Facts, Id, is_nominal, members, sizes, value_needs}
+use Rattle.smith_tree.specs.Sizes.{defined_size, signature_members, signature_size}
 use Rattle.smith_validate.specs.Marks.{Covers, both, no_needs, unnamed_needs}
 use Rattle.smith_validate.specs.declared.facts.Facts.{Facts as KeptFacts}
 use Rattle.smith_validate.specs.declared.facts.Needs.{Needs}

@@ -2,22 +2,23 @@
 
 ghost use Rattle.std.specs.Prelude.{◌≡◌, ◌+◌, ◌++◌, ◌<◌, ℕ, [], List, false, true, IfErr, OnOk};
 ghost use Rattle.std.specs.Option.{option_to_list};
-ghost use Rattle.smith_validity.specs.Demands.{Keeps};
-ghost use Rattle.smith_validity.specs.Facts.{Id};
-ghost use Rattle.smith_validity.specs.Sizes.{size_bound};
+ghost use Rattle.smith_tree.specs.Demands.{Keeps};
+ghost use Rattle.smith_tree.specs.Facts.{Id};
+ghost use Rattle.smith_tree.specs.Sizes.{size_bound};
 ghost use Rattle.smith_validate.specs.Bodies.{IsEmpty, IsOther};
 ghost use Rattle.smith_validate.specs.Exact.{IsExposed};
 ghost use Rattle.smith_validate.specs.Exposing.{IsSettled};
-ghost use Rattle.smith_validate.specs.Instances.{Exports};
+ghost use Rattle.smith_validate.specs.Instances.{Surface};
 ghost use Rattle.smith_validate.specs.Judges.{IsUnnamed, Judges};
-ghost use Rattle.smith_validate.specs.Kept.{capped};
+ghost use Rattle.smith_syntax.specs.Sizes.{capped};
 ghost use Rattle.smith_validate.specs.Marks.{both, closed_needs, is_below, no_needs, not_below};
 ghost use Rattle.smith_validate.specs.declared.error.Stop.TheVariants.{OutOfMemory};
 
 use crate::counts::Counts;
 use crate::error::{Demand, Stop};
-use crate::facts::{Needs, SIZE_BOUND, size_sum};
+use crate::facts::Needs;
 use crate::instances::{Exposed, InstanceType, Use};
+use smith_syntax::{SIZE_BOUND, size_sum};
 use std::alloc::Global;
 
 /// What is named in a component or a component type, for its imports and for its exports.
@@ -29,9 +30,9 @@ pub(crate) struct Sets {
 
 impl Sets {
     pub(crate) fn new(alloc: Global) -> Sets
-        ensures imported { (table : List Exports) (named : List Id) → IsSettled table result.imported named }
-        ensures exported { (table : List Exports) (named : List Id) → IsSettled table result.exported named }
-        ensures exposed { (table : List Exports)
+        ensures imported { (table : List Surface) (named : List Id) → IsSettled table result.imported named }
+        ensures exported { (table : List Surface) (named : List Id) → IsSettled table result.exported named }
+        ensures exposed { (table : List Surface)
             → IsExposed table result.imported [] [] × IsExposed table result.exported [] [] }
     {
         Sets {
@@ -121,7 +122,7 @@ fn is_below(level: Option<usize>, depth: usize) -> bool
     }
 }
 
-// The level, or that one where it is deeper.
+// The level, or that one if it is deeper.
 fn not_below(level: Option<usize>, depth: usize) -> Option<usize>
     ensures { result ≡ not_below level depth }
 {

@@ -3,9 +3,9 @@
 ghost use Rattle.std.specs.Prelude.{◌≡◌, ◌↔◌, ◌≤◌, ◌<◌, ◌++◌, List, length, true, IfErr, IfOk, MatchOption, OnOk};
 ghost use Rattle.smith_core.specs.Preamble.{core_preamble};
 ghost use Rattle.smith_format.specs.Piece.{◌⊕◌, bytes};
-ghost use Rattle.smith_validity.specs.CoreModules.{CountsFew, HasFewMemories, section};
-ghost use Rattle.smith_validity.specs.Counts.{ValidCounts, with_module};
-ghost use Rattle.smith_validity.specs.Demands.{Keeps};
+ghost use Rattle.smith_tree.specs.CoreModules.{CountsFew, HasFewMemories, section};
+ghost use Rattle.smith_tree.specs.Counts.{ValidCounts, with_module};
+ghost use Rattle.smith_tree.specs.Demands.{Keeps};
 ghost use Rattle.smith_validate.specs.CoreModules.{HasNoSection, HasPreamble};
 ghost use Rattle.smith_validate.specs.Counted.{counted};
 ghost use Rattle.smith_validate.specs.Judges.{IsUnnamed, Judges};
@@ -13,7 +13,7 @@ ghost use Rattle.smith_validate.specs.Judges.{IsUnnamed, Judges};
 use crate::counts::Counts;
 use crate::error::{Demand, Stop};
 use smith_core::CORE_PREAMBLE;
-use smith_read_types::{Unread, count_of, frame_of};
+use smith_read::{Unread, count_of, frame_of};
 use std::alloc::AllocError;
 
 // The id of a memory section (core specification, Binary Format, Modules, Sections).

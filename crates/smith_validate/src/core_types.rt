@@ -8,40 +8,27 @@ ghost use Rattle.smith_format.specs.Shown.{shown_func};
 ghost use Rattle.smith_format.specs.declared.types.ExportKind.TheVariants as kind;
 ghost use Rattle.smith_syntax.specs.Entries.{core_module};
 ghost use Rattle.smith_syntax.specs.ModuleTypes.{adds, aliased};
-ghost use Rattle.smith_validity.specs.Bodies.{core_facts};
-ghost use Rattle.smith_validity.specs.Facts.{FactScope};
-ghost use Rattle.smith_validity.specs.Sizes.{ValidCore, core_size, entity_size, function_size, function_size_at};
-ghost use Rattle.smith_read_types.specs.Nodes.{shown_core_node, shown_module_node};
+ghost use Rattle.smith_tree.specs.Bodies.{core_facts};
+ghost use Rattle.smith_tree.specs.Facts.{FactScope};
+ghost use Rattle.smith_tree.specs.Sizes.{ValidCore, core_size, entity_size, function_size, function_size_at};
+ghost use Rattle.smith_read.specs.Nodes.{shown_core_node, shown_module_node};
 ghost use Rattle.smith_validate.specs.Judges.{IsUnnamed, Judges};
-ghost use Rattle.smith_validate.specs.Kept.{capped, kept_core, kept_in, kept_of};
+ghost use Rattle.smith_syntax.specs.Sizes.{capped};
+ghost use Rattle.smith_validate.specs.Kept.{kept_core, kept_in, kept_of};
 ghost use Rattle.smith_validate.specs.declared.error.Stop.TheVariants.{Invalid};
 ghost use Rattle.smith_validate.specs.Modules.{Fits, Grows, IsSmallModule, added_size, entries_in, memories_in};
 ghost use Rattle.smith_validate.specs.Modules.{one_of_kind, sizes_in, tables_in};
 
 use crate::error::{Demand, Stop};
-use crate::facts::{CoreFacts, SIZE_BOUND, size_sum};
+use crate::facts::CoreFacts;
 use crate::known::Scope;
 use smith_format::{EntityType, FuncType};
 use smith_read::{CoreNode, ModuleNode};
+use smith_syntax::{SIZE_BOUND, function_size, size_sum};
 use std::alloc::Global;
 
 // How many memories a module type may import, and how many tables.
 const MOST_IMPORTED: usize = 100;
-
-// A number as a size is kept.
-fn kept_size(count: usize) -> u32
-    ensures { result ≡ capped count }
-{
-    count.min(SIZE_BOUND as usize) as u32
-}
-
-// 2, and how many parameters and results there are.
-fn function_size(ty: &FuncType) -> u32
-    ensures { result ≡ capped (function_size (shown_func ty.now)) }
-{
-    let values = size_sum(kept_size(ty.params.len()), kept_size(ty.results.len()));
-    size_sum(values, 2)
-}
 
 // One more, of as many as a module type may import.
 fn one_imported(count: usize, demand: Demand) -> Result<usize, Stop>

@@ -1,9 +1,9 @@
 //! How many entries there are, by their sort.
 
 ghost use Rattle.std.specs.Prelude.{◌≡◌, ◌+◌, ◌≤◌, IfErr, IfOk, OnOk};
-ghost use Rattle.smith_validity.specs.Counts.{ValidCounts, no_counts, with_component, with_export, with_function};
-ghost use Rattle.smith_validity.specs.Counts.{with_import, with_module, with_reference, with_type_count};
-ghost use Rattle.smith_validity.specs.Demands.{Keeps};
+ghost use Rattle.smith_tree.specs.Counts.{ValidCounts, no_counts, with_component, with_export, with_function};
+ghost use Rattle.smith_tree.specs.Counts.{with_import, with_module, with_reference, with_type_count};
+ghost use Rattle.smith_tree.specs.Demands.{Keeps};
 ghost use Rattle.smith_validate.specs.Counted.{counted};
 ghost use Rattle.smith_validate.specs.Judges.{IsUnnamed, Judges};
 
@@ -127,7 +127,7 @@ impl Counts {
         self.add(to)
     }
 
-    /// Adds an export. That of a type also adds the type.
+    /// Adds an export. An export of a type also adds the type.
     pub(crate) fn add_export(&mut self, to: ComponentTypeRef) -> Result<(), Stop>
         ensures bound { IfErr result IsUnnamed }
         ensures judged { ValidCounts (counted self.old)

@@ -1,23 +1,13 @@
-//! What is known of a type where it is named.
+//! What is known of a type when it is named.
 
 ghost use Rattle.std.specs.Prelude.{◌≡◌, ◌+◌};
-ghost use Rattle.smith_validate.specs.Kept.{capped};
+ghost use Rattle.smith_syntax.specs.Sizes.{capped};
 ghost use Rattle.smith_validate.specs.Marks.{both, greater_of, instance_facts, is_nothing, is_within, named_facts};
 ghost use Rattle.smith_validate.specs.Marks.{named_needs, no_needs, nominal_facts, outer_of, outer_outside};
 ghost use Rattle.smith_validate.specs.Marks.{plain_facts, unnamed_needs};
 
-/// Sizes are below it. A greater one is kept as it.
-pub(crate) const SIZE_BOUND: u32 = 1_000_000;
-
-/// The sum of two sizes, which are at most `SIZE_BOUND`, as the sum is kept.
-pub(crate) fn size_sum(one: u32, other: u32) -> u32
-    ensures { result ≡ capped (one + other) }
-{
-    one.saturating_add(other).min(SIZE_BOUND)
-}
-
-/// Where types are named, the outermost of some: nowhere that is known, where one of them is declared alone; in the
-/// scope with that many around it; or, where there are none, nothing.
+/// Where types are named, the outermost of some: nowhere that is known, if one of them is only declared; in the scope
+/// with that many around it; or, if there are none, nothing.
 #[derive(Clone, Copy, Debug)]
 pub(crate) enum Outermost {
     Unnamed,
@@ -26,7 +16,7 @@ pub(crate) enum Outermost {
 }
 
 impl Outermost {
-    /// That of these and those.
+    /// The outermost of both.
     fn with(self, other: Outermost) -> Outermost
         ensures { result ≡ outer_of self other }
     {
@@ -62,7 +52,7 @@ impl Outermost {
         }
     }
 
-    /// Without those that are named in scopes with more around them than that many, where all are named there or none.
+    /// Without the ones that are named in scopes with more around them than that many, if all are named there or none.
     pub(crate) fn outside(self, depth: usize) -> Outermost
         ensures { result ≡ outer_outside self depth }
     {
@@ -124,7 +114,7 @@ impl Needs {
         }
     }
 
-    /// These and those.
+    /// Both together.
     pub(crate) fn with(self, other: Needs) -> Needs
         ensures { result ≡ both self other }
     {
@@ -140,12 +130,12 @@ impl Needs {
 pub(crate) struct Facts {
     /// What it refers to. For a type of instances, beside what it names itself.
     pub(crate) refers: Needs,
-    /// What has to be named where a value is of it.
+    /// What has to be named when a value is of it.
     pub(crate) needs: Needs,
     /// Whether it is a record, a variant, flags or an enum.
     pub(crate) nominal: bool,
     pub(crate) size: u32,
-    /// Where it is a type of instances, its number among them.
+    /// If it is a type of instances, its number among them.
     pub(crate) instance: Option<usize>,
 }
 
@@ -163,7 +153,7 @@ impl Facts {
         }
     }
 
-    /// A record, a variant, flags or an enum, where it is declared.
+    /// A record, a variant, flags or an enum, when it is declared.
     pub(crate) fn nominal(refers: Needs, size: u32) -> Facts
         ensures { result ≡ nominal_facts refers size }
     {

@@ -1,11 +1,11 @@
 //! What instances export that refers to types which other instances name.
 
 ghost use Rattle.std.specs.Prelude.{◌≡◌, ◌∷◌, ◌+◌, ◌<◌, [], List, length, option_map, reverse, slice_get, true, IfOk};
-ghost use Rattle.smith_validity.specs.Facts.{Id};
+ghost use Rattle.smith_tree.specs.Facts.{Id};
 ghost use Rattle.smith_validate.specs.Exact.{IsExposed};
 ghost use Rattle.smith_validate.specs.Exposing.{IsGoal, IsMet, IsOnTheWay, IsPending, IsSettled, Meets, is_settled};
 ghost use Rattle.smith_validate.specs.Exposing.{named_after, number_of, refers_own, use_in, uses_of};
-ghost use Rattle.smith_validate.specs.Instances.{Exports, IsTable, outside_of};
+ghost use Rattle.smith_validate.specs.Instances.{Surface, IsTable, outside_of};
 ghost use Rattle.smith_validate.specs.Marks.{Within};
 ghost use Rattle.smith_validate.specs.Opening.{AreHalf, IsFound, IsMidway, IsOpenable, IsStep};
 ghost use Rattle.smith_validate.specs.Tables.{AreDistinct, AreExact};
@@ -30,7 +30,7 @@ impl Use {
         }
     }
 
-    // What has to hold of another use where this one does.
+    // What has to hold of another use if this one does.
     fn within(self, other: Use) -> Use
         ensures { result ≡ use_in self other }
     {
@@ -49,8 +49,8 @@ pub(crate) struct InstanceType {
     pub(crate) refers_to_own: bool,
 }
 
-/// The types of instances whose types are named, since an instance was imported or exported; and those beside them that
-/// refer to no other types of instances than these.
+/// The types of instances whose types are named, since an instance was imported or exported; and the ones beside them
+/// that refer to no other types of instances than these.
 #[derive(Drop)]
 pub(crate) struct Exposed {
     named: BTreeSet<usize>,
@@ -59,8 +59,8 @@ pub(crate) struct Exposed {
 
 impl Exposed {
     pub(crate) fn new(alloc: Global) -> Exposed
-        ensures settled { (table : List Exports) (named : List Id) → IsSettled table result named }
-        ensures exposed { (table : List Exports) → IsExposed table result [] [] }
+        ensures settled { (table : List Surface) (named : List Id) → IsSettled table result named }
+        ensures exposed { (table : List Surface) → IsExposed table result [] [] }
     {
         Exposed {
             named: BTreeSet::new(alloc),
@@ -78,7 +78,7 @@ impl Exposed {
         }
     }
 
-    /// Whether what a use is of refers only to named types, where all is named that its scopes name. What an instance
+    /// Whether what a use is of refers only to named types, if all is named that its scopes name. What an instance
     /// exports is named from then on.
     pub(crate) fn meets(
         &mut self,
@@ -86,10 +86,10 @@ impl Exposed {
         all: &[InstanceType],
         used: Use,
     ) -> Result<bool, AllocError>
-        ensures met { (table : List Exports) (named : List Id) → IsTable all.now table → IsSettled table self.old named
+        ensures met { (table : List Surface) (named : List Id) → IsTable all.now table → IsSettled table self.old named
             → number_of used < length table → Within named (outside_of table (number_of used))
             → IfOk result (λ is. is ≡ true → Meets table used self.new named) }
-        ensures exact { (table : List Exports) (named : List Id) → AreExact all.now table → AreDistinct table
+        ensures exact { (table : List Surface) (named : List Id) → AreExact all.now table → AreDistinct table
             → IsExposed table self.old [] named → IsOpenable table self.old [] used
             → IfOk result (IsFound table used self.new named) }
     {
@@ -115,13 +115,13 @@ impl Exposed {
         rest: &mut Vec<(Use, usize)>,
         used: Use,
     ) -> Result<bool, AllocError>
-        ensures met { (table : List Exports) (named : List Id) (last : Use) (before : List Id) → IsTable all.now table
+        ensures met { (table : List Surface) (named : List Id) (last : Use) (before : List Id) → IsTable all.now table
             → IsSettled table self.now named → number_of used < length table
             → Within named (outside_of table (number_of used))
             → (IsMet table used named → IsPending table all.now (IsGoal table last before) (reverse rest.old.items)
             (named_after table used named)) → IfOk result (λ is. is ≡ true
             → IsOnTheWay table all.now last before self.now (reverse rest.new.items)) }
-        ensures exact { (table : List Exports) (named : List Id) (last : Use) (before : List Id)
+        ensures exact { (table : List Surface) (named : List Id) (last : Use) (before : List Id)
             → AreExact all.now table → IsExposed table self.now (reverse rest.old.items) named
             → IsOpenable table self.now (reverse rest.old.items) used
             → (IsMet table last before → IsMet table used named)
@@ -156,11 +156,11 @@ impl Exposed {
         used: Use,
         done: usize,
     ) -> Result<bool, AllocError>
-        ensures met { (table : List Exports) (last : Use) (before : List Id) → IsTable all.now table
+        ensures met { (table : List Surface) (last : Use) (before : List Id) → IsTable all.now table
             → IsOnTheWay table all.now last before self.old ((used, done) ∷ reverse rest.old.items)
             → IfOk result (λ is. is ≡ true
             → IsOnTheWay table all.now last before self.new (reverse rest.new.items)) }
-        ensures exact { (table : List Exports) (last : Use) (before : List Id) → AreExact all.now table
+        ensures exact { (table : List Surface) (last : Use) (before : List Id) → AreExact all.now table
             → AreDistinct table → IsMidway table all.now last before self.old ((used, done) ∷ reverse rest.old.items)
             → IfOk result (IsStep table all.now last before self.new (reverse rest.new.items)) }
     {

@@ -16,7 +16,6 @@ mod open;
 mod parts;
 mod references;
 mod sections;
-mod track;
 mod types;
 mod values;
 

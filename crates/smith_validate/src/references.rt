@@ -5,21 +5,22 @@ ghost use Rattle.std.specs.Prelude.{IfErr, OnOk};
 ghost use Rattle.std.specs.List.{flat_map};
 ghost use Rattle.std.specs.Option.{option_map, option_to_list};
 ghost use Rattle.smith_syntax.specs.Scope.{with_types};
-ghost use Rattle.smith_validity.specs.Bodies.{Body as PlainBody, IsSmall, after_export, after_import, exported_facts};
-ghost use Rattle.smith_validity.specs.Bodies.{externs_at, module_size_at, reference_size};
-ghost use Rattle.smith_validity.specs.Counts.{ValidCounts, with_type_count};
-ghost use Rattle.smith_validity.specs.Demands.{Keeps};
-ghost use Rattle.smith_validity.specs.Facts.{Extern as PlainExtern, FactScope, Facts as PlainFacts, Id, sizes};
-ghost use Rattle.smith_validity.specs.Validates.{RefersTo, exported, imported, names_of};
+ghost use Rattle.smith_tree.specs.Bodies.{Body as PlainBody, IsSmall, after_export, after_import, exported_facts};
+ghost use Rattle.smith_tree.specs.Bodies.{externs_at, module_size_at, reference_size};
+ghost use Rattle.smith_tree.specs.Counts.{ValidCounts, with_type_count};
+ghost use Rattle.smith_tree.specs.Demands.{Keeps};
+ghost use Rattle.smith_tree.specs.Facts.{Extern as PlainExtern, FactScope, Facts as PlainFacts, Id, sizes};
+ghost use Rattle.smith_tree.specs.Validates.{RefersTo, exported, imported, names_of};
 ghost use Rattle.smith_validate.specs.Bodies.{AreSets, IsBody, IsIn, IsOther, IsRole};
 ghost use Rattle.smith_validate.specs.Counted.{counted};
 ghost use Rattle.smith_validate.specs.Exact.{AreNamedFor, AreSetsExactly, IsBodyExactly, IsPieceExactly};
 ghost use Rattle.smith_validate.specs.Exact.{IsRoleExactly, IsRoleExported, IsKeptBody};
 ghost use Rattle.smith_validate.specs.Externs.{IsAsked, IsAskedFor, IsExtern, extern_of, instance_of};
 ghost use Rattle.smith_validate.specs.Externs.{exported_of, kept_extern, kept_instance, with_exports, with_imports};
-ghost use Rattle.smith_validate.specs.Instances.{AreKept, Exports, IsTable};
+ghost use Rattle.smith_validate.specs.Instances.{AreKept, Surface, IsTable};
 ghost use Rattle.smith_validate.specs.Judges.{IsNamed, IsUnnamed, Judges};
-ghost use Rattle.smith_validate.specs.Kept.{capped, kept_of, own_in};
+ghost use Rattle.smith_syntax.specs.Sizes.{capped};
+ghost use Rattle.smith_validate.specs.Kept.{kept_of, own_in};
 ghost use Rattle.smith_validate.specs.Tables.{AreAdded, AreExact};
 ghost use Rattle.smith_validate.specs.Usual.{IsUsualImport};
 
@@ -70,7 +71,7 @@ fn size_of_reference(known: &Known, to: ComponentTypeRef) -> u32
 
 // What has to be named of what is imported or exported, if anything.
 fn extern_at(known: &Known, to: ComponentTypeRef) -> Option<Extern>
-    ensures found { (own : FactScope) (outer : List FactScope) (names : List (List Id)) (table : List Exports)
+    ensures found { (own : FactScope) (outer : List FactScope) (names : List (List Id)) (table : List Surface)
         → AreKept table names known.now.own.types.items own.types
         → IsExtern table names result (externs_at own outer to) }
     ensures marks { result ≡ extern_of known.now.own.types.items to }
@@ -86,7 +87,7 @@ fn extern_at(known: &Known, to: ComponentTypeRef) -> Option<Extern>
 // A function of the type with that index, or a type that is equal to it.
 fn equal_at(known: &Known, index: u32) -> Option<Extern>
     ensures marks { result ≡ option_map kept_extern (slice_get known.now.own.types.items index) }
-    ensures found { (types : List PlainFacts) (names : List (List Id)) (table : List Exports) (ids : List Id)
+    ensures found { (types : List PlainFacts) (names : List (List Id)) (table : List Surface) (ids : List Id)
         → AreKept table names known.now.own.types.items types → IsExtern table names result
         (map (λ f. record { refers = f.refers; names = ids }) (option_to_list (slice_get types index))) }
 {
@@ -99,7 +100,7 @@ fn equal_at(known: &Known, index: u32) -> Option<Extern>
 // An instance of the type with that index.
 fn instance_at(known: &Known, index: u32) -> Option<Extern>
     ensures marks { result ≡ instance_of known.now.own.types.items index }
-    ensures found { (types : List PlainFacts) (names : List (List Id)) (table : List Exports)
+    ensures found { (types : List PlainFacts) (names : List (List Id)) (table : List Surface)
         → AreKept table names known.now.own.types.items types → IsExtern table names result
         (flat_map (λ f. f.exports) (option_to_list (slice_get types index))) }
 {
@@ -152,14 +153,14 @@ impl Sets {
     // Names what an import of a component or a component type names, if it may be imported.
     fn import(&mut self, alloc: Global, all: &[InstanceType], what: Extern) -> Result<(), Stop>
         ensures other { IfErr result IsOther }
-        ensures named { (table : List Exports) (names : List (List Id)) (b : PlainBody) (xs : List PlainExtern)
+        ensures named { (table : List Surface) (names : List (List Id)) (b : PlainBody) (xs : List PlainExtern)
             → IsTable all.now table → IsExtern table names (Some what) xs → AreSets table self.old b
             → OnOk result (RefersTo (imported b) xs × AreSets table self.new (with_imports b xs)) }
-        ensures exact { (table : List Exports) (place around : Id) (full : List Id) (b : PlainBody)
+        ensures exact { (table : List Surface) (place around : Id) (full : List Id) (b : PlainBody)
             (xs : List PlainExtern) → AreExact all.now table → AreAdded place table
             → IsPieceExactly table place around full what xs → AreSetsExactly table self.old b
             → OnOk result (AreSetsExactly table self.new (with_imports b xs)) }
-        ensures refused { (table : List Exports) (place around : Id) (full : List Id) (b : PlainBody)
+        ensures refused { (table : List Surface) (place around : Id) (full : List Id) (b : PlainBody)
             (xs : List PlainExtern) → AreExact all.now table → AreAdded place table
             → IsPieceExactly table place around full what xs → AreSetsExactly table self.old b
             → AreNamedFor table place full b → IfErr result (λ e. IsNamed e → ¬ (RefersTo (imported b) xs)) }
@@ -181,15 +182,15 @@ impl Sets {
         what: Extern,
     ) -> Result<(), Stop>
         ensures other { IfErr result IsOther }
-        ensures named { (table : List Exports) (names : List (List Id)) (b : PlainBody) (xs : List PlainExtern)
+        ensures named { (table : List Surface) (names : List (List Id)) (b : PlainBody) (xs : List PlainExtern)
             → IsTable all.now table → IsExtern table (names_of b.exports ∷ names) (Some what) xs
             → length names ≡ depth → AreSets table self.old b
             → OnOk result (RefersTo (exported b) xs × AreSets table self.new (with_exports b xs)) }
-        ensures exact { (table : List Exports) (place around : Id) (full : List Id) (b : PlainBody)
+        ensures exact { (table : List Surface) (place around : Id) (full : List Id) (b : PlainBody)
             (xs : List PlainExtern) → AreExact all.now table → AreAdded place table
             → IsPieceExactly table place around full what xs → AreSetsExactly table self.old b
             → OnOk result (AreSetsExactly table self.new (with_exports b xs)) }
-        ensures refused { (table : List Exports) (place around : Id) (full : List Id) (b : PlainBody)
+        ensures refused { (table : List Surface) (place around : Id) (full : List Id) (b : PlainBody)
             (xs : List PlainExtern) → AreExact all.now table → AreAdded place table
             → IsPieceExactly table place around full what xs → AreSetsExactly table self.old b
             → AreNamedFor table place full b → length place ≡ depth + 1
@@ -212,14 +213,14 @@ fn name_import(
 ) -> Result<(), Stop>
     ensures other { IfErr result IsOther }
     ensures named { (asks : Bool) (b : PlainBody) (outer : List FactScope) (names : List (List Id))
-        (table : List Exports) → IsIn known.now b.own outer (names_of b.exports) names table
+        (table : List Surface) → IsIn known.now b.own outer (names_of b.exports) names table
         → IsRole table names asks role.old b → OnOk result (RefersTo (imported b) (externs_at b.own outer to)
         × IsRole table names asks role.new (after_import outer b to)) }
-    ensures exact { (asks : Bool) (b : PlainBody) (outer : List FactScope) (named : List Id) (table : List Exports)
+    ensures exact { (asks : Bool) (b : PlainBody) (outer : List FactScope) (named : List Id) (table : List Surface)
         → IsKeptBody asks known.now role.old b outer named table → IsUsualImport asks to
         → OnOk result (IsRoleExactly table outer named asks role.new (after_import outer b to)) }
     ensures refused { (asks : Bool) (b : PlainBody) (outer : List FactScope) (named : List Id)
-        (table : List Exports) → IsKeptBody asks known.now role.old b outer named table → IsUsualImport asks to
+        (table : List Surface) → IsKeptBody asks known.now role.old b outer named table → IsUsualImport asks to
         → IfErr result (λ e. IsNamed e → ¬ (RefersTo (imported b) (externs_at b.own outer to))) }
 {
     let Some(what) = extern_at(known, to) else {
@@ -240,14 +241,14 @@ fn name_export(
 ) -> Result<(), Stop>
     ensures other { IfErr result IsOther }
     ensures named { (asks : Bool) (b : PlainBody) (outer : List FactScope) (names : List (List Id))
-        (table : List Exports) → IsIn known.now b.own outer (names_of b.exports) names table
+        (table : List Surface) → IsIn known.now b.own outer (names_of b.exports) names table
         → IsRole table names asks role.old b → OnOk result (IsAsked asks (exported b) (externs_at b.own outer to)
         × IsRole table names asks role.new (after_export outer b to)) }
-    ensures exact { (asks : Bool) (b : PlainBody) (outer : List FactScope) (named : List Id) (table : List Exports)
+    ensures exact { (asks : Bool) (b : PlainBody) (outer : List FactScope) (named : List Id) (table : List Surface)
         → IsKeptBody asks known.now role.old b outer named table
         → OnOk result (IsRoleExported table outer named asks role.new b (externs_at b.own outer to)) }
     ensures refused { (asks : Bool) (b : PlainBody) (outer : List FactScope) (named : List Id)
-        (table : List Exports) → IsKeptBody asks known.now role.old b outer named table
+        (table : List Surface) → IsKeptBody asks known.now role.old b outer named table
         → IfErr result (λ e. IsNamed e → ¬ (IsAsked asks (exported b) (externs_at b.own outer to))) }
 {
     let Some(what) = extern_at(known, to) else {
@@ -267,17 +268,17 @@ pub(crate) fn add_import(
     to: ComponentTypeRef,
 ) -> Result<(), Stop>
     ensures judged { (asks : Bool) (b : PlainBody) (outer : List FactScope) (names : List (List Id))
-        (table : List Exports) → IsBody asks known.now body.old b outer names table
+        (table : List Surface) → IsBody asks known.now body.old b outer names table
         → Judges result (λ d. Keeps d.names (RefersTo (imported b) (externs_at b.own outer to))
         × IsSmall d (after_import outer b to)) }
     ensures added { (asks : Bool) (b : PlainBody) (outer : List FactScope) (names : List (List Id))
-        (table : List Exports) → IsBody asks known.now body.old b outer names table
+        (table : List Surface) → IsBody asks known.now body.old b outer names table
         → OnOk result (IsBody asks known.now body.new (after_import outer b to) outer names table) }
-    ensures exact { (asks : Bool) (b : PlainBody) (outer : List FactScope) (named : List Id) (table : List Exports)
+    ensures exact { (asks : Bool) (b : PlainBody) (outer : List FactScope) (named : List Id) (table : List Surface)
         → IsBodyExactly asks known.now body.old b outer named table → IsUsualImport asks to
         → OnOk result (IsBodyExactly asks known.now body.new (after_import outer b to) outer named table) }
     ensures refused { (asks : Bool) (b : PlainBody) (outer : List FactScope) (named : List Id)
-        (table : List Exports) → IsBodyExactly asks known.now body.old b outer named table → IsUsualImport asks to
+        (table : List Surface) → IsBodyExactly asks known.now body.old b outer named table → IsUsualImport asks to
         → IfErr result (λ e. IsNamed e → ¬ (RefersTo (imported b) (externs_at b.own outer to))) }
 {
     name_import(alloc, known, &mut body.role, to)?;
@@ -292,15 +293,15 @@ fn add_exported(known: &mut Known, counts: &mut Counts, to: ComponentTypeRef) ->
         ++ exported_of known.old.own.types.items (length known.old.outer.items) to) }
     ensures instances { known.new.instances.items ≡ known.old.instances.items }
     ensures judged { (own : FactScope) (outer : List FactScope) (here : List Id) (names : List (List Id))
-        (table : List Exports) → IsIn known.old own outer here names table → ValidCounts (counted counts.old)
+        (table : List Surface) → IsIn known.old own outer here names table → ValidCounts (counted counts.old)
         → Judges result (λ d. Keeps d.counts
         (ValidCounts (with_type_count (counted counts.old) (length (exported_facts own outer to))))) }
     ensures added { (own : FactScope) (outer : List FactScope) (here : List Id) (names : List (List Id))
-        (table : List Exports) → IsIn known.old own outer here names table → OnOk result
+        (table : List Surface) → IsIn known.old own outer here names table → OnOk result
         (IsIn known.new (with_types own (exported_facts own outer to)) outer
         (here ++ names_of (externs_at own outer to)) names table) }
     ensures counts { (own : FactScope) (outer : List FactScope) (here : List Id) (names : List (List Id))
-        (table : List Exports) → IsIn known.old own outer here names table → OnOk result
+        (table : List Surface) → IsIn known.old own outer here names table → OnOk result
         (counted counts.new ≡ with_type_count (counted counts.old) (length (exported_facts own outer to))) }
     ensures outer { known.new.outer.items ≡ known.old.outer.items }
 {
@@ -323,17 +324,17 @@ pub(crate) fn add_export(
     to: ComponentTypeRef,
 ) -> Result<(), Stop>
     ensures judged { (asks : Bool) (b : PlainBody) (outer : List FactScope) (names : List (List Id))
-        (table : List Exports) → IsBody asks known.old body.old b outer names table
+        (table : List Surface) → IsBody asks known.old body.old b outer names table
         → Judges result (λ d. IsAskedFor d asks (exported b) (externs_at b.own outer to)
         × IsSmall d (after_export outer b to)) }
     ensures added { (asks : Bool) (b : PlainBody) (outer : List FactScope) (names : List (List Id))
-        (table : List Exports) → IsBody asks known.old body.old b outer names table
+        (table : List Surface) → IsBody asks known.old body.old b outer names table
         → OnOk result (IsBody asks known.new body.new (after_export outer b to) outer names table) }
-    ensures exact { (asks : Bool) (b : PlainBody) (outer : List FactScope) (named : List Id) (table : List Exports)
+    ensures exact { (asks : Bool) (b : PlainBody) (outer : List FactScope) (named : List Id) (table : List Surface)
         → IsBodyExactly asks known.old body.old b outer named table
         → OnOk result (IsBodyExactly asks known.new body.new (after_export outer b to) outer named table) }
     ensures refused { (asks : Bool) (b : PlainBody) (outer : List FactScope) (named : List Id)
-        (table : List Exports) → IsBodyExactly asks known.old body.old b outer named table
+        (table : List Surface) → IsBodyExactly asks known.old body.old b outer named table
         → IfErr result (λ e. IsNamed e → ¬ (IsAsked asks (exported b) (externs_at b.own outer to))) }
     ensures outer { known.new.outer.items ≡ known.old.outer.items }
 {

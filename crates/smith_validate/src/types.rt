@@ -1,21 +1,22 @@
-//! Types of all sorts, those of components and of instances among them.
+//! Types of all sorts, with types of components and of instances.
 
 ghost use Rattle.std.specs.Prelude.{◌≡◌, ◌<◌, ◌∷◌, ◌++◌, [], Bool, false, List, Option, length, map, option_map};
 ghost use Rattle.std.specs.Prelude.{IfErr, IfOk, OnOk};
 ghost use Rattle.std.specs.Option.{option_to_list};
 ghost use Rattle.smith_syntax.specs.Entries.{in_order};
-ghost use Rattle.smith_validity.specs.Bodies.{Body as PlainBody, IsSmall, after_decl, after_decls, empty_body, facts};
-ghost use Rattle.smith_validity.specs.Bodies.{with_core_facts, with_facts};
-ghost use Rattle.smith_validity.specs.Facts.{CoreFacts as PlainCoreFacts, FactScope, Facts as PlainFacts, Id, id_at};
-ghost use Rattle.smith_validity.specs.Validates.{ValidDecl, ValidDecls, ValidEntry, names_of};
-ghost use Rattle.smith_read_types.specs.TypeNodes.{shown_decl_node, shown_type_node};
+ghost use Rattle.smith_tree.specs.Bodies.{Body as PlainBody, IsSmall, after_decl, after_decls, empty_body, facts};
+ghost use Rattle.smith_tree.specs.Bodies.{with_core_facts, with_facts};
+ghost use Rattle.smith_tree.specs.Facts.{CoreFacts as PlainCoreFacts, FactScope, Facts as PlainFacts, Id, id_at};
+ghost use Rattle.smith_tree.specs.Validates.{ValidDecl, ValidDecls, ValidEntry, names_of};
+ghost use Rattle.smith_read.specs.TypeNodes.{shown_decl_node, shown_type_node};
 ghost use Rattle.smith_validate.specs.Bodies.{IsBody, IsBodyNow, IsEmpty, IsFresh, IsIn, IsOther, IsRole};
 ghost use Rattle.smith_validate.specs.Exact.{AreKnown, IsBodyExactly, IsBodyExactlyNow, IsDeclaredExactly};
 ghost use Rattle.smith_validate.specs.Exact.{IsJudgedExactly};
 ghost use Rattle.smith_validate.specs.Nested.{IsDeclared, IsJudged, instance_plain};
-ghost use Rattle.smith_validate.specs.Instances.{AreKept, Exports, IsKept, IsTable};
+ghost use Rattle.smith_validate.specs.Instances.{AreKept, Surface, IsKept, IsTable};
 ghost use Rattle.smith_validate.specs.Judges.{IsNamed, IsUnnamed, Judges};
-ghost use Rattle.smith_validate.specs.Kept.{capped, kept_core, types_in};
+ghost use Rattle.smith_syntax.specs.Sizes.{capped};
+ghost use Rattle.smith_validate.specs.Kept.{kept_core, types_in};
 ghost use Rattle.smith_validate.specs.Outcome.{asking};
 ghost use Rattle.smith_validate.specs.Usual.{AreUsualDecls, IsUsualDecl, IsUsualEntry};
 ghost use Rattle.smith_validate.specs.declared.error.Demand.TheVariants.{Named};
@@ -37,10 +38,10 @@ pub(crate) fn add_type(known: &mut Known, body: &mut Body, ty: Facts) -> Result<
     ensures types { OnOk result (known.new.own.types.items ≡ known.old.own.types.items ++ ty ∷ []) }
     ensures bound { IfErr result IsUnnamed }
     ensures judged { (asks : Bool) (b : PlainBody) (outer : List FactScope) (names : List (List Id))
-        (table : List Exports) (f : PlainFacts) → IsBody asks known.old body.old b outer names table
+        (table : List Surface) (f : PlainFacts) → IsBody asks known.old body.old b outer names table
         → Judges result (λ d. IsSmall d (with_facts b (f ∷ []))) }
     ensures added { (asks : Bool) (b : PlainBody) (outer : List FactScope) (names : List (List Id))
-        (table : List Exports) (f : PlainFacts) → IsBody asks known.old body.old b outer names table
+        (table : List Surface) (f : PlainFacts) → IsBody asks known.old body.old b outer names table
         → ty.size ≡ capped f.size → IsKept table (names_of b.exports ∷ names) ty f
         → OnOk result (IsBody asks known.new body.new (with_facts b (f ∷ [])) outer names table) }
     ensures outer { known.new.outer.items ≡ known.old.outer.items }
@@ -56,10 +57,10 @@ pub(crate) fn add_core_type(known: &mut Known, body: &mut Body, ty: CoreFacts) -
     ensures types { OnOk result (known.new.own.types.items ≡ known.old.own.types.items) }
     ensures bound { IfErr result IsUnnamed }
     ensures judged { (asks : Bool) (b : PlainBody) (outer : List FactScope) (names : List (List Id))
-        (table : List Exports) (f : PlainCoreFacts) → IsBody asks known.old body.old b outer names table
+        (table : List Surface) (f : PlainCoreFacts) → IsBody asks known.old body.old b outer names table
         → Judges result (λ d. IsSmall d (with_core_facts b (f ∷ []))) }
     ensures added { (asks : Bool) (b : PlainBody) (outer : List FactScope) (names : List (List Id))
-        (table : List Exports) (f : PlainCoreFacts) → IsBody asks known.old body.old b outer names table
+        (table : List Surface) (f : PlainCoreFacts) → IsBody asks known.old body.old b outer names table
         → ty ≡ kept_core f
         → OnOk result (IsBody asks known.new body.new (with_core_facts b (f ∷ [])) outer names table) }
     ensures outer { known.new.outer.items ≡ known.old.outer.items }
@@ -75,11 +76,11 @@ fn add_named(known: &mut Known, body: &mut Body, ty: Option<Facts>) -> Result<()
     ensures types { OnOk result (known.new.own.types.items ≡ known.old.own.types.items ++ option_to_list ty) }
     ensures bound { IfErr result IsUnnamed }
     ensures judged { (asks : Bool) (b : PlainBody) (outer : List FactScope) (names : List (List Id))
-        (table : List Exports) (f : Option PlainFacts) → IsBody asks known.old body.old b outer names table
+        (table : List Surface) (f : Option PlainFacts) → IsBody asks known.old body.old b outer names table
         → option_map (λ t. t.size) ty ≡ option_map (λ t. capped t.size) f
         → Judges result (λ d. IsSmall d (with_facts b (option_to_list f))) }
     ensures added { (asks : Bool) (b : PlainBody) (outer : List FactScope) (names : List (List Id))
-        (table : List Exports) (f : Option PlainFacts) → IsBody asks known.old body.old b outer names table
+        (table : List Surface) (f : Option PlainFacts) → IsBody asks known.old body.old b outer names table
         → option_map (λ t. t.size) ty ≡ option_map (λ t. capped t.size) f
         → AreKept table (names_of b.exports ∷ names) (option_to_list ty) (option_to_list f)
         → OnOk result (IsBody asks known.new body.new (with_facts b (option_to_list f)) outer names table) }
@@ -98,10 +99,10 @@ fn add_core_named(known: &mut Known, body: &mut Body, ty: Option<CoreFacts>) -> 
     ensures types { OnOk result (known.new.own.types.items ≡ known.old.own.types.items) }
     ensures bound { IfErr result IsUnnamed }
     ensures judged { (asks : Bool) (b : PlainBody) (outer : List FactScope) (names : List (List Id))
-        (table : List Exports) (f : Option PlainCoreFacts) → IsBody asks known.old body.old b outer names table
+        (table : List Surface) (f : Option PlainCoreFacts) → IsBody asks known.old body.old b outer names table
         → ty ≡ option_map kept_core f → Judges result (λ d. IsSmall d (with_core_facts b (option_to_list f))) }
     ensures added { (asks : Bool) (b : PlainBody) (outer : List FactScope) (names : List (List Id))
-        (table : List Exports) (f : Option PlainCoreFacts) → IsBody asks known.old body.old b outer names table
+        (table : List Surface) (f : Option PlainCoreFacts) → IsBody asks known.old body.old b outer names table
         → ty ≡ option_map kept_core f
         → OnOk result (IsBody asks known.new body.new (with_core_facts b (option_to_list f)) outer names table) }
     ensures outer { known.new.outer.items ≡ known.old.outer.items }
@@ -112,19 +113,19 @@ fn add_core_named(known: &mut Known, body: &mut Body, ty: Option<CoreFacts>) -> 
     }
 }
 
-// A type of instances that was declared, where nothing asks for names.
+// A type of instances that was declared, if nothing asks for names.
 fn instance_type(known: &mut Known, body: Body) -> Result<Facts, Stop>
     ensures bound { IfErr result IsUnnamed }
     ensures size { IfOk result (λ f. f.size ≡ body.size) }
     ensures other { IfErr result IsOther }
     ensures own { known.new.own ≡ known.old.own }
     ensures outer { known.new.outer.items ≡ known.old.outer.items }
-    ensures kept { (id : Id) (b : PlainBody) (here : List Id) (names : List (List Id)) (table : List Exports)
+    ensures kept { (id : Id) (b : PlainBody) (here : List Id) (names : List (List Id)) (table : List Surface)
         → IsTable known.old.instances.items table → length names ≡ length known.old.outer.items
         → IsRole table (here ∷ names) false body.role b → IfOk result (λ f.
         IsDeclared table (here ∷ names) known.new f (instance_plain id b)) }
     ensures exact { (b : PlainBody) (own : FactScope) (outer : List FactScope) (named : List Id)
-        (table : List Exports) → IsJudgedExactly false known.old body b (own ∷ outer) named table
+        (table : List Surface) → IsJudgedExactly false known.old body b (own ∷ outer) named table
         → length outer ≡ length known.old.outer.items → IfOk result (λ f.
         IsDeclaredExactly own outer named table known.new f (instance_plain (id_at (own ∷ outer)) b)) }
 {
@@ -141,24 +142,24 @@ fn instance_type(known: &mut Known, body: Body) -> Result<Facts, Stop>
     Ok(Facts::instance(refers, size, number))
 }
 
-/// A type, where it is declared.
+/// A type, when it is declared.
 #[cycle(types)]
-#[tactic(auto, using(smith_read_types::proofs::ShownNodes::shown_nodes))]
+#[tactic(auto, using(smith_read::proofs::ShownNodes::shown_nodes))]
 pub(crate) fn type_facts(alloc: Global, known: &mut Known, ty: &TypeNode) -> Result<Facts, Stop>
     ensures judged { (own : FactScope) (outer : List FactScope) (here : List Id)
-        (names : List (List Id)) (table : List Exports) → IsIn known.old own outer here names table
+        (names : List (List Id)) (table : List Surface) → IsIn known.old own outer here names table
         → Judges result (λ d. ValidEntry d (shown_type_node ty.now) own outer) }
     ensures size { (own : FactScope) (outer : List FactScope) (here : List Id)
-        (names : List (List Id)) (table : List Exports) → IsIn known.old own outer here names table
+        (names : List (List Id)) (table : List Surface) → IsIn known.old own outer here names table
         → IfOk result (λ f. f.size ≡ capped (facts (shown_type_node ty.now) own outer).size) }
     ensures kept { (own : FactScope) (outer : List FactScope) (here : List Id)
-        (names : List (List Id)) (table : List Exports) → IsIn known.old own outer here names table
+        (names : List (List Id)) (table : List Surface) → IsIn known.old own outer here names table
         → IfOk result (λ f. IsDeclared table (here ∷ names) known.new f (facts (shown_type_node ty.now) own outer)) }
-    ensures exact { (own : FactScope) (outer : List FactScope) (named : List Id) (table : List Exports)
+    ensures exact { (own : FactScope) (outer : List FactScope) (named : List Id) (table : List Surface)
         → AreKnown (types_in known.old) known.old.instances.items (own ∷ outer) named table
         → length outer ≡ length known.old.outer.items → IsUsualEntry (shown_type_node ty.now) own outer → IfOk result
         (λ f. IsDeclaredExactly own outer named table known.new f (facts (shown_type_node ty.now) own outer)) }
-    ensures refused { (own : FactScope) (outer : List FactScope) (named : List Id) (table : List Exports)
+    ensures refused { (own : FactScope) (outer : List FactScope) (named : List Id) (table : List Surface)
         → AreKnown (types_in known.old) known.old.instances.items (own ∷ outer) named table
         → length outer ≡ length known.old.outer.items → IsUsualEntry (shown_type_node ty.now) own outer
         → IfErr result (λ e. IsNamed e → ¬ (ValidEntry (asking Named) (shown_type_node ty.now) own outer)) }
@@ -183,21 +184,21 @@ pub(crate) fn type_facts(alloc: Global, known: &mut Known, ty: &TypeNode) -> Res
 
 // A declaration of a component type or an instance type.
 #[cycle(types)]
-#[tactic(auto, using(smith_read_types::proofs::ShownNodes::shown_nodes))]
+#[tactic(auto, using(smith_read::proofs::ShownNodes::shown_nodes))]
 fn add_decl(alloc: Global, known: &mut Known, body: &mut Body, decl: &DeclNode) -> Result<(), Stop>
     ensures judged { (asks : Bool) (b : PlainBody) (outer : List FactScope) (names : List (List Id))
-        (table : List Exports) → IsBody asks known.old body.old b outer names table
+        (table : List Surface) → IsBody asks known.old body.old b outer names table
         → Judges result (λ d. ValidDecl d asks (shown_decl_node decl.now) outer b
         × IsSmall d (after_decl (shown_decl_node decl.now) outer b)) }
     ensures added { (asks : Bool) (b : PlainBody) (outer : List FactScope) (names : List (List Id))
-        (table : List Exports) → IsBody asks known.old body.old b outer names table → OnOk result
+        (table : List Surface) → IsBody asks known.old body.old b outer names table → OnOk result
         (IsBodyNow asks known.new body.new (after_decl (shown_decl_node decl.now) outer b) outer names table) }
-    ensures exact { (asks : Bool) (b : PlainBody) (outer : List FactScope) (named : List Id) (table : List Exports)
+    ensures exact { (asks : Bool) (b : PlainBody) (outer : List FactScope) (named : List Id) (table : List Surface)
         → IsBodyExactly asks known.old body.old b outer named table
         → IsUsualDecl asks (shown_decl_node decl.now) outer b → OnOk result (IsBodyExactlyNow asks known.new body.new
         (after_decl (shown_decl_node decl.now) outer b) outer named (id_at (b.own ∷ outer)) table) }
     ensures refused { (asks : Bool) (b : PlainBody) (outer : List FactScope) (named : List Id)
-        (table : List Exports) → IsBodyExactly asks known.old body.old b outer named table
+        (table : List Surface) → IsBodyExactly asks known.old body.old b outer named table
         → IsUsualDecl asks (shown_decl_node decl.now) outer b
         → IfErr result (λ e. IsNamed e → ¬ (ValidDecl (asking Named) asks (shown_decl_node decl.now) outer b)) }
     ensures outer { OnOk result (known.new.outer.items ≡ known.old.outer.items) }
@@ -226,7 +227,7 @@ fn add_decl(alloc: Global, known: &mut Known, body: &mut Body, decl: &DeclNode) 
 
 // The declarations of a component type or an instance type, in a scope of their own.
 #[cycle(types)]
-#[tactic(auto, using(smith_read_types::proofs::ShownNodes::shown_nodes))]
+#[tactic(auto, using(smith_read::proofs::ShownNodes::shown_nodes))]
 fn add_decls(
     alloc: Global,
     known: &mut Known,
@@ -234,22 +235,22 @@ fn add_decls(
     decls: &[DeclNode],
 ) -> Result<(), Stop>
     ensures judged { (asks : Bool) (own : FactScope) (outer : List FactScope) (here : List Id)
-        (names : List (List Id)) (table : List Exports) → IsIn known.old own outer here names table
+        (names : List (List Id)) (table : List Surface) → IsIn known.old own outer here names table
         → IsEmpty body.old → IsFresh asks body.old.role → Judges result
         (λ d. ValidDecls d asks (in_order (map shown_decl_node decls.now)) (own ∷ outer) empty_body) }
     ensures added { (asks : Bool) (own : FactScope) (outer : List FactScope) (here : List Id)
-        (names : List (List Id)) (table : List Exports) → IsIn known.old own outer here names table
+        (names : List (List Id)) (table : List Surface) → IsIn known.old own outer here names table
         → IsEmpty body.old → IsFresh asks body.old.role → OnOk result
         (IsJudged asks known.new body.new (after_decls (in_order (map shown_decl_node decls.now)) (own ∷ outer)
         empty_body) (here ∷ names) table) }
     ensures exact { (asks : Bool) (own : FactScope) (outer : List FactScope) (named : List Id)
-        (table : List Exports) → AreKnown (types_in known.old) known.old.instances.items (own ∷ outer) named table
+        (table : List Surface) → AreKnown (types_in known.old) known.old.instances.items (own ∷ outer) named table
         → length outer ≡ length known.old.outer.items → IsFresh asks body.old.role
         → AreUsualDecls asks (in_order (map shown_decl_node decls.now)) (own ∷ outer) empty_body
         → OnOk result (IsJudgedExactly asks known.new body.new
         (after_decls (in_order (map shown_decl_node decls.now)) (own ∷ outer) empty_body) (own ∷ outer) named table) }
     ensures refused { (asks : Bool) (own : FactScope) (outer : List FactScope) (named : List Id)
-        (table : List Exports) → AreKnown (types_in known.old) known.old.instances.items (own ∷ outer) named table
+        (table : List Surface) → AreKnown (types_in known.old) known.old.instances.items (own ∷ outer) named table
         → length outer ≡ length known.old.outer.items → IsFresh asks body.old.role
         → AreUsualDecls asks (in_order (map shown_decl_node decls.now)) (own ∷ outer) empty_body
         → IfErr result (λ e. IsNamed e

@@ -6,58 +6,26 @@ ghost use Rattle.std.specs.List.{flat_map};
 ghost use Rattle.std.specs.Option.{option_to_list};
 ghost use Rattle.smith_syntax.specs.Shown.{shown_defined};
 ghost use Rattle.smith_syntax.specs.declared.types.ComponentValType.{ComponentValType};
-ghost use Rattle.smith_validity.specs.Facts.{FactScope, Facts as PlainFacts, Id, is_nominal, members, sizes};
-ghost use Rattle.smith_validity.specs.Facts.{value_needs};
-ghost use Rattle.smith_validity.specs.Demands.{Keeps};
-ghost use Rattle.smith_validity.specs.Sizes.{SmallDefined, defined_size, maybe_size, signature_members};
-ghost use Rattle.smith_validity.specs.Sizes.{signature_size, size_bound};
-ghost use Rattle.smith_validity.specs.Sizes.{summed, value_size};
-ghost use Rattle.smith_validate.specs.Instances.{AreKept, Exports, IsKept};
+ghost use Rattle.smith_tree.specs.Facts.{FactScope, Facts as PlainFacts, Id, is_nominal, members, sizes};
+ghost use Rattle.smith_tree.specs.Facts.{value_needs};
+ghost use Rattle.smith_tree.specs.Demands.{Keeps};
+ghost use Rattle.smith_tree.specs.Sizes.{SmallDefined, defined_size, maybe_size, signature_members};
+ghost use Rattle.smith_tree.specs.Sizes.{signature_size, size_bound};
+ghost use Rattle.smith_tree.specs.Sizes.{summed, value_size};
+ghost use Rattle.smith_validate.specs.Instances.{AreKept, Surface, IsKept};
 ghost use Rattle.smith_validate.specs.Judges.{IsUnnamed, Judges};
-ghost use Rattle.smith_validate.specs.Kept.{capped, kept_in, kept_of};
+ghost use Rattle.smith_syntax.specs.Sizes.{capped};
+ghost use Rattle.smith_validate.specs.Kept.{kept_in, kept_of};
 ghost use Rattle.smith_validate.specs.Marks.{Covers, both, no_needs, nominal_facts, plain_facts};
 ghost use Rattle.smith_validate.specs.Values.{CoversValues, HasMarks, defined_plain, function_plain, marks_from};
 ghost use Rattle.smith_validate.specs.Values.{value_marks};
 
 use crate::error::{Demand, Stop};
-use crate::facts::{Facts, Needs, SIZE_BOUND, size_sum};
+use crate::facts::{Facts, Needs};
 use crate::known::Scope;
-use smith_syntax::{ComponentValType, DefinedType, FuncType};
+use smith_syntax::{ComponentValType, DefinedType, FuncType, SIZE_BOUND, Valued, size_sum};
 
-/// A member, which has a value type or none.
-pub(crate) trait Valued {
-    ghost value: { Self → Option ComponentValType };
-
-    /// Its value type.
-    fn value(&self) -> Option<ComponentValType>
-        ensures { result ≡ value self.now };
-}
-
-impl Valued for ComponentValType {
-    ghost value = { λ v. Some v };
-
-    fn value(&self) -> Option<ComponentValType> {
-        Some(*self)
-    }
-}
-
-impl Valued for (String, ComponentValType) {
-    ghost value = { λ p. Some p.1 };
-
-    fn value(&self) -> Option<ComponentValType> {
-        Some(self.1)
-    }
-}
-
-impl Valued for (String, Option<ComponentValType>) {
-    ghost value = { λ p. p.1 };
-
-    fn value(&self) -> Option<ComponentValType> {
-        self.1
-    }
-}
-
-/// Value types: what has to be named where they are used, and the sum of their effective sizes.
+/// Value types: what has to be named when they are used, and the sum of their effective sizes.
 #[derive(Clone, Copy, Debug)]
 struct Values {
     needs: Needs,
@@ -79,7 +47,7 @@ impl Values {
     fn add(self, scope: &Scope, ty: ComponentValType) -> Values
         ensures size { (own : FactScope) → kept_in scope.now ≡ kept_of own
             → result.size ≡ capped (self.size + value_size (sizes own.types) ty) }
-        ensures needs { (types : List PlainFacts) (names : List (List Id)) (table : List Exports)
+        ensures needs { (types : List PlainFacts) (names : List (List Id)) (table : List Surface)
             (before : List ComponentValType) → AreKept table names scope.now.types.items types
             → CoversValues types names self.needs before
             → CoversValues types names result.needs (before ++ ty ∷ []) }
@@ -97,7 +65,7 @@ impl Values {
         ensures size { (own : FactScope) → kept_in scope.now ≡ kept_of own
             → capped self.size ≡ self.size
             → result.size ≡ capped (self.size + sum (map (value_size (sizes own.types)) (option_to_list ty))) }
-        ensures needs { (types : List PlainFacts) (names : List (List Id)) (table : List Exports)
+        ensures needs { (types : List PlainFacts) (names : List (List Id)) (table : List Surface)
             (before : List ComponentValType) → AreKept table names scope.now.types.items types
             → CoversValues types names self.needs before
             → CoversValues types names result.needs (before ++ option_to_list ty) }
@@ -113,7 +81,7 @@ impl Values {
     fn add_maybe(self, scope: &Scope, ty: Option<ComponentValType>) -> Values
         ensures size { (own : FactScope) → kept_in scope.now ≡ kept_of own
             → result.size ≡ capped (self.size + maybe_size (sizes own.types) ty) }
-        ensures needs { (types : List PlainFacts) (names : List (List Id)) (table : List Exports)
+        ensures needs { (types : List PlainFacts) (names : List (List Id)) (table : List Surface)
             (before : List ComponentValType) → AreKept table names scope.now.types.items types
             → CoversValues types names self.needs before
             → CoversValues types names result.needs (before ++ option_to_list ty) }
@@ -129,11 +97,11 @@ impl Values {
     }
 }
 
-// What has to be named where a value is of that type, and its size.
+// What has to be named when a value is of that type, and its size.
 fn value_of(scope: &Scope, ty: ComponentValType) -> (Needs, u32)
     ensures size { (own : FactScope) → kept_in scope.now ≡ kept_of own
         → result.1 ≡ capped (value_size (sizes own.types) ty) }
-    ensures needs { (types : List PlainFacts) (names : List (List Id)) (table : List Exports)
+    ensures needs { (types : List PlainFacts) (names : List (List Id)) (table : List Surface)
         → AreKept table names scope.now.types.items types → Covers names result.0 (value_needs types ty) }
     ensures marks { result.0 ≡ value_marks scope.now.types.items ty }
 {
@@ -150,7 +118,7 @@ fn value_of(scope: &Scope, ty: ComponentValType) -> (Needs, u32)
 fn values_of<T: Valued>(scope: &Scope, items: &[T]) -> Values
     ensures size { (own : FactScope) → kept_in scope.now ≡ kept_of own
         → result.size ≡ capped (summed (sizes own.types) (flat_map (λ i. option_to_list (T.value i)) items.now)) }
-    ensures needs { (types : List PlainFacts) (names : List (List Id)) (table : List Exports)
+    ensures needs { (types : List PlainFacts) (names : List (List Id)) (table : List Surface)
         → AreKept table names scope.now.types.items types
         → CoversValues types names result.needs (flat_map (λ i. option_to_list (T.value i)) items.now) }
     ensures marks { result.needs
@@ -176,7 +144,7 @@ fn check_size(values: Values) -> Result<Values, Stop>
     }
 }
 
-// The value types of members, and of what follows them, where their sum is below the bound.
+// The value types of members, and of what follows them, if their sum is below the bound.
 fn small_values<T: Valued>(
     scope: &Scope,
     items: &[T],
@@ -188,7 +156,7 @@ fn small_values<T: Valued>(
         (flat_map (λ i. option_to_list (T.value i)) items.now ++ option_to_list last) < size_bound)) }
     ensures size { (own : FactScope) → kept_in scope.now ≡ kept_of own → IfOk result (λ v. v.size ≡ capped
         (summed (sizes own.types) (flat_map (λ i. option_to_list (T.value i)) items.now ++ option_to_list last))) }
-    ensures needs { (types : List PlainFacts) (names : List (List Id)) (table : List Exports)
+    ensures needs { (types : List PlainFacts) (names : List (List Id)) (table : List Surface)
         → AreKept table names scope.now.types.items types → IfOk result (λ v. CoversValues types names v.needs
         (flat_map (λ i. option_to_list (T.value i)) items.now ++ option_to_list last)) }
     ensures marks { IfOk result (λ v. v.needs ≡ marks_from scope.now.types.items no_needs
@@ -217,7 +185,7 @@ pub(crate) fn defined_facts(scope: &Scope, ty: &DefinedType) -> Result<Facts, St
         → Judges result (λ d. Keeps d.sizes (SmallDefined (sizes own.types) (shown_defined ty.now))) }
     ensures size { (own : FactScope) → kept_in scope.now ≡ kept_of own
         → IfOk result (λ f. f.size ≡ capped (defined_size (sizes own.types) (shown_defined ty.now))) }
-    ensures kept { (id : Id) (types : List PlainFacts) (names : List (List Id)) (table : List Exports)
+    ensures kept { (id : Id) (types : List PlainFacts) (names : List (List Id)) (table : List Surface)
         → AreKept table names scope.now.types.items types
         → IfOk result (λ f. IsKept table names f (defined_plain id types (shown_defined ty.now))) }
     ensures marks { IfOk result (λ f. HasMarks f (is_nominal (shown_defined ty.now))
@@ -254,7 +222,7 @@ pub(crate) fn function_facts(scope: &Scope, ty: &FuncType) -> Result<Facts, Stop
         → Judges result (λ d. Keeps d.sizes (signature_size (sizes own.types) ty.now < size_bound)) }
     ensures size { (own : FactScope) → kept_in scope.now ≡ kept_of own
         → IfOk result (λ f. f.size ≡ capped (signature_size (sizes own.types) ty.now)) }
-    ensures kept { (id : Id) (types : List PlainFacts) (names : List (List Id)) (table : List Exports)
+    ensures kept { (id : Id) (types : List PlainFacts) (names : List (List Id)) (table : List Surface)
         → AreKept table names scope.now.types.items types
         → IfOk result (λ f. IsKept table names f (function_plain id types ty.now)) }
     ensures marks { IfOk result (λ f. HasMarks f false

@@ -208,8 +208,8 @@ fn imports_of_a_component_within_its_totals(rt: HostRuntime) -> Result<(), Fail>
     Ok(())
 }
 
-// An export of a component may be of a type where the types are fewer than `max_types`, and the totals bind nothing.
-// The second item is then type equal, otherwise function; each has the entry 1 of its kind or of the types.
+// An export of a component may be of a type if the types are fewer than `max_types`, and the totals bind nothing. The
+// second item is then type equal, otherwise function; each has the entry 1 of its kind or of the types.
 #[test]
 fn exports_of_a_component(rt: HostRuntime) -> Result<(), Fail> {
     let rows = [

@@ -131,7 +131,7 @@ fn limits_that_do_not_fit_together_are_refused(rt: HostRuntime) -> Result<(), Fa
     Ok(())
 }
 
-// Core module (6) is the component section where no module may be; 8 is finish where no export may be.
+// Core module (6) is the component section if no module may be; 8 is finish if no export may be.
 #[test]
 fn the_filter_runs_within_the_default_limits(rt: HostRuntime) -> Result<(), Fail> {
     let rows = [

@@ -1,5 +1,5 @@
-//! What writers write, and its length. The bytes are those of the core specification's and DWARF's examples, or worked
-//! out by hand from the binary formats.
+//! What writers write, and its length. The bytes are from the core specification's and DWARF's examples, or worked out
+//! by hand from the binary formats.
 
 use crate::common::{check_bytes, check_holds};
 use smith_format::{

@@ -30,8 +30,8 @@ enum Large {
     // them, no more. The first is written in 2 bytes, each other in 41 01, 02 03 02 01 and the index, which takes one
     // byte up to 127, two up to 16,383, and then three. The section is full and asks for no more.
     TypesThatName,
-    // The same types, each in a section of its own: 03 before it, 00 after it where the types are not full. Each
-    // section is of 3 bytes and the type.
+    // The same types, each in a section of its own: 03 before it, 00 after it if the types are not full. Each section
+    // is of 3 bytes and the type.
     SectionsThatName,
 }
 
@@ -108,7 +108,7 @@ fn naming(mut input: Vec<u8>, front: &[u8], back: &[u8]) -> Result<Vec<u8>, Allo
     Ok(input)
 }
 
-// A large input, how many sections its component has, and how many bytes, where that is known, and the last of them.
+// A large input, how many sections its component has, and how many bytes, if that is known, and the last of them.
 #[derive(Clone, Copy)]
 struct Row<'a> {
     name: &'a str,

@@ -27,7 +27,7 @@ fn nested_types<R: Abort + AllocGlobal>(rt: &R, tag: u8, levels: u32) -> Result<
 }
 
 // Components in one another, types with that tag in one another in the innermost of them, and how far before the end
-// they are too deep. The innermost component is of the eight bytes of its preamble where there are no types, and the
+// they are too deep. The innermost component is of the eight bytes of its preamble if there are no types, and the
 // innermost type is of two. The component itself is the first scope.
 const ROWS: &[(&str, u32, u8, u32, Option<usize>)] = &[
     ("components", MOST_DEPTH, 0, 0, None),

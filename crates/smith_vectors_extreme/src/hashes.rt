@@ -6,7 +6,7 @@ use std::test::Fail;
 
 // Parameters come in pairs: a name and the rank of its type, and then the name of a parameter of type bool that is the
 // state of `FoldHasher` before it, so that it becomes zero. So function types that begin with the first pair have the
-// same hash, regardless of the order of the pairs after it.
+// same hash, whatever the order of the pairs after it.
 const FIRST: (&[u8; 8], u8, &[u8; 8]) = (b"amsxaaaa", 3, b"adir8z3q");
 
 const PAIRS: [(&[u8; 8], u8, &[u8; 8]); 8] = [
@@ -73,8 +73,8 @@ fn push_function(input: &mut Vec<u8>, number: usize) -> Result<(), AllocError> {
     Ok(())
 }
 
-// 20,000 function types of 16 parameters, 3.6 MB of input. With the hasher that a map has where none is named this took
-// time by the square of their number: 86 seconds for 100,000 shorter ones, 118 times as long as others.
+// 20,000 function types of 16 parameters, 3.6 MB of input. With the default hasher of a map this took time by the
+// square of their number: 86 seconds for 100,000 shorter ones, 118 times as long as others.
 #[test]
 fn function_types_of_one_hash_are_told_apart_in_time(rt: HostRuntime) -> Result<(), Fail> {
     let config = Config {

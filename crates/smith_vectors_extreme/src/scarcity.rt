@@ -74,7 +74,7 @@ impl Scarcity {
         }
     }
 
-    /// Takes back what is free, and lends 16 bytes more than before, including those with which the allocator keeps
+    /// Takes back what is free, and lends 16 bytes more than before, including the bytes with which the allocator keeps
     /// account of a block.
     pub fn lend(&mut self) {
         self.take_small();

@@ -12,7 +12,7 @@ use Rattle.smith_syntax.specs.Scope.{Scope}
 use Rattle.smith_tree.specs.Grammar.{Spells, canon, component_text, export_entry, parts, preamble}
 use Rattle.smith_tree.specs.Tree.{Part, Tree, add, ends, tree_of, parts_of, custom, core_module, core_types, component, types, canons, imports, exports}
 use Rattle.smith_tree.specs.WellFormed.{Formed, FormedPart, WellFormed, scope_of}
-use Rattle.smith_read_types.specs.Reading.{◌>>=◌}
+use Rattle.smith_read.specs.Reading.{◌>>=◌}
 use Rattle.smith_tree.specs.Depths.{scope_depth}
 use Rattle.smith_read.specs.Reads.{most_depth}
 use Rattle.smith_verdict.specs.Verdicts.{IsVerdict}
@@ -106,7 +106,7 @@ section_then t k p r of x there a e = (
       ∙ ap (λ q. Some (preamble ++ a.front) ⊕ q) (ap (λ o. o >>= of) there ∙ e) ∙ joined (preamble ++ a.front) x,
 )
 
--- What there is up to a place, where that section is there.
+-- What there is up to a place, if that section is there.
 abbrev pub upto_where : List ℕ → ℕ → ℕ → Tree → Option Part → Tree
 upto_where path k n t o = tree_of (take k (parts_of t) ++ flat_map (upto_in path n) (option_to_list o))
 

@@ -7,11 +7,11 @@ use Rattle.smith_tree.specs.Grammar.{Spells, canon, component_text, export_entry
 use Rattle.smith_tree.specs.Spaces.{Spaces, after_part as spaces_after, no_spaces}
 use Rattle.smith_tree.specs.Tree.{Part, Tree, ends, tree_of, parts_of, custom, core_module, core_types, component, types, canons, imports, exports}
 use Rattle.smith_tree.specs.WellFormed.{WellFormed}
-use Rattle.smith_validity.specs.Bodies.{Body, empty_body}
-use Rattle.smith_validity.specs.Demands.{Demands, everything}
-use Rattle.smith_validity.specs.Facts.{FactScope}
-use Rattle.smith_validity.specs.Validates.{ValidPart, ValidParts, after_part}
-use Rattle.smith_validity.proofs.Weaker.{kept, weaker_parts}
+use Rattle.smith_tree.specs.Bodies.{Body, empty_body}
+use Rattle.smith_tree.specs.Demands.{Demands, everything}
+use Rattle.smith_tree.specs.Facts.{FactScope}
+use Rattle.smith_tree.specs.Validates.{ValidPart, ValidParts, after_part}
+use Rattle.smith_tree.proofs.Weaker.{kept, weaker_parts}
 use Rattle.smith_check.specs.Upto.{some_entries, upto}
 use Rattle.smith_check.proofs.Judging.{Same}
 use Rattle.smith_places.specs.Finding.{contents_before, contents_in}
@@ -47,7 +47,8 @@ valid_more d (x ∷ xs) q s outer b =
     let m = valid_more d xs q (spaces_after s x) outer (after_part x s outer b) in
     record { to = λ f. let g = m.to f.1 in ((f.0, g.0), g.1); from = λ f. (f.0.0, m.from (f.0.1, f.1)) }
 
--- A component, in these scopes, meets all demands as far as that, and with one more does not meet those that are asked.
+-- A component, in these scopes, meets all demands as far as that, and with one more does not meet the ones that are
+-- asked.
 pub record Breaks (a : Demands) (outer : List FactScope) (as_far : ℕ → Tree) (n : ℕ) : Type 0 where
   pub met : ValidParts everything (as_far n) no_spaces outer empty_body
   pub unmet : ¬ (ValidParts a (as_far (n + 1)) no_spaces outer empty_body)
@@ -168,7 +169,7 @@ judged Count t f = tt
 judged Memories t f = tt
 judged Tables t f = tt
 
--- So one is found where a well formed component does not meet a demand.
+-- So one is found if a well formed component does not meet a demand.
 pub found_short : (bytes : List ℕ) (t : Tree) (demand : Demand) (offset : Option ℕ) (path : List ℕ) (entry : ℕ) → Spells t bytes → WellFormed t
     → FallsShort demand path entry t → offset ≡ offset_in path entry t → IsValidity bytes (validity.Invalid demand offset)
 found_short bytes t demand offset path entry spells formed short is =

@@ -1,9 +1,9 @@
--- What bytes are to a validator, of those that may spell a component.
+-- What bytes that may spell a component are to a validator.
 use Rattle.std.specs.Prelude.{◌≡◌, ◌+◌, ℕ, List, None, Some}
 use Rattle.smith_tree.specs.Grammar.{Spells}
 use Rattle.smith_tree.specs.Tree.{Tree}
 use Rattle.smith_tree.specs.WellFormed.{WellFormed}
-use Rattle.smith_validity.specs.Validates.{Validates}
+use Rattle.smith_tree.specs.Validates.{Validates}
 use Rattle.smith_check.specs.Upto.{upto}
 use Rattle.smith_validate.specs.Outcome.{IsUnmet}
 use Rattle.smith_validate.specs.declared.error.Demand.{Demand}

@@ -1,4 +1,4 @@
--- What bytes are, of those that may spell a component.
+-- What bytes that may spell a component are.
 use Rattle.std.specs.Prelude.{◌≡◌, ℕ, List, Some, None}
 use Rattle.smith_tree.specs.Tree.{Tree}
 use Rattle.smith_tree.specs.WellFormed.{WellFormed}

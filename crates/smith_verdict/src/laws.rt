@@ -12,14 +12,13 @@ ghost use Rattle.smith_verdict.specs.Verdicts.{IsVerdict};
 use crate::validity::Validity;
 use crate::verdict::Verdict;
 
-/// The bytes of a component that can be generated, such as those that `generate` returns, are found well formed.
+/// The bytes of a component that can be generated, such as `generate` returns, are found well formed.
 pub fn generated_components_are_well_formed()
     ensures { (config : Config) (tree : Tree) (bytes : List ℕ) (found : Verdict) → IsConsistent config
         → CanBeGenerated config tree → Spells tree bytes → IsVerdict bytes found → found ≡ Verdict.WellFormed }
 {}
 
-/// Where components must validate, the bytes of one that can be generated, such as those that `generate` returns, are
-/// found valid.
+/// If components must validate, the bytes of one that can be generated, such as `generate` returns, are found valid.
 pub fn generated_components_are_valid()
     ensures { (config : Config) (tree : Tree) (bytes : List ℕ) (found : Validity) → config.must_validate ≡ true
         → IsConsistent config → CanBeGenerated config tree → Spells tree bytes → IsValidity bytes found

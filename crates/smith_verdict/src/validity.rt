@@ -76,7 +76,7 @@ fn validity_of(
     }
 }
 
-/// What these bytes are to a validator. `Err` is returned only where an allocation failed, and says nothing about them.
+/// What these bytes are to a validator. `Err` is returned only if an allocation failed, and says nothing about them.
 pub fn validate(alloc: Global, bytes: &[u8]) -> Result<Validity, AllocError>
     ensures { IfOk result (IsValidity bytes.now) }
 {

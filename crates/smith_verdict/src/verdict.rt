@@ -68,7 +68,7 @@ pub(crate) fn check_component(
     }
 }
 
-/// What these bytes are. `Err` is returned only where an allocation failed, and says nothing about them.
+/// What these bytes are. `Err` is returned only if an allocation failed, and says nothing about them.
 pub fn check(alloc: Global, bytes: &[u8]) -> Result<Verdict, AllocError>
     ensures { IfOk result (IsVerdict bytes.now) }
 {

@@ -174,7 +174,7 @@ impl fmt::Display for Unreduced {
 
 impl core::error::Error for Unreduced {}
 
-/// Returns the limits as overridden by those that the first bytes of the input encode, so that one run tries many
+/// Returns the limits as overridden by the ones that the first bytes of the input encode, so that one run tries many
 /// limits (swarm testing). Twenty limits take one byte each, in the order and the ranges of `lupinanon.h`, and a byte
 /// after the end counts as 0. The minima and `must_validate` stay as they are.
 ///
@@ -190,7 +190,7 @@ pub fn swarm_limits<'a>(limits: &Limits, input: &'a [u8]) -> SwarmLimits<'a> {
 ///
 /// # Panics
 ///
-/// Where the static library is older than this crate and does not have a limit that is set.
+/// If the static library is older than this crate and does not have a limit that is set.
 pub fn generate(limits: &Limits, input: &[u8]) -> Result<Generated, Refusal> {
     let mut output = Vec::new();
     let mut room = 4096;
@@ -260,7 +260,7 @@ fn written(
 }
 
 /// Returns the `k`-th, from 0, of the components that are smaller by a step and can be generated within the limits; or,
-/// without limits, that are well formed. There is none where there are no more than `k`.
+/// without limits, that are well formed. There is none if there are no more than `k`.
 ///
 /// The steps are, in this order: the component without each item, as `without` has it, and with each item made simpler.
 ///
@@ -275,16 +275,16 @@ pub fn smaller(limits: Option<&Limits>, bytes: &[u8], k: usize) -> Result<Option
 #[derive(Clone, Debug, PartialEq, Eq)]
 #[non_exhaustive]
 pub struct Step {
-    /// Its number, from 0 over all steps, including those that lead to no wanted component.
+    /// Its number, from 0 over all steps, including the ones that lead to no wanted component.
     pub number: usize,
     /// The component in the binary format.
     pub bytes: Vec<u8>,
 }
 
 /// Returns the first step from that number on that leads to a component that can be generated within the limits; or,
-/// without limits, to one that is well formed. There is none where no step from there on does.
+/// without limits, to one that is well formed. There is none if no step from there on does.
 ///
-/// The steps are those of `smaller`. A loop that goes on from the step that is returned tries each of them once.
+/// The steps are as in `smaller`. A loop that goes on from the step that is returned tries each of them once.
 ///
 /// # Panics
 ///
@@ -296,12 +296,12 @@ pub fn next_smaller(limits: Option<&Limits>, bytes: &[u8], from: usize) -> Resul
 }
 
 /// Returns the component without its `k`-th item, from 0, and without all that refers to it. Other indexes are
-/// renumbered. There is none where there are no more than `k` items.
+/// renumbered. There is none if there are no more than `k` items.
 pub fn without(bytes: &[u8], k: usize) -> Result<Option<Vec<u8>>, Unreduced> {
     written(bytes.len(), |output| library::without_into(bytes, k, output))
 }
 
-/// Returns a component of the sections of the first and then those of the second, with its indexes renumbered, and its
+/// Returns a component of the sections of the first and then of the second, with its indexes renumbered, and its
 /// imports and exports by names that are new.
 pub fn join(first: &[u8], second: &[u8]) -> Result<Vec<u8>, Unreduced> {
     let room = first.len().saturating_add(second.len());
@@ -328,13 +328,13 @@ fn failing(
 }
 
 /// Returns a component that fails and of which no single item can be removed or made simpler so that it still fails. It
-/// is found from one that fails, which is returned where no smaller one does. Only components that are well formed are
+/// is found from one that fails, which is returned if no smaller one does. Only components that are well formed are
 /// tried.
 pub fn reduce(component: &[u8], mut fails: impl FnMut(&[u8]) -> bool) -> Result<Vec<u8>, Unreduced> {
     let mut smallest = component.to_vec();
     let mut from = 0;
     loop {
-        // The steps before that number come last, since those of a larger component have been tried.
+        // The steps before that number come last, since a larger component's have been tried.
         let mut found = failing(&smallest, from..usize::MAX, &mut fails)?;
         if found.is_none() {
             found = failing(&smallest, 0..from, &mut fails)?;

@@ -80,7 +80,7 @@ pub fn version() -> &'static str {
 /// The default limits.
 pub fn default_limits() -> Limits {
     let mut limits = MaybeUninit::uninit();
-    // SAFETY: a call that returns 0 has written each byte of the struct, and 0 or 1 where there is a truth value.
+    // SAFETY: a call that returns 0 has written each byte of the struct, and 0 or 1 to each truth value.
     let limits = unsafe {
         let status = lupinanon_default_limits(limits.as_mut_ptr(), size_of::<RawLimits>());
         assert_eq!(status, 0, "the size is that of the header's struct");
@@ -89,11 +89,11 @@ pub fn default_limits() -> Limits {
     limits.limits()
 }
 
-/// These limits as overridden by those that the first bytes of the input encode, and how many bytes encode them.
+/// These limits as overridden by the ones that the first bytes of the input encode, and how many bytes encode them.
 pub fn swarm_limits(limits: &Limits, input: &[u8]) -> (Limits, usize) {
     let mut limits = RawLimits::of(limits);
     let mut taken = 0;
-    // SAFETY: no reference is null, the length is that of the slice, and nothing written overlaps anything. What is
+    // SAFETY: no reference is null, the length is the slice's, and nothing written overlaps anything. What is
     // written to a truth value is 0 or 1.
     let status =
         unsafe { lupinanon_swarm_limits(&mut limits, input.as_ptr(), input.len(), &mut taken) };
@@ -111,11 +111,11 @@ pub enum Answer {
     NoRoom { len: usize },
 }
 
-/// Writes the component's bytes to the front of the output, where there is room.
+/// Writes the component's bytes to the front of the output, if there is room.
 pub fn generate_into(limits: &Limits, input: &[u8], output: &mut [u8]) -> Result<Answer, Refusal> {
     let limits = RawLimits::of(limits);
     let (mut len, mut left) = (0, 0);
-    // SAFETY: no reference is null, the lengths are those of the slices, and nothing written overlaps anything.
+    // SAFETY: no reference is null, the lengths are the slices', and nothing written overlaps anything.
     let status = unsafe {
         lupinanon_generate_into(
             &limits,
@@ -148,7 +148,7 @@ fn unexpected(status: i32) -> ! {
     }
 }
 
-// An offset, where it is one.
+// An offset, if it is one.
 fn known(offset: usize) -> Option<usize> {
     (offset != usize::MAX).then_some(offset)
 }
@@ -156,7 +156,7 @@ fn known(offset: usize) -> Option<usize> {
 /// What the bytes are.
 pub fn check(bytes: &[u8]) -> Result<Verdict, OutOfMemory> {
     let mut offset = 0;
-    // SAFETY: the length is that of the slice, and the offset overlaps nothing of it.
+    // SAFETY: the length is the slice's, and the offset overlaps nothing of it.
     let status = unsafe { lupinanon_check(bytes.as_ptr(), bytes.len(), &mut offset) };
     match status {
         0 => Ok(Verdict::WellFormed),
@@ -167,11 +167,11 @@ pub fn check(bytes: &[u8]) -> Result<Verdict, OutOfMemory> {
     }
 }
 
-/// How long the script of the bytes is. It is written to the front of the output, where there is room.
+/// How long the script of the bytes is. It is written to the front of the output, if there is room.
 pub fn script_into(limits: &Limits, bytes: &[u8], output: &mut [u8]) -> Result<usize, NoScript> {
     let limits = RawLimits::of(limits);
     let (mut len, mut offset) = (0, 0);
-    // SAFETY: no reference is null, the lengths are those of the slices, and nothing written overlaps anything.
+    // SAFETY: no reference is null, the lengths are the slices', and nothing written overlaps anything.
     let status = unsafe {
         lupinanon_script_into(
             &limits,
@@ -194,7 +194,7 @@ pub fn script_into(limits: &Limits, bytes: &[u8], output: &mut [u8]) -> Result<u
     }
 }
 
-// How long the component is that a call writes, where there is one.
+// How long the component is that a call writes, if there is one.
 fn len_of(status: i32, len: usize) -> Result<Option<usize>, Unreduced> {
     match status {
         0 | 7 => Ok(Some(len)),
@@ -207,7 +207,7 @@ fn len_of(status: i32, len: usize) -> Result<Option<usize>, Unreduced> {
     }
 }
 
-/// How long the k-th smaller component is, if there is one. It is written to the front of the output, where there is
+/// How long the k-th smaller component is, if there is one. It is written to the front of the output, if there is
 /// room.
 pub fn smaller_into(
     limits: Option<&Limits>,
@@ -218,7 +218,7 @@ pub fn smaller_into(
     let limits = limits.map(RawLimits::of);
     let limits = limits.as_ref().map_or(core::ptr::null(), |limits| limits as *const RawLimits);
     let mut len = 0;
-    // SAFETY: only the limits may be null, the lengths are those of the slices, and nothing written overlaps anything.
+    // SAFETY: only the limits may be null, the lengths are the slices', and nothing written overlaps anything.
     let status = unsafe {
         lupinanon_smaller(
             limits,
@@ -234,7 +234,7 @@ pub fn smaller_into(
 }
 
 /// How long the smaller component is to which the first step leads, from that number on, if there is one. It is written
-/// as `smaller_into` does, and the number becomes that of the step.
+/// as `smaller_into` does, and the number becomes the step's.
 pub fn next_smaller_into(
     limits: Option<&Limits>,
     bytes: &[u8],
@@ -244,7 +244,7 @@ pub fn next_smaller_into(
     let limits = limits.map(RawLimits::of);
     let limits = limits.as_ref().map_or(core::ptr::null(), |limits| limits as *const RawLimits);
     let mut len = 0;
-    // SAFETY: only the limits may be null, the lengths are those of the slices, and nothing written overlaps anything.
+    // SAFETY: only the limits may be null, the lengths are the slices', and nothing written overlaps anything.
     let status = unsafe {
         lupinanon_next_smaller(
             limits,
@@ -262,7 +262,7 @@ pub fn next_smaller_into(
 /// How long the component without its k-th item is, if there is one. It is written as `smaller_into` does.
 pub fn without_into(bytes: &[u8], k: usize, output: &mut [u8]) -> Result<Option<usize>, Unreduced> {
     let mut len = 0;
-    // SAFETY: no reference is null, the lengths are those of the slices, and nothing written overlaps anything.
+    // SAFETY: no reference is null, the lengths are the slices', and nothing written overlaps anything.
     let status = unsafe {
         lupinanon_without(bytes.as_ptr(), bytes.len(), k, output.as_mut_ptr(), output.len(), &mut len)
     };
@@ -272,7 +272,7 @@ pub fn without_into(bytes: &[u8], k: usize, output: &mut [u8]) -> Result<Option<
 /// How long the joined component is. It is written as `smaller_into` does.
 pub fn join_into(first: &[u8], second: &[u8], output: &mut [u8]) -> Result<Option<usize>, Unreduced> {
     let mut len = 0;
-    // SAFETY: no reference is null, the lengths are those of the slices, and nothing written overlaps anything.
+    // SAFETY: no reference is null, the lengths are the slices', and nothing written overlaps anything.
     let status = unsafe {
         lupinanon_join(
             first.as_ptr(),

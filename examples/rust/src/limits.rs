@@ -1,15 +1,15 @@
 //! The limits. `examples/limits --write` writes the fields.
 
 /// The limits of what is made. Components nest at most 1000 deep. `Limits::default()` has the defaults: write
-/// `..Limits::default()` after those that you set, since there may be more limits one day.
+/// `..Limits::default()` after the ones that you set, since there may be more limits one day.
 #[derive(Clone, Copy, Debug, PartialEq, Eq)]
 pub struct Limits {
     /// The fewest types of a component. They can always be added.
     pub min_types: usize,
-    /// The fewest imports of a component. Where they can not be added, it is refused with `MinimumNotMet`.
+    /// The fewest imports of a component. If they cannot be added, it is refused with `MinimumNotMet`.
     pub min_imports: usize,
-    /// The fewest functions of a component: imported ones, lifts and lowers together. Where they can not be added, it
-    /// is refused with `MinimumNotMet`.
+    /// The fewest functions of a component: imported ones, lifts and lowers together. If they cannot be added, it is
+    /// refused with `MinimumNotMet`.
     pub min_funcs: usize,
     /// The fewest memories of a core module.
     pub min_memories: usize,
@@ -27,7 +27,7 @@ pub struct Limits {
     pub max_tables: usize,
     /// The most tags that a module type imports and exports.
     pub max_tags: usize,
-    /// The most memories of a core module, and those that a module type imports and exports.
+    /// The most memories of a core module, and the most that a module type imports and exports.
     pub max_memories: usize,
     /// The most core modules of the whole tree, embedded and imported.
     pub max_modules: usize,
@@ -37,7 +37,7 @@ pub struct Limits {
     pub max_instances: usize,
     /// How deep components nest, the root at 1. A limit of 0 counts as 1.
     pub max_nesting_depth: usize,
-    /// The fuel of a type: its members and declarations at all depths are at most so many.
+    /// The fuel of a type: the most members and declarations that it has at all depths.
     pub max_type_size: u32,
     /// Whether a core function may have several results.
     pub multi_value_enabled: bool,
@@ -54,7 +54,7 @@ pub struct Limits {
     /// Whether a validator accepts each component: what it imports and exports is of types that it names, and effective
     /// sizes and counts are below the bounds of wasmparser.
     pub must_validate: bool,
-    /// How many sections a component has at least when the input finishes it. Where no input is left, it is finished
+    /// The fewest sections that a component has when the input finishes it. If no input is left, it is finished
     /// whatever it has.
     pub finish_after: usize,
 }

@@ -121,7 +121,7 @@ fn what_has_no_script_is_refused() {
     assert_eq!(script(&Limits::default(), b""), Err(NoScript::Unread { offset: 0 }));
     let of_itself = [&preamble[..], b"\x07\x04\x02\x7f\x70\x01"].concat();
     assert_eq!(script(&Limits::default(), &of_itself), Err(NoScript::IllFormed));
-    // Two types where there may be one: the length of their section is that of one type more.
+    // Two types where there may be one: the length of their section is for one type more.
     let few = Limits { max_types: 1, ..Limits::default() };
     let two = [&preamble[..], b"\x07\x03\x02\x7f\x7f"].concat();
     assert_eq!(script(&few, &two), Err(NoScript::CannotBeGenerated { offset: Some(9) }));

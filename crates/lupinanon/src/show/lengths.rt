@@ -1,4 +1,5 @@
-//! The lengths of encodings (Binary.md), put together of those that the crates below have. What was read has a length.
+//! The lengths of encodings (Binary.md), put together of the ones that the crates below have. What was read has a
+//! length.
 
 use smith_format::{Spelled, entity_len, func_type_len, tagged_len, text_len, u32_len};
 use smith_read::ModuleNode;
@@ -45,7 +46,7 @@ pub(crate) fn module_decl_len(decl: &ModuleNode) -> Option<u32> {
     }
 }
 
-// A byte, and a type of values where there is one.
+// A byte, and a type of values if there is one.
 fn maybe_val_len(ty: &Option<ComponentValType>) -> Option<u32> {
     match ty {
         Some(ty) => ty.spelled_len()?.checked_add(1),
@@ -71,7 +72,7 @@ pub(crate) fn defined_len(ty: &DefinedType) -> Option<u32> {
     }
 }
 
-/// A function type. Where it has no result, two bytes say so.
+/// A function type. If it has no result, two bytes say so.
 pub(crate) fn function_len(ty: &FuncType) -> Option<u32> {
     let result = match &ty.result {
         Some(ty) => ty.spelled_len()?.checked_add(1)?,

@@ -17,7 +17,7 @@ fn show_val<W: fmt::Write>(f: &mut fmt::Formatter<W>, ty: &ComponentValType) -> 
     }
 }
 
-// A type after a word, where there is one.
+// A type after a word, if there is one.
 fn show_maybe<W: fmt::Write>(
     f: &mut fmt::Formatter<W>,
     word: &str,

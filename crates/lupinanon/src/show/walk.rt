@@ -2,8 +2,7 @@
 
 use std::fmt;
 
-// Lines that are deeper are indented as those of this level: so a line is at most 64 times as long as the bytes that it
-// is of, regardless of the depth.
+// Deeper lines are indented as at this level: so a line is at most 64 times as long as its bytes, whatever the depth.
 const MOST_LEVELS: u32 = 14;
 
 /// How many entries each index space has.

@@ -19,10 +19,10 @@ ghost use Rattle.smith_tree.specs.declared.choices.CanonItem.{CanonItem};
 
 use crate::builder::Progress;
 use crate::builder::open::OpenComponent;
-use crate::component::{CanonicalSection, Func, Section, TypeSection};
+use crate::component::{CanonicalSection, Section, TypeSection};
 use smith_format::Config;
 use smith_input::{Error, Unstructured, choose_offered};
-use smith_tree::{CanonItem, canon_offers};
+use smith_tree::{CanonItem, Func, canon_offers};
 use smith_types::{DefType, FuncType, Scopes, canonical_abi_for, inverse_scalar_canonical_abi_for};
 use std::alloc::{AllocError, Global};
 use std::mem;
@@ -40,7 +40,7 @@ pub(super) struct CanonicalDraft<'a> {
 }
 
 impl<'a> CanonicalDraft<'a> {
-    // What a turn is, by a choice; none where no function can be lowered or lifted.
+    // What a turn is, by a choice; none if no function can be lowered or lifted.
     fn choose_item(&self, u: &mut Unstructured) -> Option<CanonItem>
         ensures { MatchOption result
             ((canon_items_of self.now.component.now.tables ≡ []) × (u.new ≡ u.old))
@@ -67,7 +67,7 @@ impl<'a> CanonicalDraft<'a> {
         self.component.tables.add_core_function(func_index)
     }
 
-    // A type that flattens as that of the component function which the core function lowers.
+    // A type that flattens as the type of the component function which the core function lowers.
     fn lifted_type(&self, core_func_index: u32, u: &mut Unstructured) -> Result<FuncType, Error>
         requires known { IsLowered (own_scope self.now.scopes.now) self.now.component.now.tables core_func_index }
         ensures reads { IfOk result (λ f. ReadsLiftedTypeOf
@@ -113,8 +113,8 @@ impl<'a> CanonicalDraft<'a> {
         Ok(())
     }
 
-    // Lifts a core function, by a choice, to a type that is equal to the one that is read, or to one that it defines
-    // where there is none. It is abandoned where the component may have no more types.
+    // Lifts a core function, by a choice, to a type that is equal to the one that is read, or to one that it defines if
+    // there is none. It is abandoned if the component may have no more types.
     fn lift(&mut self, u: &mut Unstructured) -> Result<(), Error>
         requires draft { IsDraft self.old }
         requires some { 0 < length self.old.component.now.tables.core_functions.items }
@@ -143,7 +143,7 @@ impl<'a> CanonicalDraft<'a> {
         Ok(())
     }
 
-    // A turn, or false where no function can be lowered or lifted.
+    // A turn, or false if no function can be lowered or lifted.
     fn turn(&mut self, u: &mut Unstructured) -> Result<bool, Error>
         requires draft { IsDraft self.old }
         requires room { functions_at (spaces_at (draft_of self.old)) < max_u32 }

@@ -12,7 +12,7 @@ use smith_input::Unstructured;
 use smith_tree::{Item, item_choices};
 
 impl Progress {
-    // May the inner component be finished, where input is left?
+    // May the inner component be finished, if input is left?
     fn offers_finish(&self) -> bool
         ensures { result ≡ is_finish_offered self.now.config (stack_of self.now).inner }
     {
@@ -43,7 +43,7 @@ impl Progress {
         self.config.max_exports > 0
     }
 
-    // The choice that begins a turn: where no input is left, the inner component is finished.
+    // The choice that begins a turn: if no input is left, the inner component is finished.
     pub(crate) fn choose_item(&self, u: &mut Unstructured) -> Item
         requires sound { IsSound self.now }
         ensures chooses { ReadsAmong (items self.now.config (stack_of self.now) u.old) u.old result u.new }

@@ -8,17 +8,17 @@ ghost use Rattle.smith_format.specs.declared.config.Config.{Config};
 ghost use Rattle.smith_scopes.specs.Scopes.{outer_marked, own_marked, own_scope};
 ghost use Rattle.smith_component.specs.Exports.{NoExport, ReadsExport};
 ghost use Rattle.smith_component.specs.ExportsState.{ExportsOne, ExportsState};
-ghost use Rattle.smith_component.specs.Shown.{shown_export};
+ghost use Rattle.smith_tree.specs.Shown.{shown_export};
 ghost use Rattle.smith_component.specs.Tables.{IsKnown};
 ghost use Rattle.smith_tree.specs.Tree.{ExportEntry, Tree};
 
 use crate::builder::tables::Tables;
-use crate::component::Export;
 use smith_input::{Error, Unstructured, unique_kebab_string};
+use smith_tree::Export;
 use smith_types::{ComponentTypeRef, Scopes};
 use std::alloc::Global;
 
-// An export, or none where there is no component function or no room for one more. It is one itself then.
+// An export, or none if there is no component function or no room for one more. It is one itself then.
 fn read_export(
     alloc: Global,
     scopes: &mut Scopes,

@@ -18,7 +18,7 @@ use smith_format::Config;
 use smith_input::{Error, Unstructured};
 use smith_types::{ComponentTypeRef, Import, Scopes, arbitrary_type_ref, named_extern};
 
-// An import, or none where nothing can be imported. It is counted.
+// An import, or none if nothing can be imported. It is counted.
 fn read_import(
     config: &Config,
     scopes: &mut Scopes,

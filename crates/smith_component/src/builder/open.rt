@@ -10,7 +10,7 @@ use crate::component::Section;
 use std::alloc::{AllocError, Global};
 
 // How many sections there is room for at first, in 952 bytes: few components have more, a list that grows is copied,
-// and where a block is to have more than 1,000 bytes, `malloc` may merge all that are free.
+// and when a block is to have more than 1,000 bytes, `malloc` may merge all that are free.
 const FIRST_SECTIONS: usize = 17;
 
 /// A component that is not finished yet, with how deep components nest in it, and what is kept beside its sections.

@@ -15,11 +15,10 @@ ghost use Rattle.smith_tree.specs.declared.choices.Item.TheVariants as item;
 
 use crate::builder::Progress;
 use crate::builder::exports::read_exports;
-use crate::component::{
-    CoreTypeSection, CustomSection, ExportSection, ImportSection, Section, TypeSection,
-};
+use crate::component::{CoreTypeSection, ExportSection, ImportSection, Section, TypeSection};
 use smith_core::Module;
 use smith_input::{Error, Unstructured};
+use smith_tree::CustomSection;
 use smith_types::{CoreType, DefType};
 use std::alloc::AllocError;
 use std::rc::Rc;

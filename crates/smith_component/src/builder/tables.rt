@@ -12,9 +12,9 @@ use smith_types::{DefType, ExternNames, Scopes};
 use std::alloc::{AllocError, Global};
 use std::collections::BTreeSet;
 
-// The component functions by the indexes of their types, the core functions by those of the component functions that
-// they lower, the component functions that can be lowered, how many functions are imported, lifted and lowered, the
-// names of the imports, and those of the exports.
+// The component functions by the indexes of their types, the core functions by the indexes of the component functions
+// that they lower, the component functions that can be lowered, how many functions are imported, lifted and lowered,
+// and the names of the imports and of the exports.
 #[derive(Drop)]
 pub(super) struct Tables {
     pub(super) alloc: Global,

@@ -5,7 +5,7 @@ ghost use Rattle.smith_tree.specs.Tree.{module_of, component_of, instance_of};
 
 use smith_types::{ComponentTypeRef, RefTotals};
 
-// How many modules, components below the root and instances there are, those that are imported too.
+// How many modules, components below the root and instances there are, with the imported ones.
 #[derive(Debug, Clone, Copy)]
 pub(super) struct TreeTotals {
     pub(super) modules: usize,

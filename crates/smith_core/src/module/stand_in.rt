@@ -27,7 +27,7 @@ pub(super) struct StandIn {
     bulk_memory_enabled: bool,
 }
 
-// A section of a list, where the list has an entry.
+// A section of a list, if the list has an entry.
 fn put_listed<Format, T: Spelled<Format>>(
     out: &mut Vec<u8>,
     id: u8,
@@ -122,7 +122,7 @@ fn memories(alloc: Global, u: &mut Unstructured, config: &Config) -> Result<Vec<
 
 impl Module {
     /// The module that stands for a generated one: at most 20 final function types, each in a group by itself, and as
-    /// many memories as the limits allow, all defined. It refuses with `ModuleRefused` exactly where `min_memories`
+    /// many memories as the limits allow, all defined. It refuses with `ModuleRefused` exactly if `min_memories`
     /// exceeds `max_memories`, before it reads, and otherwise fails only when out of memory.
     // It is apart, so that its caller's code, which runs for components without modules too, stays small.
     #[inline(never)]

@@ -98,7 +98,7 @@ impl ModuleParts {
         }
     }
 
-    // A section, where it is written.
+    // A section, if it is written.
     fn put_section(&self, out: &mut Vec<u8>, kind: SectionKind, written: bool) -> Result<(), Error>
         requires agree { Agree self.now }
         requires written { written ≡ is_written self.now kind }

@@ -4,12 +4,11 @@ ghost use Rattle.std.specs.Prelude.{◌≡◌, map, IfOk};
 ghost use Rattle.smith_format.specs.Shown.{shown_func};
 ghost use Rattle.smith_syntax.specs.Entries.{CoreEntry, ModuleDecl};
 ghost use Rattle.smith_tree.specs.Tree.{Canon};
-ghost use Rattle.smith_read_types.specs.Nodes.{shown_core_node, shown_module_node};
-ghost use Rattle.smith_read.specs.PartNodes.{shown_canon_node};
+ghost use Rattle.smith_read.specs.Nodes.{shown_core_node, shown_module_node};
+ghost use Rattle.smith_tree.specs.Shown.{shown_canon};
 
 use smith_format::FuncType;
-use smith_read::CanonNode;
-use smith_read_types::{CoreNode, ModuleNode};
+use smith_read::{CoreNode, Func, ModuleNode};
 use std::alloc::{AllocError, Global};
 
 /// What has no simpler form.
@@ -72,18 +71,23 @@ impl Simplest for CoreNode {
     }
 }
 
-impl Simplest for CanonNode {
+impl Simplest for Func {
     ghost Shown = { Canon };
 
-    ghost shown = { shown_canon_node };
+    ghost shown = { shown_canon };
 
-    fn copied(&self, _alloc: Global) -> Result<CanonNode, AllocError> {
+    fn copied(&self, _alloc: Global) -> Result<Func, AllocError> {
         match self {
-            CanonNode::Lift { core_func, ty } => Ok(CanonNode::Lift {
-                core_func: *core_func,
-                ty: *ty,
+            Func::CanonLift {
+                func_ty,
+                core_func_index,
+            } => Ok(Func::CanonLift {
+                func_ty: *func_ty,
+                core_func_index: *core_func_index,
             }),
-            CanonNode::Lower { func } => Ok(CanonNode::Lower { func: *func }),
+            Func::CanonLower { func_index } => Ok(Func::CanonLower {
+                func_index: *func_index,
+            }),
         }
     }
 }

@@ -92,7 +92,7 @@ pub(crate) fn copies<T: Named>(alloc: Global, items: &[T]) -> Result<Vec<T>, All
     Ok(copies)
 }
 
-/// Copies, the one at that place with a new name; none where that is not shorter, and where there is no such place.
+/// Copies, the one at that place with a new name; none if that is not shorter, or if there is no such place.
 pub(crate) fn renamed_at<T: Named>(
     alloc: Global,
     known: &Names,
@@ -114,7 +114,7 @@ pub(crate) fn renamed_at<T: Named>(
     Ok(Some(copies))
 }
 
-/// The members of a type, the one that is sought with a new name; none where that is not shorter.
+/// The members of a type, the one that is sought with a new name; none if that is not shorter.
 pub(crate) fn members<T: Named>(
     alloc: Global,
     search: &mut Search,
@@ -134,7 +134,7 @@ pub(crate) fn members<T: Named>(
     }
 }
 
-/// Copies of members without names; none where the one that is sought is among them.
+/// Copies of members without names; none if the one that is sought is among them.
 pub(crate) fn unnamed<T: Copy>(
     alloc: Global,
     search: &mut Search,

@@ -4,8 +4,9 @@ ghost use Rattle.std.specs.Prelude.{◌≡◌, ◌+◌, None, Some, length, map,
 ghost use Rattle.std.specs.Option.{option_map};
 ghost use Rattle.smith_tree.specs.Tree.{exports_of, imports_of, tree_of};
 ghost use Rattle.smith_tree.specs.WellFormed.{export_names, import_names};
-ghost use Rattle.smith_read_types.specs.Nodes.{shown_core_node};
-ghost use Rattle.smith_read.specs.PartNodes.{shown_canon_node, shown_export_node, shown_import_node, shown_part_node};
+ghost use Rattle.smith_read.specs.Nodes.{shown_core_node};
+ghost use Rattle.smith_read.specs.PartNodes.{shown_import_node, shown_part_node};
+ghost use Rattle.smith_tree.specs.Shown.{shown_canon, shown_export};
 ghost use Rattle.smith_edit.specs.Edits.{export_renamed, import_renamed};
 ghost use Rattle.smith_edit.specs.Items.{core_items, part_items, row_items, tree_items};
 ghost use Rattle.smith_edit.specs.Search.{past, sought};
@@ -18,10 +19,10 @@ use crate::simpler::members::{copies, renamed_at};
 use crate::simpler::search::Search;
 use crate::simpler::types::types;
 use smith_core::CORE_PREAMBLE;
-use smith_read::{CanonNode, CoreNode, ExportNode, ImportNode, PartNode};
+use smith_read::{CoreNode, CustomSection, Export, Func, ImportNode, PartNode};
 use std::alloc::{AllocError, Global};
 
-// Core types; none where what is sought is inside one of them, or is one.
+// Core types; none if what is sought is inside one of them, or is one.
 fn core_types(
     alloc: Global,
     search: &mut Search,
@@ -39,17 +40,17 @@ fn core_types(
     Ok(Some(all_copied(alloc, entries)?))
 }
 
-// Canonical functions; none where what is sought is one of them.
+// Canonical functions; none if what is sought is one of them.
 fn canons(
     alloc: Global,
     search: &mut Search,
-    entries: &[CanonNode],
-) -> Result<Option<Vec<CanonNode>>, AllocError>
-    ensures canons { let canons = map shown_canon_node entries.now in
-        IfOk result (λ r. option_map (λ v. map shown_canon_node v.items) r
+    entries: &[Func],
+) -> Result<Option<Vec<Func>>, AllocError>
+    ensures canons { let canons = map shown_canon entries.now in
+        IfOk result (λ r. option_map (λ v. map shown_canon v.items) r
         ≡ sought (length canons) search.old (λ k. None) canons) }
     ensures moved { IfOk result (λ r. IsSome r → search.new
-        ≡ past (length (map shown_canon_node entries.now)) search.old) }
+        ≡ past (length (map shown_canon entries.now)) search.old) }
 {
     if search.pass(entries.len()).is_some() {
         return Ok(None);
@@ -85,14 +86,14 @@ fn exports(
     alloc: Global,
     search: &mut Search,
     scope: &[PartNode],
-    entries: &[ExportNode],
-) -> Result<Option<Vec<ExportNode>>, AllocError>
-    ensures exports { let exports = map shown_export_node entries.now in
+    entries: &[Export],
+) -> Result<Option<Vec<Export>>, AllocError>
+    ensures exports { let exports = map shown_export entries.now in
         let taken = export_names (exports_of (tree_of (map shown_part_node scope.now))) in
-        IfOk result (λ r. option_map (λ v. map shown_export_node v.items) r ≡ sought (length exports) search.old
+        IfOk result (λ r. option_map (λ v. map shown_export v.items) r ≡ sought (length exports) search.old
         (λ k. renamed_at (λ e. e.name) export_renamed taken k exports) exports) }
     ensures moved { IfOk result (λ r. IsSome r → search.new
-        ≡ past (length (map shown_export_node entries.now)) search.old) }
+        ≡ past (length (map shown_export entries.now)) search.old) }
 {
     match search.pass(entries.len()) {
         None => Ok(Some(copies(alloc, entries)?)),
@@ -109,13 +110,13 @@ fn simpler_part(alloc: Global, node: &PartNode) -> Result<Option<PartNode>, Allo
     ensures { IfOk result (λ r. option_map shown_part_node r ≡ simpler_part (shown_part_node node.now)) }
 {
     match node {
-        PartNode::Custom { name, contents } => {
-            if contents.is_empty() {
+        PartNode::Custom(section) => {
+            if section.bytes.is_empty() {
                 return Ok(None);
             }
-            let name = String::from_str(alloc, name.as_str())?;
-            let contents = Vec::new(alloc);
-            Ok(Some(PartNode::Custom { name, contents }))
+            let name = String::from_str(alloc, section.name.as_str())?;
+            let bytes = Vec::new(alloc);
+            Ok(Some(PartNode::Custom(CustomSection { name, bytes })))
         }
         PartNode::CoreModule(text) => {
             if text.as_slice() == CORE_PREAMBLE.as_slice() {
@@ -149,10 +150,10 @@ fn inside_part(
         ≡ past (part_items (shown_part_node node.now)) search.old) }
 {
     match node {
-        PartNode::Custom { name, contents } => {
-            let name = String::from_str(alloc, name.as_str())?;
-            let contents = Vec::from_slice(alloc, contents)?;
-            Ok(Some(PartNode::Custom { name, contents }))
+        PartNode::Custom(section) => {
+            let name = String::from_str(alloc, section.name.as_str())?;
+            let bytes = Vec::from_slice(alloc, &section.bytes)?;
+            Ok(Some(PartNode::Custom(CustomSection { name, bytes })))
         }
         PartNode::CoreModule(text) => {
             Ok(Some(PartNode::CoreModule(Vec::from_slice(alloc, text)?)))

@@ -1,4 +1,4 @@
-//! Where the item is that is made simpler.
+//! Where the item that is made simpler is.
 
 ghost use Rattle.std.specs.Prelude.{◌≡◌};
 ghost use Rattle.smith_edit.specs.Search.{among, is_here, past};

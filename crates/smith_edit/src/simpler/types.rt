@@ -4,8 +4,8 @@ ghost use Rattle.std.specs.Prelude.{◌≡◌, ◌+◌, ◌++◌, ℕ, List, map
 ghost use Rattle.std.specs.Option.{option_map};
 ghost use Rattle.smith_syntax.specs.Entries.{in_order};
 ghost use Rattle.smith_syntax.specs.WellFormed.{decl_exports, decl_imports, export_of, import_of, names};
-ghost use Rattle.smith_read_types.specs.Nodes.{shown_core_node};
-ghost use Rattle.smith_read_types.specs.TypeNodes.{shown_decl_node, shown_type_node};
+ghost use Rattle.smith_read.specs.Nodes.{shown_core_node};
+ghost use Rattle.smith_read.specs.TypeNodes.{shown_decl_node, shown_type_node};
 ghost use Rattle.smith_edit.specs.Items.{core_items, decl_items, decls_items, entry_items, row_items};
 ghost use Rattle.smith_edit.specs.Names.{KnowsBoth};
 ghost use Rattle.smith_edit.specs.Search.{past, sought};
@@ -17,10 +17,10 @@ use crate::names::Taken;
 use crate::simpler::copies::Simplest;
 use crate::simpler::search::Search;
 use crate::simpler::values::{defined, function, simpler_value};
-use smith_read_types::{CoreNode, DeclNode, TypeNode};
+use smith_read::{CoreNode, DeclNode, TypeNode};
 use std::alloc::{AllocError, Global};
 
-/// A core type; none where what is sought is inside it.
+/// A core type; none if what is sought is inside it.
 pub(crate) fn core_type(
     alloc: Global,
     search: &mut Search,
@@ -37,7 +37,7 @@ pub(crate) fn core_type(
 }
 
 // The type itself made simpler.
-#[tactic(auto, using(smith_read_types::proofs::ShownNodes::shown_nodes))]
+#[tactic(auto, using(smith_read::proofs::ShownNodes::shown_nodes))]
 fn simpler_type(node: &TypeNode) -> Option<TypeNode>
     ensures { option_map shown_type_node result ≡ simpler_entry (shown_type_node node.now) }
 {
@@ -52,7 +52,7 @@ fn simpler_type(node: &TypeNode) -> Option<TypeNode>
 
 // What is sought inside a type made simpler.
 #[cycle(simplifying)]
-#[tactic(auto, using(smith_read_types::proofs::ShownNodes::shown_nodes))]
+#[tactic(auto, using(smith_read::proofs::ShownNodes::shown_nodes))]
 fn inside_type(
     alloc: Global,
     search: &mut Search,
@@ -124,7 +124,7 @@ pub(crate) fn types(
 }
 
 // Adds the names that a declaration imports and exports.
-#[tactic(auto, using(smith_read_types::proofs::ShownNodes::shown_nodes))]
+#[tactic(auto, using(smith_read::proofs::ShownNodes::shown_nodes))]
 fn add_names(taken: &mut Taken, alloc: Global, node: &DeclNode) -> Result<(), AllocError>
     ensures { (is es : List (List ℕ)) → KnowsBoth taken.old is es → OnOk result (KnowsBoth taken.new
         (is ++ names (import_of (shown_decl_node node.now))) (es ++ names (export_of (shown_decl_node node.now)))) }
@@ -152,7 +152,7 @@ fn declared_names(alloc: Global, nodes: &[DeclNode]) -> Result<Taken, AllocError
 }
 
 // The declaration itself made simpler, among these.
-#[tactic(auto, using(smith_read_types::proofs::ShownNodes::shown_nodes))]
+#[tactic(auto, using(smith_read::proofs::ShownNodes::shown_nodes))]
 fn simpler_declaration(
     alloc: Global,
     node: &DeclNode,
@@ -187,7 +187,7 @@ fn simpler_declaration(
 
 // What is sought inside a declaration made simpler.
 #[cycle(simplifying)]
-#[tactic(auto, using(smith_read_types::proofs::ShownNodes::shown_nodes))]
+#[tactic(auto, using(smith_read::proofs::ShownNodes::shown_nodes))]
 fn inside_declaration(
     alloc: Global,
     search: &mut Search,

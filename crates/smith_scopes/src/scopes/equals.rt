@@ -101,7 +101,7 @@ impl Equals {
         }
     }
 
-    // Notes those of the types that are not noted.
+    // Notes the types that are not noted.
     pub(super) fn note_rest(&mut self, alloc: Global, types: &[Rc<DefType>]) -> Result<(), Error>
         requires first { AreFirst self.old (values_of types.now) }
         requires few { length types.now ≤ max_u32 }
@@ -134,7 +134,7 @@ impl Equals {
         }
     }
 
-    // One of these indexes, by a choice; none where there is none.
+    // One of these indexes, by a choice; none if there is none.
     pub(super) fn choose(&self, func: &FuncType, u: &mut Unstructured) -> Option<u32>
         ensures { (types : List DefType) → AreRows self.now types
             → IsChosenEqual types func.now u.old result u.new }

@@ -9,7 +9,6 @@ ghost use Rattle.smith_syntax.specs.Sizes.{capped, module_type_size};
 ghost use Rattle.smith_scopes.specs.Scopes.{Changes, last_of, outer_marked, own_marked, scope_at};
 
 use super::Scopes;
-use super::module_sizes::core_size;
 use smith_syntax::{ComponentTypeRef, CoreType, DefinedType, FuncType, Mark, Reach};
 use std::alloc::AllocError;
 
@@ -18,21 +17,21 @@ impl Scopes {
     pub fn note_import(&mut self, to: ComponentTypeRef)
         ensures { Changes (λ d. with_import d to) self.old self.new }
     {
-        self.inner.note_import(to)
+        self.nest.own.note_import(to)
     }
 
     /// Adds what is exported to the size of the last scope and to what its exports refer to, if these are kept.
     pub fn note_export(&mut self, to: ComponentTypeRef)
         ensures { Changes (λ d. with_export d to) self.old self.new }
     {
-        self.inner.note_export(to)
+        self.nest.own.note_export(to)
     }
 
     /// Can one more be imported or exported in the last scope?
     pub fn has_room(&self) -> bool
         ensures { result ≡ nat_le (last_of self.now).size room_size }
     {
-        self.inner.has_room()
+        self.last().has_room()
     }
 
     /// The mark of the component type or the instance type that the last scope is of.
@@ -40,15 +39,10 @@ impl Scopes {
         ensures { result ≡ closed_mark (if is_instance then (last_of self.now).exported else Reach.Everywhere)
             (last_of self.now).size }
     {
-        let exported = if is_instance {
-            self.inner.exported
-        } else {
-            Reach::Everywhere
-        };
-        Mark::closed(exported, self.inner.size)
+        self.last().closed_mark(is_instance)
     }
 
-    /// The mark of an outer alias of the type with the index `i` in the scope of that count, where 0 is the last.
+    /// The mark of an outer alias of the type with the index `i` in the scope of that count (0 is the last).
     pub fn aliased_mark(&self, count: u32, i: u32) -> Mark
         requires { count < length self.now }
         ensures { result ≡ aliased_mark count (get_or (scope_at self.now count).marks i no_mark) }
@@ -60,38 +54,35 @@ impl Scopes {
     pub fn equal_mark(&self, i: u32) -> Mark
         ensures { result ≡ equal_mark (get_or (last_of self.now).marks i no_mark) }
     {
-        self.inner.mark_at(i).equal()
+        self.last().mark_at(i).equal()
     }
 
-    /// The mark of a type of values that is declared in the last scope: `Mark::NONE` where none is kept.
+    /// The mark of a type of values that is declared in the last scope: `Mark::NONE` if none is kept.
     pub fn defined_mark(&self, ty: &DefinedType) -> Mark
         ensures { (last_of self.now).keeps ≡ true
             → result ≡ mark {N = Unit {0}} {K = Unit {0}} (defined (shown_defined ty.now)) (own_marked self.now)
             (outer_marked self.now) }
     {
-        self.inner.defined_mark(ty)
+        self.last().defined_mark(ty)
     }
 
-    /// The mark of a type of functions that is declared in the last scope: `Mark::NONE` where none is kept.
+    /// The mark of a type of functions that is declared in the last scope: `Mark::NONE` if none is kept.
     pub fn function_mark(&self, ty: &FuncType) -> Mark
         ensures { (last_of self.now).keeps ≡ true
             → result ≡ mark {N = Unit {0}} {K = Unit {0}} (function ty.now) (own_marked self.now)
             (outer_marked self.now) }
     {
-        self.inner.function_mark(ty)
+        self.last().function_mark(ty)
     }
 
-    /// The size of a core type that is declared in the last scope, where a core module is imported or exported: 0 for a
-    /// function type, and where none is kept. It fails only when out of memory.
+    /// The size of a core type that is declared in the last scope, when a core module is imported or exported: 0 for a
+    /// function type, and if none is kept. It fails only when out of memory.
     #[inline(always)]
     pub fn core_size_of(&self, entry: &CoreType) -> Result<u32, AllocError>
         ensures { (last_of self.now).keeps ≡ true
             → IfOk result (λ n. n ≡ capped
             (module_type_size (map shown_core (last_of self.now).core_types) (shown_core entry.now))) }
     {
-        if !self.inner.keeps {
-            return Ok(0);
-        }
-        core_size(self.alloc, &self.inner.scope.core_types, entry)
+        self.last().core_size_of(self.alloc, entry)
     }
 }

@@ -5,11 +5,13 @@ ghost use Rattle.smith_format.specs.Consistency.{max_u32};
 ghost use Rattle.smith_scopes.specs.Kept.{offered_places};
 ghost use Rattle.smith_syntax.specs.Marks.{no_mark};
 ghost use Rattle.smith_scopes.specs.Scopes.{own_marked, own_scope, kind_places, last_of, scope_at};
-ghost use Rattle.smith_scopes.specs.Scopes.{equal_places, lists_at, lists_in, shown_types};
+ghost use Rattle.smith_scopes.specs.Scopes.{equal_places, lists_at, lists_in, shown_marked, shown_scope, shown_types};
+ghost use Rattle.smith_syntax.specs.Marked.{scope_in};
 
-use super::marked::Marked;
-use super::offers::Offer;
-use crate::scopes::{Kind, Scopes};
+use super::Scopes;
+use crate::kinds::Kind;
+use crate::offers::Offer;
+use crate::scope::Scope;
 use smith_syntax::{CoreType, DefType, FuncType, Mark};
 use std::rc::Rc;
 
@@ -20,59 +22,71 @@ impl Scopes {
         ensures lists { result ≡ length (lists_in self.now) }
         ensures some { 1 ≤ result }
     {
-        self.outer.len() + 1
+        self.nest.depth()
     }
 
-    // The scope of that count, where 0 is the last.
-    fn scope(&self, count: u32) -> &Marked
+    // The scope of that count (0 is the last).
+    #[inline(always)]
+    fn scope(&self, count: u32) -> &Scope<Rc<DefType>, Rc<CoreType>>
         requires { count < length self.now }
-        ensures { result.now ≡ scope_at self.now count }
+        ensures scope { result.now ≡ scope_at self.now count }
+        ensures few { length result.now.types ≤ max_u32 }
+        ensures few_core { length result.now.core_types ≤ max_u32 }
     {
-        if count == 0 {
-            &self.inner
-        } else {
-            &self.outer[self.outer.len() - count as usize]
-        }
+        self.nest.at(count).scope()
     }
 
-    /// How many types the scope of that count has, where 0 is the last.
+    /// The last scope. Public only for the crates above.
+    #[inline(always)]
+    pub fn last(&self) -> &Scope<Rc<DefType>, Rc<CoreType>>
+        ensures scope { result.now ≡ last_of self.now }
+        ensures own { shown_scope result.now ≡ own_scope self.now }
+        ensures marked { shown_marked result.now ≡ own_marked self.now }
+        ensures lists { scope_in result.now ≡ lists_at self.now 0 }
+        ensures few { length result.now.types ≤ max_u32 }
+        ensures few_core { length result.now.core_types ≤ max_u32 }
+    {
+        self.nest.own.scope()
+    }
+
+    /// How many types the scope of that count has (0 is the last).
     pub fn len(&self, count: u32) -> usize
         requires { count < length self.now }
         ensures count { result ≡ length (scope_at self.now count).types }
         ensures lists { result ≡ length (lists_at self.now count).types }
         ensures few { result ≤ max_u32 }
     {
-        self.scope(count).scope.types.len()
+        self.scope(count).types_len()
     }
 
-    /// How many core types the scope of that count has, where 0 is the last.
+    /// How many core types the scope of that count has (0 is the last).
     pub fn len_core(&self, count: u32) -> usize
         requires { count < length self.now }
         ensures count { result ≡ length (scope_at self.now count).core_types }
         ensures lists { result ≡ length (lists_at self.now count).core_types }
         ensures few { result ≤ max_u32 }
     {
-        self.scope(count).scope.core_types.len()
+        self.scope(count).core_types_len()
     }
 
-    /// The type with the index `i` in the scope of that count, where 0 is the last.
+    /// The type with the index `i` in the scope of that count (0 is the last).
     pub fn get(&self, count: u32, i: u32) -> &Rc<DefType>
         requires scope { count < length self.now }
         requires entry { i < length (scope_at self.now count).types }
         ensures value { slice_get (scope_at self.now count).types i ≡ Some result.now.value }
         ensures lists { slice_get (lists_at self.now count).types i ≡ Some result.now.value }
     {
-        &self.scope(count).scope.types[i as usize]
+        &self.scope(count).types()[i as usize]
     }
 
-    /// The core type with the index `i` in the scope of that count, where 0 is the last.
+    /// The core type with the index `i` in the scope of that count (0 is the last).
     pub fn get_core(&self, count: u32, i: u32) -> &Rc<CoreType>
         requires scope { count < length self.now }
         requires entry { i < length (scope_at self.now count).core_types }
         ensures value { slice_get (scope_at self.now count).core_types i ≡ Some result.now.value }
         ensures lists { slice_get (lists_at self.now count).core_types i ≡ Some result.now.value }
     {
-        &self.scope(count).scope.core_types[i as usize]
+        &self.scope(count).core_types()[i as usize]
     }
 
     /// How many types the last scope has.
@@ -80,7 +94,7 @@ impl Scopes {
         ensures count { result ≡ length (own_scope self.now).types }
         ensures few { result ≤ max_u32 }
     {
-        self.inner.scope.types.len()
+        self.last().types_len()
     }
 
     /// How many entries of the last scope are of that kind.
@@ -90,7 +104,7 @@ impl Scopes {
         ensures few { result ≤ max_u32 }
         ensures small { result < 9223372036854775808 }
     {
-        self.inner.places(kind).len()
+        self.last().places(kind).len()
     }
 
     /// The index of the entry of the last scope that has `k` earlier ones of its kind.
@@ -99,7 +113,7 @@ impl Scopes {
         ensures value { slice_get (kind_places kind (own_scope self.now)) k ≡ Some result }
         ensures lists { slice_get (kind_places kind (shown_types (lists_at self.now 0))) k ≡ Some result }
     {
-        self.inner.places(kind)[k]
+        self.last().places(kind)[k] as u32
     }
 
     /// How many types of the last scope are function types equal to that one. Of the types that were added since a lift
@@ -108,7 +122,7 @@ impl Scopes {
         ensures count { result ≡ length (equal_places func.now (lists_at self.now 0)) }
         ensures few { result ≤ max_u32 }
     {
-        self.inner.scope.equal_len(func)
+        self.nest.own.equal_len(func)
     }
 
     /// The index of the function type of the last scope that equals that one and has `k` earlier such ones.
@@ -116,18 +130,18 @@ impl Scopes {
         requires { k < length (equal_places func.now (lists_at self.now 0)) }
         ensures { slice_get (equal_places func.now (lists_at self.now 0)) k ≡ Some result }
     {
-        self.inner.scope.equal_at(func, k)
+        self.nest.own.equal_at(func, k)
     }
 
     /// Are marks kept?
     pub fn keeps(&self) -> bool
         ensures { result ≡ (last_of self.now).keeps }
     {
-        self.inner.keeps()
+        self.last().keeps()
     }
 
-    /// The mark of the type with the index `i` in the scope of that count, where 0 is the last: `Mark::NONE` where none
-    /// is kept.
+    /// The mark of the type with the index `i` in the scope of that count (0 is the last): `Mark::NONE` if none is
+    /// kept.
     pub fn mark_at(&self, count: u32, i: u32) -> Mark
         requires { count < length self.now }
         ensures value { result ≡ get_or (scope_at self.now count).marks i no_mark }
@@ -137,8 +151,7 @@ impl Scopes {
         self.scope(count).mark_at(i)
     }
 
-    /// The size of the core type with the index `i` in the scope of that count, where 0 is the last: 0 where none is
-    /// kept.
+    /// The size of the core type with the index `i` in the scope of that count (0 is the last): 0 if none is kept.
     pub fn core_size_at(&self, count: u32, i: u32) -> u32
         requires { count < length self.now }
         ensures value { result ≡ get_or (scope_at self.now count).core_sizes i 0 }
@@ -148,15 +161,12 @@ impl Scopes {
         self.scope(count).core_size_at(i)
     }
 
-    /// How many types of the last scope may be used for it: all that can be, where no marks are kept.
+    /// How many types of the last scope may be used for it: all that can be, if no marks are kept.
     pub fn offered_len(&self, offer: Offer) -> usize
         ensures count { result ≡ length (offered_places offer (own_marked self.now)) }
         ensures few { result ≤ max_u32 }
     {
-        match self.inner.offered(offer) {
-            Some(row) => row.len(),
-            None => self.inner.len(),
-        }
+        self.last().offered_len(offer)
     }
 
     /// The index of the type of the last scope that may be used for it and has `k` earlier such ones.
@@ -164,8 +174,8 @@ impl Scopes {
         requires { k < length (offered_places offer (own_marked self.now)) }
         ensures { slice_get (offered_places offer (own_marked self.now)) k ≡ Some result }
     {
-        match self.inner.offered(offer) {
-            Some(row) => row[k],
+        match self.last().offered(offer) {
+            Some(row) => row[k] as u32,
             None => k as u32,
         }
     }

@@ -102,14 +102,14 @@ impl Spelled<ComponentFormat> for CoreType {
     }
 }
 
-/// Appends a core type. It is too long where a length or a count in it exceeds 4,294,967,295.
+/// Appends a core type. It is too long if a length or a count in it exceeds 4,294,967,295.
 pub fn write_core_type(out: &mut Vec<u8>, ty: &CoreType) -> Result<(), Error>
     ensures { Appends result out.old out.new (core_entry (shown_core ty.now)) }
 {
     write_spelled(out, ty)
 }
 
-/// The length of a core type's encoding; None exactly where it has none of at most 4,294,967,295 bytes.
+/// The length of a core type's encoding; None exactly if it has none of at most 4,294,967,295 bytes.
 pub fn core_type_len(ty: &CoreType) -> Option<u32>
     ensures { IsLengthOf result (core_entry (shown_core ty.now)) }
 {

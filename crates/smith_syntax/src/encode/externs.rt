@@ -81,14 +81,14 @@ impl Spelled<ComponentFormat> for Import {
     }
 }
 
-/// Appends an import, without its URL. It is too long where the length of its name exceeds 4,294,967,295.
+/// Appends an import, without its URL. It is too long if the length of its name exceeds 4,294,967,295.
 pub fn write_import(out: &mut Vec<u8>, import: &Import) -> Result<(), Error>
     ensures { Appends result out.old out.new (import_entry (import_shown import.now)) }
 {
     write_spelled(out, import)
 }
 
-/// The length of an import's encoding; None exactly where it has none of at most 4,294,967,295 bytes.
+/// The length of an import's encoding; None exactly if it has none of at most 4,294,967,295 bytes.
 pub fn import_len(import: &Import) -> Option<u32>
     ensures { IsLengthOf result (import_entry (import_shown import.now)) }
 {

@@ -17,7 +17,7 @@ ghost use Rattle.smith_tree.specs.declared.choices.DeclarationItem.TheVariants a
 
 use super::externs::{ExternNames, named_extern};
 use super::making::Making;
-use super::references::{arbitrary_type_ref, has_place};
+use super::references::arbitrary_type_ref;
 use smith_core_types::arbitrary_core_type;
 use smith_format::Config;
 use smith_input::{Error, Unstructured, choose_offered};
@@ -33,23 +33,6 @@ const UNCOUNTED: RefTotals = RefTotals {
     components: 0,
     instances: 0,
 };
-
-// Does the last scope have something that an import may be of, regardless of what is offered?
-fn has_reference(scopes: &Scopes) -> bool
-    ensures { result ≡ has_reference (own_marked scopes.now) }
-{
-    scopes.own_len() > 0 || scopes.kind_len(Kind::CoreModule) > 0
-}
-
-// Does it have something that an export may be of?
-fn has_export(scopes: &Scopes) -> bool
-    ensures { result ≡ has_export (own_marked scopes.now) }
-{
-    has_place(scopes, RefKind::Module, false)
-        || has_place(scopes, RefKind::TypeEq, false)
-        || has_place(scopes, RefKind::Component, false)
-        || has_place(scopes, RefKind::Instance, false)
-}
 
 // The counts of the scopes that have an entry, innermost first.
 fn occupied_scopes(alloc: Global, scopes: &Scopes) -> Result<Vec<u32>, Error>
@@ -98,14 +81,14 @@ pub(super) fn declaration_item(
         u.old result u.new }
     ensures possible { HasTarget config.now (own_marked scopes.now) (outer_marked scopes.now) result }
 {
-    let with_export = has_export(scopes);
+    let with_export = scopes.last().has_export();
     let with_alias = has_entry(scopes);
     let with_type = may_nest(config, scopes);
     let offers = declaration_offers(with_export, with_alias, with_type);
     choose_offered(u, &offers).unwrap_or(DeclarationItem::CoreType)
 }
 
-// An import, or none where it is not asked for or nothing can be imported.
+// An import, or none if it is not asked for or nothing can be imported.
 pub(super) fn import(
     making: &Making,
     u: &mut Unstructured,
@@ -120,7 +103,7 @@ pub(super) fn import(
     ensures memory { IfErr result (λ e. e ≡ Error.OutOfMemory) }
     ensures tail { IsTail u.new u.old }
 {
-    if !has_reference(scopes) || u.int_in_range(0, 3) != 0 {
+    if !scopes.last().has_reference() || u.int_in_range(0, 3) != 0 {
         return Ok(None);
     }
     let Some(ty) = arbitrary_type_ref(u, making.config, scopes, UNCOUNTED, true, true) else {
@@ -247,7 +230,7 @@ pub(super) fn outer_alias(
     Ok(InstanceTypeDecl::Alias(alias))
 }
 
-// A core type, with what is left of the fuel.
+// A core type, with the rest of the fuel.
 pub(super) fn core_type_decl(
     making: &Making,
     u: &mut Unstructured,

@@ -21,14 +21,14 @@ use smith_syntax::{
 use smith_tree::{DefinedKind, defined_kinds};
 use std::alloc::Global;
 
-// What a type becomes that would have no member.
+// What a type that would have no member becomes.
 fn bool_type() -> DefinedType
     ensures { shown_defined result ≡ primitive_type prim.Bool }
 {
     DefinedType::Primitive(PrimitiveValType::Bool)
 }
 
-// A record, or bool where it has no field.
+// A record, or bool if it has no field.
 fn record_type(members: Vec<(String, ComponentValType)>) -> DefinedType
     ensures { shown_defined result ≡ or_bool record_type (map named members.items) }
 {
@@ -38,7 +38,7 @@ fn record_type(members: Vec<(String, ComponentValType)>) -> DefinedType
     DefinedType::Record(RecordType { fields: members })
 }
 
-// A variant, or bool where it has no case.
+// A variant, or bool if it has no case.
 fn variant_type(members: Vec<(String, Option<ComponentValType>)>) -> DefinedType
     ensures { shown_defined result ≡ or_bool variant_type (map named members.items) }
 {
@@ -48,7 +48,7 @@ fn variant_type(members: Vec<(String, Option<ComponentValType>)>) -> DefinedType
     DefinedType::Variant(VariantType { cases: members })
 }
 
-// A tuple, or bool where it has no member.
+// A tuple, or bool if it has no member.
 fn tuple_type(members: Vec<ComponentValType>) -> DefinedType
     ensures { shown_defined result ≡ or_bool tuple_type members.items }
 {
@@ -58,7 +58,7 @@ fn tuple_type(members: Vec<ComponentValType>) -> DefinedType
     DefinedType::Tuple(TupleType { fields: members })
 }
 
-// Flags, or bool where there is none.
+// Flags, or bool if there is none.
 fn flags_type(members: Vec<String>) -> DefinedType
     ensures { shown_defined result ≡ or_bool flags_type (map string_bytes members.items) }
 {
@@ -68,7 +68,7 @@ fn flags_type(members: Vec<String>) -> DefinedType
     DefinedType::Flags(FlagsType { fields: members })
 }
 
-// An enum, or bool where it has no label.
+// An enum, or bool if it has no label.
 fn enum_type(members: Vec<String>) -> DefinedType
     ensures { shown_defined result ≡ or_bool enum_type (map string_bytes members.items) }
 {

@@ -11,7 +11,7 @@ use smith_input::{Error, MAX_NAME_LEN, Unstructured, unique_kebab_string, unique
 use std::alloc::Global;
 use std::collections::BTreeSet;
 
-/// The names so far, and those in the URLs so far, of imports or of exports that must differ: of those of one type, or
+/// The names so far, and the names in the URLs so far, of imports or of exports that must differ: those of one type, or
 /// of one component.
 #[derive(Drop)]
 pub struct ExternNames {
@@ -38,7 +38,7 @@ impl ExternNames {
     }
 }
 
-// A boolean, and a URL where it is true, which has a name that no URL has so far.
+// A boolean, and a URL if it is true, which has a name that no URL has so far.
 fn maybe_url(
     alloc: Global,
     u: &mut Unstructured,
@@ -59,7 +59,7 @@ fn maybe_url(
     Ok(Some(url))
 }
 
-/// A name in kebab case that is new among those so far, a boolean, and where it is true a URL, which has a name that no
+/// A name in kebab case that is new among those so far, a boolean, and if it is true a URL, which has a name that no
 /// URL has so far. Both are then among the names so far. It fails only when out of memory, and the names so far, and
 /// those in URLs, are then as before.
 pub fn named_extern(

@@ -21,7 +21,7 @@ use smith_scopes::Scopes;
 use smith_syntax::{ComponentTypeDef, InstanceTypeDecl};
 use smith_tree::DeclarationItem;
 
-// A type, with what is left of the fuel.
+// A type, with the rest of the fuel.
 #[cycle(making)]
 fn type_decl(
     making: &Making,
@@ -108,8 +108,7 @@ pub(super) fn declaration(
     declaration_of(making, u, scopes, fuel, exports, item)
 }
 
-// A declaration of a component type: an import where it is asked for and possible, otherwise one as in an instance
-// type.
+// A declaration of a component type: an import if it is asked for and possible, otherwise one as in an instance type.
 #[cycle(making)]
 pub(super) fn component_declaration(
     making: &Making,

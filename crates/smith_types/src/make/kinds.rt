@@ -22,7 +22,7 @@ use smith_syntax::{DefType, Mark};
 use smith_tree::{TypeKind, type_kinds};
 use std::rc::Rc;
 
-// What kind of type is read: a defined type where no fuel is left, otherwise one of four.
+// What kind of type is read: a defined type if no fuel is left, otherwise one of four.
 fn type_kind(u: &mut Unstructured, fuel: u32) -> TypeKind
     ensures spent { fuel ≡ 0 → (result ≡ kind.Defined) × (u.new ≡ u.old) }
     ensures chosen { 0 < fuel → ReadsAmong type_kinds u.old result u.new }

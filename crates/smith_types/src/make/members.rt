@@ -17,7 +17,7 @@ use smith_scopes::Scopes;
 use smith_syntax::ComponentValType;
 use std::alloc::Global;
 
-// What a loop reads, one after another. A member that has a name has one that none before it has.
+// What a loop reads, one after another. A member that has a name has a new one.
 pub(super) trait Member: Drop {
     ghost Shown: { Type 0 };
 
@@ -38,7 +38,7 @@ pub(super) trait Member: Drop {
         ensures tail { IsTail u.new u.old };
 }
 
-// The members of a type: at least `min` where the fuel lasts, and at most `max`.
+// The members of a type: at least `min` if the fuel lasts, and at most `max`.
 pub(super) fn members<M: Member>(
     alloc: Global,
     u: &mut Unstructured,

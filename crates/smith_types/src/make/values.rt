@@ -34,7 +34,7 @@ pub(super) fn value_type(u: &mut Unstructured, scopes: &Scopes) -> ComponentValT
     ComponentValType::Primitive(primitive_type(u))
 }
 
-// A boolean, and a value type where it is true.
+// A boolean, and a value type if it is true.
 pub(super) fn maybe_value_type(u: &mut Unstructured, scopes: &Scopes) -> Option<ComponentValType>
     ensures reads { ReadsMaybe (own_marked scopes.now) u.old result u.new }
     ensures tail { IsTail u.new u.old }

@@ -3,8 +3,8 @@ use Rattle.std.specs.Borrow.{Bor}
 use Rattle.smith_format.specs.declared.types.FuncType.{FuncType}
 use Rattle.smith_syntax.specs.ModuleTypes.{HasNewNames}
 use Rattle.smith_syntax.specs.WellFormed.{FormedDecls}
-use Rattle.smith_read_types.specs.Nodes.{shown_module_node}
-use Rattle.smith_read_scopes.specs.Scopes.{own_in}
+use Rattle.smith_read.specs.Nodes.{shown_module_node}
+use Rattle.smith_scopes.specs.NodeScopes.{own_in}
 use Rattle.smith_check.specs.Preceding.{functions_in}
 use Rattle.smith_check.specs.Taken.{HoldsModule}
 use Rattle.smith_check.proofs.Judging.{Same, passed_on, refute_by, same_all, same_exit, same_step}

@@ -2,8 +2,8 @@ use Rattle.std.proofs.Common.{[], map, take}
 use Rattle.std.proofs.Math.ListN.{drop}
 use Rattle.smith_syntax.specs.ModuleTypes.{HasNewNames}
 use Rattle.smith_syntax.specs.WellFormed.{FormedDecls}
-use Rattle.smith_read_types.specs.Nodes.{shown_module_node}
-use Rattle.smith_read_scopes.specs.Scopes.{own_in}
+use Rattle.smith_read.specs.Nodes.{shown_module_node}
+use Rattle.smith_scopes.specs.NodeScopes.{own_in}
 use Rattle.smith_check.specs.Preceding.{functions_in}
 use Rattle.smith_check.specs.Taken.{HoldsModule}
 use Rattle.smith_check.proofs.Judging.{Same}

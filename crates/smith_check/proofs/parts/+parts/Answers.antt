@@ -1,17 +1,18 @@
 use Rattle.std.proofs.Common.{◌++◌, ◌∷◌, [], arith, map, refl, sym, take, ◌∙◌, subst}
 use Rattle.smith_tree.specs.WellFormed.{FormedCanons, FormedPart}
 use Rattle.smith_read.specs.PartNodes.{shown_part_node}
-use Rattle.smith_read_scopes.specs.Scopes.{outer_in, own_in}
-use Rattle.smith_read_types.specs.Nodes.{shown_core_node}
-use Rattle.smith_read_types.specs.TypeNodes.{shown_type_node}
-use Rattle.smith_read.specs.PartNodes.{shown_canon_node, shown_export_node, shown_import_node}
+use Rattle.smith_scopes.specs.NodeScopes.{outer_in, own_in}
+use Rattle.smith_read.specs.Nodes.{shown_core_node}
+use Rattle.smith_read.specs.TypeNodes.{shown_type_node}
+use Rattle.smith_read.specs.PartNodes.{shown_import_node}
+use Rattle.smith_tree.specs.Shown.{shown_canon, shown_export}
 use Rattle.smith_syntax.specs.WellFormed.{FormedCores, FormedTypes}
 use Rattle.smith_tree.specs.Tree.{canons, core_types, exports, imports, tree_of, types}
 use Rattle.smith_check.specs.Preceding.{IsAfter}
 use Rattle.smith_check.specs.Tracks.{IsIn, IsWithin, path_of}
 use Rattle.smith_check.proofs.Fronts.{stop_on}
 use Rattle.smith_check.proofs.Judging.{judged_by, on_both, on_by, passed_on, refute_by, same_by, same_exit, same_step}
-use Rattle.smith_read_scopes.proofs.Lists.{head_same}
+use Rattle.smith_scopes.proofs.Lists.{head_same}
 use Rattle.smith_read.proofs.PartNodes.{shown_canons, shown_core_types, shown_custom, shown_exports, shown_imports, shown_module, shown_nested, shown_types}
 use Rattle.smith_check.proofs.PartSteps.{after_canons, after_core_types, after_custom, after_exports, after_imports, after_module, after_nested, after_types}
 use Rattle.smith_check.proofs.PartSteps.{exports_formed, imports_formed, parts_at, spaces_known, tree_upto, upto_more}
@@ -70,7 +71,7 @@ check_part-returns-in-Exports-clause-added t c = λ before k.
 
 pub check_part-returns-in-Custom-clause-added : goal.check_part-returns-in-Custom-clause-added
 check_part-returns-in-Custom-clause-added t c = λ before k.
-    rw (c.in-Custom.is, shown_custom c.in-Custom._name c.in-Custom._contents) (after_custom before _ _ k _ _)
+    rw (c.in-Custom.is, shown_custom c.in-Custom._section) (after_custom before _ _ k _ _)
 
 pub check_part-returns-in-CoreModule-clause-added : goal.check_part-returns-in-CoreModule-clause-added
 check_part-returns-in-CoreModule-clause-added t c = λ before k.
@@ -132,7 +133,7 @@ check_part-returns-in-Types-clause-place t c = λ before k.
 
 pub check_part-returns-in-Canons-clause-place : goal.check_part-returns-in-Canons-clause-place
 check_part-returns-in-Canons-clause-place t c = λ before k.
-    let fs = map shown_canon_node c.in-Canons.canons.items in
+    let fs = map shown_canon c.in-Canons.canons.items in
     rw (c.in-Canons.is, shown_canons c.in-Canons.canons)
     (in_list c.check_canons.result _ (path_of c.args.track.now) c.check_canons.new.track (canons fs) (λ n. canons (take n fs))
     (outer_in c.args.scopes.now) before (λ n. refl) (λ n. same_by (FormedCanons (take n fs)) _ _ (spaces_known before _ _ k))
@@ -148,7 +149,7 @@ check_part-returns-in-Imports-clause-place t c = λ before k.
 
 pub check_part-returns-in-Exports-clause-place : goal.check_part-returns-in-Exports-clause-place
 check_part-returns-in-Exports-clause-place t c = λ before k.
-    let es = map shown_export_node c.in-Exports.exports.items in
+    let es = map shown_export c.in-Exports.exports.items in
     rw (c.in-Exports.is, shown_exports c.in-Exports.exports)
     (in_list c.check_exports.result _ (path_of c.args.track.now) c.check_exports.new.track (exports es) (λ n. exports (take n es))
     (outer_in c.args.scopes.now) before (λ n. refl) (λ n. exports_formed before _ _ k (outer_in c.args.scopes.now) (take n es))

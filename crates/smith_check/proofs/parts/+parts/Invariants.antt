@@ -2,7 +2,7 @@ use Rattle.std.proofs.Common.{◌≡◌, [], ◌∷◌, ◌++◌, map}
 use Rattle.smith_tree.specs.Tree.{ends, tree_of}
 use Rattle.smith_tree.specs.WellFormed.{Formed}
 use Rattle.smith_read.specs.PartNodes.{shown_part_node}
-use Rattle.smith_read_scopes.specs.Scopes.{outer_in, own_in}
+use Rattle.smith_scopes.specs.NodeScopes.{outer_in, own_in}
 use Rattle.smith_check.specs.Preceding.{IsAfter}
 use Rattle.smith_check.specs.Tracks.{path_of}
 use Rattle.smith_check.proofs.Fronts.{Front}

@@ -4,8 +4,8 @@ use Rattle.smith_input.proofs.Rests.{rest_at}
 use Rattle.smith_syntax.specs.Entries.{CoreEntry}
 use Rattle.smith_syntax.specs.Scope.{Scope, with_core_type, with_core_types}
 use Rattle.smith_syntax.specs.WellFormed.{FormedCores}
-use Rattle.smith_read_types.specs.Nodes.{shown_core_node}
-use Rattle.smith_read_scopes.specs.Scopes.{own_in}
+use Rattle.smith_read.specs.Nodes.{shown_core_node}
+use Rattle.smith_scopes.specs.NodeScopes.{own_in}
 use Rattle.smith_check.proofs.Fronts.{front_first, front_next, same_row, stops_on}
 use Rattle.smith_check.proofs.Judging.{same_step}
 use Rattle.smith_check.proofs.SectionSteps.{left_from}

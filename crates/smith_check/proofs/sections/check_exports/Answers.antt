@@ -3,7 +3,7 @@ use Rattle.std.specs.Prelude.{string_bytes}
 use Rattle.smith_tree.specs.Spaces.{Spaces, after_export}
 use Rattle.smith_tree.specs.WellFormed.{export_names}
 use Rattle.smith_syntax.specs.WellFormed.{Named}
-use Rattle.smith_read.specs.PartNodes.{shown_export_node}
+use Rattle.smith_tree.specs.Shown.{shown_export}
 use Rattle.smith_check.specs.Preceding.{spaces_in}
 use Rattle.smith_check.specs.Taken.{Knows}
 use Rattle.smith_check.proofs.Fronts.{Front, front_first, front_next, stops_on}
@@ -22,7 +22,7 @@ returns-in_err-check_export-clause-judged c = λ own before k.
     (refute_by
     (λ p. (
       (s.to ((c.loop-export.invariant.left own before k).to p.0)).0,
-      named_next (λ x. x.name) shown_export_node before es at e c.loop-export-test.true c.export-item.is p.1,
+      named_next (λ x. x.name) shown_export before es at e c.loop-export-test.true c.export-item.is p.1,
     ))
     ((c.in_err-check_export.ensures {u = tt}).judged _ (c.loop-export.invariant.known before k)))
 
@@ -39,26 +39,26 @@ loop-export-preserved c =
           (exports_at es at e c.loop-export-test.true c.export-item.is (spaces_in own c.loop-export.here))
           (kept.judged _ (c.loop-export.invariant.known before k)).0);
       known = λ before k.
-          subst (Knows c.check_export.new.here.exports) (upto_next (λ x. x.name) shown_export_node before es at e c.loop-export-test.true c.export-item.is)
+          subst (Knows c.check_export.new.here.exports) (upto_next (λ x. x.name) shown_export before es at e c.loop-export-test.true c.export-item.is)
           (kept.known _ (c.loop-export.invariant.known before k));
       added = λ own.
           rw (kept.added own)
-          (sym (fold_at shown_export_node es at after_export (spaces_in own c.loop-export.here) e c.loop-export-test.true c.export-item.is)
+          (sym (fold_at shown_export es at after_export (spaces_in own c.loop-export.here) e c.loop-export-test.true c.export-item.is)
           ∙ c.loop-export.invariant.added own);
       imports = kept.imports ∙ c.loop-export.invariant.imports;
       path = c.next_entry.ensures.path ∙ c.loop-export.invariant.path;
       entry = c.next_entry.ensures.entry (omega (arith, c.loop-export.invariant.entry, c.loop-export-test.true))
           ∙ ap (λ n. n + 1) c.loop-export.invariant.entry;
       front = λ own before k.
-          let so_far = before ++ export_names (map shown_export_node (take at es)) in
+          let so_far = before ++ export_names (map shown_export (take at es)) in
           let start : Spaces × List (List ℕ) = (spaces_in own c.args.here.now, before) in
           let next = spaces_in own c.check_export.new.here in
-          let f = front_next exports_judged shown_export_node es start at (spaces_in own c.loop-export.here, so_far) e c.loop-export-test.true c.export-item.is
+          let f = front_next exports_judged shown_export es start at (spaces_in own c.loop-export.here, so_far) e c.loop-export-test.true c.export-item.is
           (c.loop-export.invariant.front own before k) (next, so_far ++ string_bytes e.name ∷ [])
-          (export_judged (spaces_in own c.loop-export.here, so_far) next (shown_export_node e) (kept.added own)
+          (export_judged (spaces_in own c.loop-export.here, so_far) next (shown_export e) (kept.added own)
           (kept.judged so_far (c.loop-export.invariant.known before k)).0) in
-          subst (λ names. Front exports_judged shown_export_node es start (at + 1) (next, names))
-          (upto_next (λ x. x.name) shown_export_node before es at e c.loop-export-test.true c.export-item.is) f;
+          subst (λ names. Front exports_judged shown_export es start (at + 1) (next, names))
+          (upto_next (λ x. x.name) shown_export before es at e c.loop-export-test.true c.export-item.is) f;
     }
 
 pub returns-in_err-check_export-clause-place : goal.returns-in_err-check_export-clause-place
@@ -66,9 +66,9 @@ returns-in_err-check_export-clause-place c = λ own before k.
     let es = c.args.exports.now in
     let at = c.loop-export.export-index in
     let e = c.export-item.result in
-    let so_far = before ++ export_names (map shown_export_node (take at es)) in
+    let so_far = before ++ export_names (map shown_export (take at es)) in
     stops_on _ _ _ _ c.from_residual.ensures.1
-    (λ other. front_first exports_judged shown_export_node es (spaces_in own c.args.here.now, before) at (spaces_in own c.loop-export.here, so_far) e
+    (λ other. front_first exports_judged shown_export es (spaces_in own c.args.here.now, before) at (spaces_in own c.loop-export.here, so_far) e
     c.loop-export-test.true c.export-item.is
     (c.loop-export.invariant.front own before k) c.loop-export.track.place.entry c.loop-export.invariant.entry
     (tt, none_more so_far (c.loop-export.invariant.known before k).named)
@@ -79,5 +79,5 @@ returns-clause-judged c = λ own before k.
     let es = c.args.exports.now in
     let at = c.loop-export.export-index in (
       (c.loop-export.invariant.left own before k).from (exports_done es at c.loop-export-test.false (spaces_in own c.loop-export.here)),
-      subst Named (upto_all (λ x. x.name) shown_export_node before es at c.loop-export-test.false) (c.loop-export.invariant.known before k).named,
+      subst Named (upto_all (λ x. x.name) shown_export before es at c.loop-export-test.false) (c.loop-export.invariant.known before k).named,
     )

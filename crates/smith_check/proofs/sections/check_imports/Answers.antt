@@ -3,7 +3,7 @@ use Rattle.std.specs.Prelude.{string_bytes}
 use Rattle.smith_tree.specs.Spaces.{after_import}
 use Rattle.smith_tree.specs.WellFormed.{FormedImport, import_names}
 use Rattle.smith_read.specs.PartNodes.{shown_import_node}
-use Rattle.smith_read_scopes.specs.Scopes.{own_in}
+use Rattle.smith_scopes.specs.NodeScopes.{own_in}
 use Rattle.smith_check.specs.Preceding.{spaces_in}
 use Rattle.smith_check.specs.Taken.{Knows}
 use Rattle.smith_check.proofs.Fronts.{Front, front_first, front_next, stops_on}

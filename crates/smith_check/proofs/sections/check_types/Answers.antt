@@ -4,8 +4,8 @@ use Rattle.smith_input.proofs.Rests.{rest_at}
 use Rattle.smith_syntax.specs.Entries.{Entry}
 use Rattle.smith_syntax.specs.Scope.{Scope, with_type, with_types}
 use Rattle.smith_syntax.specs.WellFormed.{FormedEntry, FormedTypes}
-use Rattle.smith_read_types.specs.TypeNodes.{shown_type_node}
-use Rattle.smith_read_scopes.specs.Scopes.{outer_in, own_in}
+use Rattle.smith_read.specs.TypeNodes.{shown_type_node}
+use Rattle.smith_scopes.specs.NodeScopes.{outer_in, own_in}
 use Rattle.smith_check.proofs.Fronts.{front_first, front_next, same_row, stops_on}
 use Rattle.smith_check.proofs.Judging.{same_step}
 use Rattle.smith_check.proofs.SectionSteps.{left_from}

@@ -2,8 +2,8 @@ use Rattle.std.proofs.Common.{◌≡◌, map}
 use Rattle.std.proofs.Math.ListN.{drop}
 use Rattle.smith_syntax.specs.Scope.{with_types}
 use Rattle.smith_syntax.specs.WellFormed.{FormedTypes}
-use Rattle.smith_read_types.specs.TypeNodes.{shown_type_node}
-use Rattle.smith_read_scopes.specs.Scopes.{outer_in, own_in}
+use Rattle.smith_read.specs.TypeNodes.{shown_type_node}
+use Rattle.smith_scopes.specs.NodeScopes.{outer_in, own_in}
 use Rattle.smith_check.specs.Tracks.{path_of}
 use Rattle.smith_check.proofs.Fronts.{Front}
 use Rattle.smith_check.proofs.Judging.{Same}

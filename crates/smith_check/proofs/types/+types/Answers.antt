@@ -1,8 +1,8 @@
 use Rattle.std.proofs.Common.{ap, sym, ◌∙◌}
 use Rattle.std.specs.Prelude.{option_map}
-use Rattle.smith_read_types.specs.Nodes.{shown_core_node}
-use Rattle.smith_read_types.specs.TypeNodes.{shown_type_node}
-use Rattle.smith_read_types.proofs.ShownNodes.{shown_alias, shown_core_alias, shown_instance}
+use Rattle.smith_read.specs.Nodes.{shown_core_node}
+use Rattle.smith_read.specs.TypeNodes.{shown_type_node}
+use Rattle.smith_read.proofs.ShownNodes.{shown_alias, shown_core_alias, shown_instance}
 use Rattle.smith_check.proofs.Judging.{passed_on, judged_by, refute_by}
 use Rattle.smith_check.proofs.TypeSteps.{declared_upto, named_none}
 use Rattle.smith_check.proofs.types.+types.Goals as goal

@@ -3,8 +3,8 @@ use Rattle.std.proofs.Math.ListN.{drop}
 use Rattle.smith_syntax.specs.Entries.{in_order}
 use Rattle.smith_syntax.specs.Scope.{empty_scope}
 use Rattle.smith_syntax.specs.WellFormed.{FormedDeclarations}
-use Rattle.smith_read_types.specs.TypeNodes.{shown_decl_node}
-use Rattle.smith_read_scopes.specs.Scopes.{outer_in, own_in}
+use Rattle.smith_read.specs.TypeNodes.{shown_decl_node}
+use Rattle.smith_scopes.specs.NodeScopes.{outer_in, own_in}
 use Rattle.smith_check.specs.Taken.{KnowsDeclared}
 use Rattle.smith_check.proofs.Judging.{Same}
 use Rattle.smith_check.proofs.types.+types.Given as goal

@@ -2,7 +2,7 @@ use Rattle.std.proofs.Common.{◌≡◌, map}
 use Rattle.std.proofs.Math.ListN.{drop}
 use Rattle.smith_syntax.specs.Entries.{in_order}
 use Rattle.smith_syntax.specs.WellFormed.{decl_imports}
-use Rattle.smith_read_types.specs.TypeNodes.{shown_decl_node}
+use Rattle.smith_read.specs.TypeNodes.{shown_decl_node}
 use Rattle.smith_check.proofs.types.check_no_imports.Given as goal
 
 abbrev pub invariant-loop-decl : goal.invariant-loop-decl

@@ -1,4 +1,4 @@
-use Rattle.smith_read_scopes.specs.Scopes.{own_in}
+use Rattle.smith_scopes.specs.NodeScopes.{own_in}
 use Rattle.smith_check.proofs.Judging.{judged_by}
 use Rattle.smith_check.proofs.TypeSteps.{record_formed, variant_formed}
 use Rattle.smith_check.proofs.values.check_defined.Goals as goal

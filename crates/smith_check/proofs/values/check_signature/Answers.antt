@@ -1,5 +1,5 @@
 use Rattle.std.proofs.Common.{arith}
-use Rattle.smith_read_scopes.specs.Scopes.{outer_in, own_in}
+use Rattle.smith_scopes.specs.NodeScopes.{outer_in, own_in}
 use Rattle.smith_check.proofs.Judging.{passed_on, judged_by, refute_by}
 use Rattle.smith_check.proofs.TypeSteps.{signature_formed}
 use Rattle.smith_check.proofs.values.check_signature.Goals as goal

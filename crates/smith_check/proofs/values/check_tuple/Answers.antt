@@ -1,4 +1,4 @@
-use Rattle.smith_read_scopes.specs.Scopes.{own_in}
+use Rattle.smith_scopes.specs.NodeScopes.{own_in}
 use Rattle.smith_check.proofs.Judging.{judged_by}
 use Rattle.smith_check.proofs.TypeSteps.{all_some}
 use Rattle.smith_check.proofs.values.check_tuple.Goals as goal

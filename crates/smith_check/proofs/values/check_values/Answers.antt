@@ -1,6 +1,6 @@
 use Rattle.std.proofs.Common.{subst}
 use Rattle.smith_syntax.specs.WellFormed.{FormedMaybe}
-use Rattle.smith_read_scopes.specs.Scopes.{own_in}
+use Rattle.smith_scopes.specs.NodeScopes.{own_in}
 use Rattle.smith_check.proofs.Judging.{passed_on, left_at, left_done, same_exit, same_step}
 use Rattle.smith_check.proofs.values.check_values.Goals as goal
 

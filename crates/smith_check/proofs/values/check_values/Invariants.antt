@@ -1,7 +1,7 @@
 use Rattle.std.proofs.Common.{map}
 use Rattle.std.specs.List.{AllByRecursion}
 use Rattle.smith_syntax.specs.WellFormed.{FormedMaybe}
-use Rattle.smith_read_scopes.specs.Scopes.{own_in}
+use Rattle.smith_scopes.specs.NodeScopes.{own_in}
 use Rattle.smith_check.proofs.Judging.{AllLeft, Same}
 use Rattle.smith_check.proofs.values.check_values.Given as goal
 

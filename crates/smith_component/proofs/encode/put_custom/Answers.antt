@@ -8,13 +8,13 @@ returns-in_err-start c =
     let failed = (c.in_err-start.ensures {u = tt}).begins in
     section_exit c.from_residual.result _ c.args.out.now c.begin_section.new.out 0 _ c.from_residual.ensures.1 failed.0 failed.1
 
-pub returns-in_err-put_custom_contents : goal.returns-in_err-put_custom_contents
-returns-in_err-put_custom_contents c =
-    let failed = c.in_err-put_custom_contents.ensures {u = tt} in
-    contents_exit c.from_residual-in_err-put_custom_contents.result _ c.args.out.now c.begin_section.new.out c.put_custom_contents.new.out 0 _
-    c.from_residual-in_err-put_custom_contents.ensures.1 (c.in_ok-start.ensures {u = tt}).begins failed.0 failed.1
+pub returns-in_err-put : goal.returns-in_err-put
+returns-in_err-put c =
+    let failed = c.in_err-put.ensures {u = tt} in
+    contents_exit c.from_residual-in_err-put.result _ c.args.out.now c.begin_section.new.out c.put.new.out 0 _
+    c.from_residual-in_err-put.ensures.1 (c.in_ok-start.ensures {u = tt}).begins failed.0 failed.1
 
 pub returns : goal.returns
 returns c =
     let begun = c.in_ok-start.ensures {u = tt} in
-    c.end_section.ensures c.args.out.now 0 _ (sym begun.place) (gains_then begun.begins (c.in_ok-put_custom_contents.ensures {u = tt}))
+    c.end_section.ensures c.args.out.now 0 _ (sym begun.place) (gains_then begun.begins (c.in_ok-put.ensures {u = tt}))

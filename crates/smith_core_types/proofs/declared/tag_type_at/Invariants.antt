@@ -5,7 +5,7 @@ use Rattle.smith_syntax.specs.ModuleTypes.{is_tag_type}
 use Rattle.smith_syntax.specs.Places.{places}
 use Rattle.smith_core_types.proofs.declared.tag_type_at.Given as goal
 
--- The wanted one is so many after the first of those that are left.
+-- The wanted one is so many after the first of the remaining ones.
 abbrev pub invariant-loop-i : goal.invariant-loop-i
 invariant-loop-i l = record {
   there : l.left < length (places is_tag_type l.i (shown_funcs (drop l.i l.own)));

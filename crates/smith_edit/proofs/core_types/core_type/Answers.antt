@@ -1,5 +1,5 @@
 use Rattle.std.proofs.Common.{map}
-use Rattle.smith_read_types.specs.Nodes.{shown_module_node}
+use Rattle.smith_read.specs.Nodes.{shown_module_node}
 use Rattle.smith_edit.specs.Edited.{after_module_decl, module_decl_edited}
 use Rattle.smith_edit.specs.Items.{module_decl_items}
 use Rattle.smith_edit.proofs.AfterRows.{scope_left}

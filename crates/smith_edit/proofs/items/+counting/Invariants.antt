@@ -1,6 +1,6 @@
 use Rattle.std.proofs.Common.{◌≡◌, ◌+◌, drop, map}
 use Rattle.smith_syntax.specs.Entries.{in_order}
-use Rattle.smith_read_types.specs.TypeNodes.{shown_decl_node}
+use Rattle.smith_read.specs.TypeNodes.{shown_decl_node}
 use Rattle.smith_edit.specs.Items.{decls_items}
 use Rattle.smith_edit.proofs.items.+counting.Given as goal
 

@@ -1,10 +1,12 @@
 use Rattle.std.proofs.Common.{refl}
 use Rattle.smith_tree.specs.Tree.{canons, core_types, exports, imports, types}
-use Rattle.smith_read_types.specs.Nodes.{shown_core_node}
-use Rattle.smith_read_types.specs.TypeNodes.{shown_type_node}
-use Rattle.smith_read.specs.PartNodes.{shown_canon_node, shown_export_node, shown_import_node}
+use Rattle.smith_read.specs.Nodes.{shown_core_node}
+use Rattle.smith_read.specs.TypeNodes.{shown_type_node}
+use Rattle.smith_read.specs.PartNodes.{shown_import_node}
+use Rattle.smith_tree.specs.Shown.{shown_canon, shown_export}
 use Rattle.smith_read.specs.declared.nodes.PartNode.TheVariants as node
-use Rattle.smith_places.proofs.Nodes.{front_none, front_some, shown_canons, shown_core_types, shown_exports, shown_imports, shown_types}
+use Rattle.smith_read.proofs.PartNodes.{shown_canons, shown_core_types, shown_exports, shown_imports, shown_types}
+use Rattle.smith_places.proofs.Nodes.{front_none, front_some}
 use Rattle.smith_places.proofs.entries.front_of.Goals as goal
 
 pub returns-in-CoreTypes : goal.returns-in-CoreTypes
@@ -19,11 +21,11 @@ returns-in_err-first-in-Types c = rw (c.in-Types.is, c.from_residual-in_err-firs
     (front_none shown_type_node types node.Types shown_types (λ index xs. refl) _ _ (c.in_err-first-in-Types.ensures))
 
 pub returns-in-Canons : goal.returns-in-Canons
-returns-in-Canons c = rw c.in-Canons.is (front_some shown_canon_node canons node.Canons shown_canons (λ index xs. refl) _ _ _ (c.in_ok-first-in-Canons.ensures))
+returns-in-Canons c = rw c.in-Canons.is (front_some shown_canon canons node.Canons shown_canons (λ index xs. refl) _ _ _ (c.in_ok-first-in-Canons.ensures))
 
 pub returns-in_err-first-in-Canons : goal.returns-in_err-first-in-Canons
 returns-in_err-first-in-Canons c = rw (c.in-Canons.is, c.from_residual-in_err-first-in-Canons.ensures)
-    (front_none shown_canon_node canons node.Canons shown_canons (λ index xs. refl) _ _ (c.in_err-first-in-Canons.ensures))
+    (front_none shown_canon canons node.Canons shown_canons (λ index xs. refl) _ _ (c.in_err-first-in-Canons.ensures))
 
 pub returns-in-Imports : goal.returns-in-Imports
 returns-in-Imports c = rw c.in-Imports.is
@@ -34,8 +36,8 @@ returns-in_err-first-in-Imports c = rw (c.in-Imports.is, c.from_residual-in_err-
     (front_none shown_import_node imports node.Imports shown_imports (λ index xs. refl) _ _ (c.in_err-first-in-Imports.ensures))
 
 pub returns : goal.returns
-returns c = rw c.in-Exports.is (front_some shown_export_node exports node.Exports shown_exports (λ index xs. refl) _ _ _ (c.in_ok-first-in-Exports.ensures))
+returns c = rw c.in-Exports.is (front_some shown_export exports node.Exports shown_exports (λ index xs. refl) _ _ _ (c.in_ok-first-in-Exports.ensures))
 
 pub returns-in_err-first-in-Exports : goal.returns-in_err-first-in-Exports
 returns-in_err-first-in-Exports c = rw (c.in-Exports.is, c.from_residual-in_err-first-in-Exports.ensures)
-    (front_none shown_export_node exports node.Exports shown_exports (λ index xs. refl) _ _ (c.in_err-first-in-Exports.ensures))
+    (front_none shown_export exports node.Exports shown_exports (λ index xs. refl) _ _ (c.in_err-first-in-Exports.ensures))

@@ -1,4 +1,4 @@
-use Rattle.smith_read_types.proofs.Digits.{passes}
+use Rattle.smith_read.proofs.Digits.{passes}
 use Rattle.smith_places.proofs.Skipping.{is_done, skips, stops}
 use Rattle.smith_places.proofs.sections.behind.Goals as goal
 

@@ -1,6 +1,6 @@
 use Rattle.std.proofs.Common.{arith, rules, ap, ◌≡◌, ◌∙◌, ◌<◌, length, ◌++◌, ◌∷◌, [], map}
 use Rattle.std.proofs.lemmas.List.{map_push}
-use Rattle.smith_read_types.proofs.Digits.{passes, fails}
+use Rattle.smith_read.proofs.Digits.{passes, fails}
 use Rattle.smith_read.specs.PartNodes.{shown_part_node}
 use Rattle.smith_read.proofs.Depth.{parts_next, parts_stop, parts_done, parts_left}
 use Rattle.smith_read.proofs.parts.+reading.Goals.{parts_of-else-loop-test, parts_of-then-loop-test+then-is_empty}

@@ -1,10 +1,8 @@
-use Rattle.smith_read.specs.PartNodes.{shown_tree}
-use Rattle.smith_reduce.proofs.Scripts.{refusal_decides, script_decides}
+use Rattle.std.proofs.Common.{rules}
 use Rattle.smith_reduce.proofs.steps.has_script.Goals as goal
 
-pub returns-in-Ok : goal.returns-in-Ok
-returns-in-Ok c = script_decides c.args.config.now (shown_tree c.args.component.now) c.args.bytes.now c.in-Ok._script.items c.requires c.in-Ok.ensures.answered
+pub returns-in-Some : goal.returns-in-Some
+returns-in-Some c = (λ is. (c.in-Some._script.items, rw c.in-Some.is at c.in_ok-_script.ensures), λ has. cc)
 
-pub returns-in-Err : goal.returns-in-Err
-returns-in-Err c = refusal_decides c.args.config.now (shown_tree c.args.component.now) c.args.bytes.now c.in-Err.error c.refused.result c.requires
-    c.in-Err.ensures.refuses c.refused.ensures
+pub returns-in-None : goal.returns-in-None
+returns-in-None c = (λ is. absurd (cc), λ has. absurd ((rw c.in-None.is at c.in_ok-_script.ensures) has.0 has.1))

@@ -30,11 +30,11 @@ returns-in-Err-clause-refuses c =
     let why = rw c.new-left.ensures at c.in-Err.ensures.refuses in
     IfOk-weaker c.refused.result _ _ (λ is h other t spells given. h.1 (
     given_or_memory c.args.config.now t c.args.input.now c.args.bytes.now spells given c.in-Err.error _ why
-    )) c.refused.ensures.not_given
+    )) c.refused.ensures
 
 pub returns-in-Err-clause-bytes : goal.returns-in-Err-clause-bytes
 returns-in-Err-clause-bytes c = are_bytes c.args.input.now (λ i. omega (arith, c.type_inv.input i))
 
 pub returns-in-Err-clause-offset : goal.returns-in-Err-clause-offset
 returns-in-Err-clause-offset c =
-    IfOk-weaker c.refused.result _ _ (λ is h. subst (DiffersWithin c.args.bytes.now) (sym h.0) tt) c.refused.ensures.not_given
+    IfOk-weaker c.refused.result _ _ (λ is h. subst (DiffersWithin c.args.bytes.now) (sym h.0) tt) c.refused.ensures

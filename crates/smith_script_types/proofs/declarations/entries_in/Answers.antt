@@ -1,5 +1,5 @@
 use Rattle.std.proofs.Common.{arith}
-use Rattle.smith_read_scopes.specs.Scope.{shown_marked}
+use Rattle.smith_scopes.specs.Nodes.{shown_marked}
 use Rattle.smith_tree.proofs.Aliases.{length-aliases}
 use Rattle.smith_script_types.proofs.declarations.entries_in.Goals as goal
 

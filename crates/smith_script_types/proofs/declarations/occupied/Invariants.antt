@@ -1,5 +1,5 @@
 use Rattle.std.proofs.Common.{◌≡◌, ◌∷◌, ◌+◌, take}
-use Rattle.smith_read_scopes.specs.Scopes.{outer_marked_in, own_marked_in}
+use Rattle.smith_scopes.specs.NodeScopes.{outer_marked_in, own_marked_in}
 use Rattle.smith_syntax.specs.Places.{places}
 use Rattle.smith_tree.specs.TypeOffers.{is_occupied}
 use Rattle.smith_script_types.proofs.declarations.occupied.Given as goal

@@ -1,6 +1,6 @@
 use Rattle.std.proofs.Common.{sym}
 use Rattle.std.proofs.lemmas.List.{length-map, take-map}
-use Rattle.smith_read_types.specs.Nodes.{shown_module_node}
+use Rattle.smith_read.specs.Nodes.{shown_module_node}
 use Rattle.smith_script_types.proofs.module_fronts.in_front.Goals as goal
 
 pub returns : goal.returns

@@ -1,16 +1,16 @@
 use Rattle.std.proofs.Common.{◌≡◌, ◌∷◌, ◌≤◌, ◌-◌, drop, map}
 use Rattle.smith_syntax.specs.Entries.{in_order}
 use Rattle.smith_syntax.specs.Marked.{empty_marked}
-use Rattle.smith_read_scopes.specs.Scopes.{outer_marked_in, own_marked_in}
-use Rattle.smith_read_types.specs.TypeNodes.{shown_decl_node}
+use Rattle.smith_scopes.specs.NodeScopes.{outer_marked_in, own_marked_in}
+use Rattle.smith_read.specs.TypeNodes.{shown_decl_node}
 use Rattle.smith_tree.specs.TypeScript.{none_taken, script_decls}
 use Rattle.smith_script_core.proofs.Saying.{Towards}
 use Rattle.smith_script_types.specs.Declaring.{taken_in}
 use Rattle.smith_script_types.proofs.Decls.{cost_from, scope_after}
 use Rattle.smith_script_types.proofs.types.+types.Given as goal
 
-abbrev pub invariant-put_decls-loop-decl : goal.invariant-put_decls-loop-decl
-invariant-put_decls-loop-decl l = record {
+abbrev pub invariant-say_decls-loop-decl : goal.invariant-say_decls-loop-decl
+invariant-say_decls-loop-decl l = record {
   few_imports : l.here.imports ≤ l.decl-index;
   few_exports : l.here.exports ≤ l.decl-index;
   importing : l.here.importing ≡ l.fn.start.importing;

@@ -11,7 +11,7 @@ use Rattle.smith_syntax.specs.Signature.{named}
 use Rattle.smith_syntax.specs.declared.types.ComponentValType.{ComponentValType}
 use Rattle.smith_types.proofs.canonical.flat_params.Goals as goal
 
--- each parameter is a scalar where all are
+-- each parameter is a scalar if all are
 some_at : (xs : List (String Global × ComponentValType)) (i : ℕ) (p : String Global × ComponentValType)
     → list_all (λ (q : Field). is_some (flat_value q.1)) (map named xs) ≡ true → i < length xs → p ≡ get_or xs i p → is_some (flat_value p.1) ≡ true
 some_at xs i p all l at = by_test (is_some (flat_value p.1)) refl

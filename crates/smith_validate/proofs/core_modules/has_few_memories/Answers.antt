@@ -1,7 +1,7 @@
 use Rattle.std.proofs.Common.{◌≡◌, true, false, refl, sym, subst, ◌∙◌}
 use Rattle.std.proofs.lemmas.Option.{MatchOption-at_none, MatchOption-at_some}
-use Rattle.smith_validity.specs.CoreModules.{HasFewMemories}
-use Rattle.smith_validity.proofs.CoreModules.{few_after, few_first, few_module, few_next, few_none, few_other, few_sections}
+use Rattle.smith_tree.specs.CoreModules.{HasFewMemories}
+use Rattle.smith_tree.proofs.CoreModules.{few_after, few_first, few_module, few_next, few_none, few_other, few_sections}
 use Rattle.smith_validate.proofs.core_modules.has_few_memories.Goals as goal
 
 pub returns-in_default : goal.returns-in_default

@@ -1,6 +1,6 @@
 use Rattle.std.proofs.Common.{◌↔◌, length}
-use Rattle.smith_validity.specs.CoreModules.{HasFewMemories}
-use Rattle.smith_validity.proofs.CoreModules.{FewIn}
+use Rattle.smith_tree.specs.CoreModules.{HasFewMemories}
+use Rattle.smith_tree.proofs.CoreModules.{FewIn}
 use Rattle.smith_validate.proofs.core_modules.has_few_memories.Given as goal
 
 abbrev pub invariant-loop-id : goal.invariant-loop-id

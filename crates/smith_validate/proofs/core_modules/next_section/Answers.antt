@@ -1,6 +1,6 @@
 use Rattle.std.proofs.Common.{Some, sym, subst, ◌∙◌, ap}
 use Rattle.std.proofs.lemmas.List.{nil_from_length}
-use Rattle.smith_read_types.specs.Reading.{frame_at}
+use Rattle.smith_read.specs.Reading.{frame_at}
 use Rattle.smith_validate.specs.CoreModules.{HasNoSection}
 use Rattle.smith_validate.proofs.CoreModules.{a_section, no_section, no_section_at_end, shorter, unread}
 use Rattle.smith_validate.proofs.core_modules.next_section.Goals as goal

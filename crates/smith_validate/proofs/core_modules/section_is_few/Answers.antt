@@ -1,5 +1,5 @@
 use Rattle.std.proofs.Common.{refl}
-use Rattle.smith_read_types.specs.Reading.{u_at}
+use Rattle.smith_read.specs.Reading.{u_at}
 use Rattle.smith_validate.proofs.CoreModules.{counts_are_few, counts_none, unread}
 use Rattle.smith_validate.proofs.core_modules.section_is_few.Goals as goal
 

@@ -1,6 +1,6 @@
 use Rattle.std.proofs.Common.{ap, sym, ◌∙◌}
-use Rattle.smith_validity.specs.Bodies.{core_facts}
-use Rattle.smith_read_types.specs.Nodes.{shown_core_node}
+use Rattle.smith_tree.specs.Bodies.{core_facts}
+use Rattle.smith_read.specs.Nodes.{shown_core_node}
 use Rattle.smith_validate.specs.Kept.{kept_core}
 use Rattle.smith_validate.specs.declared.facts.CoreFacts.TheVariants as core
 use Rattle.smith_validate.proofs.Judging.{passed_on}

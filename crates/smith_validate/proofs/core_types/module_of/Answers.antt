@@ -1,5 +1,5 @@
 use Rattle.std.proofs.Common.{map}
-use Rattle.smith_read_types.specs.Nodes.{shown_module_node}
+use Rattle.smith_read.specs.Nodes.{shown_module_node}
 use Rattle.smith_validate.specs.Modules.{entries_in}
 use Rattle.smith_validate.proofs.Judging.{passed_on}
 use Rattle.smith_validate.proofs.ModuleSteps.{left_all, left_at, left_end, left_exit, left_more, left_none, size_none}

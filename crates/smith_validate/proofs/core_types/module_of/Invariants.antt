@@ -1,5 +1,5 @@
 use Rattle.std.proofs.Common.{◌≡◌}
-use Rattle.smith_validity.specs.Facts.{FactScope}
+use Rattle.smith_tree.specs.Facts.{FactScope}
 use Rattle.smith_validate.specs.Kept.{kept_in, kept_of}
 use Rattle.smith_validate.specs.Modules.{entries_in}
 use Rattle.smith_validate.proofs.ModuleSteps.{LeftFrom}

@@ -1,6 +1,6 @@
 use Rattle.std.proofs.Common.{◌≡◌, ◌+◌, map, refl, ◌∙◌, true, ap, arith, sym}
 use Rattle.std.proofs.Math.ListN.{drop}
-use Rattle.smith_read.specs.PartNodes.{shown_export_node}
+use Rattle.smith_tree.specs.Shown.{shown_export}
 use Rattle.smith_validate.proofs.Judging.{passed_on}
 use Rattle.smith_validate.proofs.PartRows.{OpenAt, exports_row}
 use Rattle.smith_validate.proofs.PlaceSteps.{stop_on}
@@ -17,9 +17,9 @@ loop-export-init c = record {
   path = refl;
   entry = c.requires;
   outer = refl;
-  left = λ s b outer names table h. row_all (exports_row outer) (s, b) (map shown_export_node c.args.exports.now)
+  left = λ s b outer names table h. row_all (exports_row outer) (s, b) (map shown_export c.args.exports.now)
       (OpenAt outer names table c.args.known.now c.args.here.now) h;
-  exact = λ s b outer named table h f. exact_all (exports_row outer) usual_exports (s, b) (map shown_export_node c.args.exports.now)
+  exact = λ s b outer named table h f. exact_all (exports_row outer) usual_exports (s, b) (map shown_export c.args.exports.now)
       (λ at. IsBodyExactly true c.args.known.now c.args.here.now.body at.1 outer named table × (c.args.here.now.functions.items ≡ at.0.functions)) (h, f) tt;
 }
 
@@ -36,12 +36,12 @@ loop-export-preserved c =
           let xs = c.args.exports.now in
           let i = c.loop-export.export-index in
           let x = c.export-item.result in
-          let l = row_at (exports_row outer) shown_export_node (s, b) xs
+          let l = row_at (exports_row outer) shown_export (s, b) xs
           (OpenAt outer names table c.loop-export.known c.loop-export.here) i x c.loop-export-test.true
           c.export-item.is
           (c.loop-export.invariant.left s b outer names table h) in
-          row_more (exports_row outer) (s, b) (map shown_export_node xs) (OpenAt outer names table c.loop-export.known c.loop-export.here) (shown_export_node x)
-          (map shown_export_node (drop (i + 1) xs)) l
+          row_more (exports_row outer) (s, b) (map shown_export xs) (OpenAt outer names table c.loop-export.known c.loop-export.here) (shown_export x)
+          (map shown_export (drop (i + 1) xs)) l
           (OpenAt outer names table c.export_one.new.known c.export_one.new.here) (done.judged l.at.0 l.at.1 outer names table l.is)
           (done.added l.at.0 l.at.1 outer names table l.is);
       exact = λ s b outer named table h f.
@@ -49,10 +49,10 @@ loop-export-preserved c =
           let x = c.export-item.result in
           let T : At → Type 0 = λ at. IsBodyExactly true c.loop-export.known c.loop-export.here.body at.1 outer named table
           × (c.loop-export.here.functions.items ≡ at.0.functions) in
-          let l = exact_at (exports_row outer) usual_exports shown_export_node (s, b) xs T c.loop-export.export-index x c.loop-export-test.true
+          let l = exact_at (exports_row outer) usual_exports shown_export (s, b) xs T c.loop-export.export-index x c.loop-export-test.true
           c.export-item.is (c.loop-export.invariant.exact s b outer named table h f) in
-          exact_next (exports_row outer) usual_exports (s, b) (map shown_export_node xs) T (shown_export_node x)
-          (map shown_export_node (drop (c.loop-export.export-index + 1) xs)) l
+          exact_next (exports_row outer) usual_exports (s, b) (map shown_export xs) T (shown_export x)
+          (map shown_export (drop (c.loop-export.export-index + 1) xs)) l
           (λ at. IsBodyExactly true c.export_one.new.known c.export_one.new.here.body at.1 outer named table
           × (c.export_one.new.here.functions.items ≡ at.0.functions))
           (done.exact l.at.0 l.at.1 outer named table l.is.0 l.is.1, done.functions l.at.0 l.is.1) tt;
@@ -63,25 +63,25 @@ returns-in_err-export_one-clause-judged c = λ s b outer names table h.
     let xs = c.args.exports.now in
     let i = c.loop-export.export-index in
     let x = c.export-item.result in
-    let l = row_at (exports_row outer) shown_export_node (s, b) xs (OpenAt outer names table c.loop-export.known c.loop-export.here) i x c.loop-export-test.true
+    let l = row_at (exports_row outer) shown_export (s, b) xs (OpenAt outer names table c.loop-export.known c.loop-export.here) i x c.loop-export-test.true
     c.export-item.is
     (c.loop-export.invariant.left s b outer names table h) in
     passed_on _ _ c.from_residual.ensures.1
-    (row_exit (exports_row outer) (s, b) (map shown_export_node xs) (OpenAt outer names table c.loop-export.known c.loop-export.here) (shown_export_node x)
-    (map shown_export_node (drop (i + 1) xs)) l
+    (row_exit (exports_row outer) (s, b) (map shown_export xs) (OpenAt outer names table c.loop-export.known c.loop-export.here) (shown_export x)
+    (map shown_export (drop (i + 1) xs)) l
     ((c.in_err-export_one.ensures {u = tt}).judged l.at.0 l.at.1 outer names table l.is))
 
 pub returns-clause-judged : goal.returns-clause-judged
 returns-clause-judged c = λ s b outer names table h.
-    row_valid (exports_row outer) (s, b) (map shown_export_node c.args.exports.now) (OpenAt outer names table c.loop-export.known c.loop-export.here)
-    (row_last (exports_row outer) shown_export_node (s, b) c.args.exports.now (OpenAt outer names table c.loop-export.known c.loop-export.here)
+    row_valid (exports_row outer) (s, b) (map shown_export c.args.exports.now) (OpenAt outer names table c.loop-export.known c.loop-export.here)
+    (row_last (exports_row outer) shown_export (s, b) c.args.exports.now (OpenAt outer names table c.loop-export.known c.loop-export.here)
     c.loop-export.export-index c.loop-export-test.false
     (c.loop-export.invariant.left s b outer names table h))
 
 pub returns-clause-added : goal.returns-clause-added
 returns-clause-added c = λ s b outer names table h.
-    row_after (exports_row outer) (s, b) (map shown_export_node c.args.exports.now) (OpenAt outer names table c.loop-export.known c.loop-export.here)
-    (row_last (exports_row outer) shown_export_node (s, b) c.args.exports.now (OpenAt outer names table c.loop-export.known c.loop-export.here)
+    row_after (exports_row outer) (s, b) (map shown_export c.args.exports.now) (OpenAt outer names table c.loop-export.known c.loop-export.here)
+    (row_last (exports_row outer) shown_export (s, b) c.args.exports.now (OpenAt outer names table c.loop-export.known c.loop-export.here)
     c.loop-export.export-index c.loop-export-test.false
     (c.loop-export.invariant.left s b outer names table h)) refl
 
@@ -94,11 +94,11 @@ returns-in_err-export_one-clause-refused c = λ s b outer named table h f.
     let x = c.export-item.result in
     let T : At → Type 0 = λ at. IsBodyExactly true c.loop-export.known c.loop-export.here.body at.1 outer named table
     × (c.loop-export.here.functions.items ≡ at.0.functions) in
-    let l = exact_at (exports_row outer) usual_exports shown_export_node (s, b) xs T c.loop-export.export-index x c.loop-export-test.true
+    let l = exact_at (exports_row outer) usual_exports shown_export (s, b) xs T c.loop-export.export-index x c.loop-export-test.true
     c.export-item.is (c.loop-export.invariant.exact s b outer named table h f) in
     refused_on _ _ c.from_residual.ensures.1
-    (λ e. exact_exit (exports_row outer) usual_exports (s, b) (map shown_export_node xs) T (shown_export_node x)
-    (map shown_export_node (drop (c.loop-export.export-index + 1) xs)) l
+    (λ e. exact_exit (exports_row outer) usual_exports (s, b) (map shown_export xs) T (shown_export x)
+    (map shown_export (drop (c.loop-export.export-index + 1) xs)) l
     ((c.in_err-export_one.ensures {u = tt}).refused l.at.0 l.at.1 outer named table l.is.0 l.is.1 e))
 
 pub returns-clause-exact : goal.returns-clause-exact
@@ -106,8 +106,8 @@ returns-clause-exact c = λ s b outer named table h f.
     let xs = c.args.exports.now in
     let T : At → Type 0 = λ at. IsBodyExactly true c.loop-export.known c.loop-export.here.body at.1 outer named table
     × (c.loop-export.here.functions.items ≡ at.0.functions) in
-    (exact_after (exports_row outer) usual_exports (s, b) (map shown_export_node xs) T
-    (exact_last (exports_row outer) usual_exports shown_export_node (s, b) xs T c.loop-export.export-index c.loop-export-test.false
+    (exact_after (exports_row outer) usual_exports (s, b) (map shown_export xs) T
+    (exact_last (exports_row outer) usual_exports shown_export (s, b) xs T c.loop-export.export-index c.loop-export-test.false
     (c.loop-export.invariant.exact s b outer named table h f)) refl).0
 
 pub returns-in_err-export_one-clause-place : goal.returns-in_err-export_one-clause-place
@@ -116,12 +116,12 @@ returns-in_err-export_one-clause-place c = λ s b outer names table h.
     let i = c.loop-export.export-index in
     let x = c.export-item.result in
     let T = OpenAt outer names table c.loop-export.known c.loop-export.here in
-    let l = row_at (exports_row outer) shown_export_node (s, b) xs T i x c.loop-export-test.true c.export-item.is
+    let l = row_at (exports_row outer) shown_export (s, b) xs T i x c.loop-export-test.true c.export-item.is
     (c.loop-export.invariant.left s b outer names table h) in
     stop_on _ _ _ c.from_residual.ensures.1
-    (λ other. row_stops (exports_row outer) (s, b) (map shown_export_node xs) T (shown_export_node x) (map shown_export_node (drop (i + 1) xs)) l
+    (λ other. row_stops (exports_row outer) (s, b) (map shown_export xs) T (shown_export x) (map shown_export (drop (i + 1) xs)) l
     c.loop-export.track.place.entry
-    (c.loop-export.invariant.entry ∙ sym (row_count (exports_row outer) shown_export_node (s, b) xs T i x c.loop-export-test.true l))
+    (c.loop-export.invariant.entry ∙ sym (row_count (exports_row outer) shown_export (s, b) xs T i x c.loop-export-test.true l))
     ((c.in_err-export_one.ensures {u = tt}).judged l.at.0 l.at.1 outer names table l.is))
 
 pub returns-clause-path : goal.returns-clause-path
@@ -134,10 +134,10 @@ returns-in_err-export_one-clause-unnamed c = λ s b outer named table h f.
     let x = c.export-item.result in
     let T : At → Type 0 = λ at. IsBodyExactly true c.loop-export.known c.loop-export.here.body at.1 outer named table
     × (c.loop-export.here.functions.items ≡ at.0.functions) in
-    let l = exact_at (exports_row outer) usual_exports shown_export_node (s, b) xs T i x c.loop-export-test.true c.export-item.is
+    let l = exact_at (exports_row outer) usual_exports shown_export (s, b) xs T i x c.loop-export-test.true c.export-item.is
     (c.loop-export.invariant.exact s b outer named table h f) in
     refused_on _ _ c.from_residual.ensures.1
-    (λ e. exact_stops (exports_row outer) usual_exports (s, b) (map shown_export_node xs) T (shown_export_node x)
-    (map shown_export_node (drop (i + 1) xs)) l c.loop-export.track.place.entry
-    (c.loop-export.invariant.entry ∙ sym (exact_count (exports_row outer) usual_exports shown_export_node (s, b) xs T i x c.loop-export-test.true l))
+    (λ e. exact_stops (exports_row outer) usual_exports (s, b) (map shown_export xs) T (shown_export x)
+    (map shown_export (drop (i + 1) xs)) l c.loop-export.track.place.entry
+    (c.loop-export.invariant.entry ∙ sym (exact_count (exports_row outer) usual_exports shown_export (s, b) xs T i x c.loop-export-test.true l))
     ((c.in_err-export_one.ensures {u = tt}).refused l.at.0 l.at.1 outer named table l.is.0 l.is.1 e))

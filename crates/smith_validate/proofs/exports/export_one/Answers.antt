@@ -1,9 +1,9 @@
 use Rattle.std.proofs.Common.{true, ◌≡◌, ◌∷◌, [], ap, sym, ◌∙◌, subst, fold, ◌++◌}
 use Rattle.std.specs.Prelude.{slice_get}
-use Rattle.smith_read.specs.PartNodes.{shown_export_node}
-use Rattle.smith_validity.specs.Bodies.{after_export}
-use Rattle.smith_validity.specs.Demands.{everything}
-use Rattle.smith_validity.specs.Validates.{ValidExports}
+use Rattle.smith_tree.specs.Shown.{shown_export}
+use Rattle.smith_tree.specs.Bodies.{after_export}
+use Rattle.smith_tree.specs.Demands.{everything}
+use Rattle.smith_tree.specs.Validates.{ValidExports}
 use Rattle.smith_validate.specs.Bodies.{IsBody}
 use Rattle.smith_validate.proofs.Judging.{passed_on, refute_by, refuted_at}
 use Rattle.smith_validate.proofs.PartRows.{one_function, one_reference}
@@ -11,7 +11,7 @@ use Rattle.smith_validate.proofs.exports.export_one.Goals as goal
 
 pub returns-in_err-add_export-clause-judged : goal.returns-in_err-add_export-clause-judged
 returns-in_err-add_export-clause-judged c = λ s b outer names table h.
-    let e = shown_export_node c.args.export.now in
+    let e = shown_export c.args.export.now in
     let found : slice_get s.functions e.func ≡ _ = ap (λ fs. slice_get fs e.func) (sym h.functions_are) ∙ sym c.in-Some.ensures in
     passed_on _ _ c.from_residual.ensures.1
     (refuted_at (λ rs d. ValidExports d rs outer b) _ _ (sym (one_reference s e c.in-Some.ty found))
@@ -19,14 +19,14 @@ returns-in_err-add_export-clause-judged c = λ s b outer names table h.
 
 pub returns-clause-judged : goal.returns-clause-judged
 returns-clause-judged c = λ s b outer names table h.
-    let e = shown_export_node c.args.export.now in
+    let e = shown_export c.args.export.now in
     let found = ap (λ fs. slice_get fs e.func) (sym h.functions_are) ∙ sym c.in-Some.ensures in
     subst (λ rs. ValidExports everything rs outer b) (sym (one_reference s e c.in-Some.ty found))
     (let j = (c.in_ok-add_export.ensures {u = tt}).judged true b outer names table h.body in (j.0, j.1, tt))
 
 pub returns-clause-added : goal.returns-clause-added
 returns-clause-added c = λ s b outer names table h.
-    let e = shown_export_node c.args.export.now in
+    let e = shown_export c.args.export.now in
     let found = ap (λ fs. slice_get fs e.func) (sym h.functions_are) ∙ sym c.in-Some.ensures in
     record {
       body =

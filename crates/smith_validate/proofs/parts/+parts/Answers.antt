@@ -2,23 +2,24 @@ use Rattle.std.proofs.Common.{◌+◌, ◌∷◌, ◌++◌, fold, length, map, t
 use Rattle.std.proofs.Math.ListN.{drop}
 use Rattle.smith_tree.specs.Spaces.{no_spaces}
 use Rattle.smith_tree.specs.Tree.{canons, component, core_types, ends, exports, imports, tree_of, types as types_part}
-use Rattle.smith_validity.specs.Bodies.{after_export, after_import, empty_body}
-use Rattle.smith_validity.specs.CoreModules.{HasFewMemories}
-use Rattle.smith_validity.specs.Counts.{ValidCounts, with_component, with_module}
-use Rattle.smith_validity.specs.Demands.{Keeps}
-use Rattle.smith_validity.specs.Validates.{names_of}
+use Rattle.smith_tree.specs.Bodies.{after_export, after_import, empty_body}
+use Rattle.smith_tree.specs.CoreModules.{HasFewMemories}
+use Rattle.smith_tree.specs.Counts.{ValidCounts, with_component, with_module}
+use Rattle.smith_tree.specs.Demands.{Keeps}
+use Rattle.smith_tree.specs.Validates.{names_of}
 use Rattle.smith_validate.specs.Counted.{counted}
 use Rattle.smith_read.specs.PartNodes.{shown_part_node}
 use Rattle.smith_read.proofs.PartNodes.{shown_canons, shown_core_types, shown_custom, shown_exports, shown_imports, shown_module, shown_nested, shown_types}
 use Rattle.smith_validate.specs.Instances.{IsTable}
 use Rattle.smith_validate.proofs.DeclSteps.{in_again, in_entered, last_same}
-use Rattle.smith_read_types.specs.Nodes.{shown_core_node}
-use Rattle.smith_read_types.specs.TypeNodes.{shown_type_node}
-use Rattle.smith_read.specs.PartNodes.{shown_canon_node, shown_export_node, shown_import_node}
-use Rattle.smith_validity.specs.Facts.{id_at}
-use Rattle.smith_validity.specs.Validates.{after_canon, after_cores, exported_references, imported_references}
+use Rattle.smith_read.specs.Nodes.{shown_core_node}
+use Rattle.smith_read.specs.TypeNodes.{shown_type_node}
+use Rattle.smith_read.specs.PartNodes.{shown_import_node}
+use Rattle.smith_tree.specs.Shown.{shown_canon, shown_export}
+use Rattle.smith_tree.specs.Facts.{id_at}
+use Rattle.smith_tree.specs.Validates.{after_canon, after_cores, exported_references, imported_references}
 use Rattle.smith_validate.specs.Tables.{AreExact}
-use Rattle.smith_validate.specs.Tracks.{path_of}
+use Rattle.smith_check.specs.Tracks.{path_of}
 use Rattle.smith_validate.proofs.PlaceSteps.{in_list, in_nested, in_one, in_sections, moved, one_judged, stop_by, stop_on}
 use Rattle.smith_validate.proofs.PlaceSteps.{unnamed_in_list, unnamed_in_nested, unnamed_in_sections}
 use Rattle.smith_validate.proofs.Judging.{err_by, judged_by, keeps_by, on_any, on_both, on_by, on_judged, passed_on, refused_on, refute_by}
@@ -44,7 +45,7 @@ add_part-returns-in_err-add_parts-in-Component-clause-judged t c = λ s b outer 
 
 pub add_part-returns-in-Custom-clause-added : goal.add_part-returns-in-Custom-clause-added
 add_part-returns-in-Custom-clause-added t c = λ s b outer names table h.
-    rw (c.in-Custom.is, shown_custom c.in-Custom.name c.in-Custom.contents) (open_now c.args.known.now c.args.here.now s b outer names table h)
+    rw (c.in-Custom.is, shown_custom c.in-Custom._section) (open_now c.args.known.now c.args.here.now s b outer names table h)
 
 pub add_part-returns-in-CoreModule-clause-added : goal.add_part-returns-in-CoreModule-clause-added
 add_part-returns-in-CoreModule-clause-added t c = λ s b outer names table h.
@@ -297,7 +298,7 @@ add_part-returns-in-CoreTypes-clause-exact t c = λ s b outer names named covere
 pub add_part-returns-in-Canons-clause-exact : goal.add_part-returns-in-Canons-clause-exact
 add_part-returns-in-Canons-clause-exact t c = λ s b outer names named covered table o h usual.
     let k = c.args.known.now in
-    let fs = map shown_canon_node c.in-Canons.canons.items in
+    let fs = map shown_canon c.in-Canons.canons.items in
     rw (c.in-Canons.is, shown_canons c.in-Canons.canons)
     (on_by c.add_canons.result
     (λ role. now_after true k c.add_canons.new.here.body (fold after_canon b fs) outer named (id_at (b.own ∷ outer)) table
@@ -319,7 +320,7 @@ add_part-returns-in-Exports-clause-exact t c = λ s b outer names named covered 
     rw (c.in-Exports.is, shown_exports c.in-Exports.exports)
     (on_by c.add_exports.result
     (λ n. after_none true c.add_exports.new.known c.add_exports.new.here.body
-    (fold (after_export outer) b (exported_references s (map shown_export_node c.in-Exports.exports.items))) outer named table n)
+    (fold (after_export outer) b (exported_references s (map shown_export c.in-Exports.exports.items))) outer named table n)
     (rw c.deref-in-Exports.ensures.value at (c.add_exports.ensures.exact s b outer named table h o.functions_are)))
 
 pub add_part-returns-in-Exports-clause-refused : goal.add_part-returns-in-Exports-clause-refused
@@ -362,7 +363,7 @@ add_part-returns-in-Types-clause-place t c = λ s b outer names table h.
 
 pub add_part-returns-in-Canons-clause-place : goal.add_part-returns-in-Canons-clause-place
 add_part-returns-in-Canons-clause-place t c = λ s b outer names table h.
-    let xs = map shown_canon_node c.in-Canons.canons.items in
+    let xs = map shown_canon c.in-Canons.canons.items in
     rw (c.in-Canons.is, shown_canons c.in-Canons.canons)
     (stop_by c.add_canons.result _ _
     (λ e k. in_list (path_of c.args.track.now) c.add_canons.new.track (canons xs) (λ n. canons (take n xs)) s outer b (λ n. refl) c.add_canons.ensures.path e k)
@@ -379,7 +380,7 @@ add_part-returns-in-Imports-clause-place t c = λ s b outer names table h.
 
 pub add_part-returns-in-Exports-clause-place : goal.add_part-returns-in-Exports-clause-place
 add_part-returns-in-Exports-clause-place t c = λ s b outer names table h.
-    let xs = map shown_export_node c.in-Exports.exports.items in
+    let xs = map shown_export c.in-Exports.exports.items in
     rw (c.in-Exports.is, shown_exports c.in-Exports.exports)
     (stop_by c.add_exports.result _ _
     (λ e k. in_list (path_of c.args.track.now) c.add_exports.new.track (exports xs) (λ n. exports (take n xs))
@@ -410,7 +411,7 @@ add_part-returns-in-Imports-clause-unnamed t c = λ s b outer names named covere
 
 pub add_part-returns-in-Exports-clause-unnamed : goal.add_part-returns-in-Exports-clause-unnamed
 add_part-returns-in-Exports-clause-unnamed t c = λ s b outer names named covered table o h usual.
-    let xs = map shown_export_node c.in-Exports.exports.items in
+    let xs = map shown_export c.in-Exports.exports.items in
     rw (c.in-Exports.is, shown_exports c.in-Exports.exports)
     (err_by c.add_exports.result
     (λ e k n. unnamed_in_list (path_of c.args.track.now) c.add_exports.new.track (exports xs) (λ n. exports (take n xs))

@@ -1,8 +1,8 @@
 use Rattle.std.proofs.Common.{◌+◌, ap, sym, ◌∙◌, length, subst, arith}
-use Rattle.smith_validity.specs.Bodies.{after_export, exported_facts, externs_at, reference_size}
-use Rattle.smith_validity.specs.Counts.{ValidCounts, with_export, with_type_count}
-use Rattle.smith_validity.specs.Facts.{sizes}
-use Rattle.smith_validity.specs.Validates.{names_of}
+use Rattle.smith_tree.specs.Bodies.{after_export, exported_facts, externs_at, reference_size}
+use Rattle.smith_tree.specs.Counts.{ValidCounts, with_export, with_type_count}
+use Rattle.smith_tree.specs.Facts.{sizes}
+use Rattle.smith_tree.specs.Validates.{names_of}
 use Rattle.smith_syntax.specs.Scope.{with_types}
 use Rattle.smith_validate.specs.Bodies.{IsIn, IsRole}
 use Rattle.smith_validate.specs.Counted.{counted}

@@ -1,10 +1,10 @@
 use Rattle.std.proofs.Common.{◌∷◌, ◌++◌, [], ap, sym, ◌∙◌, length, subst, true, ◌≡◌}
 use Rattle.smith_input.specs.NewNames.{is_among}
-use Rattle.smith_validity.specs.Bodies.{equal_facts, exported_facts, externs_at}
-use Rattle.smith_validity.specs.Counts.{ValidCounts, with_type_count}
-use Rattle.smith_validity.specs.Demands.{Keeps}
-use Rattle.smith_validity.specs.Facts.{id_at}
-use Rattle.smith_validity.specs.Validates.{names_of}
+use Rattle.smith_tree.specs.Bodies.{equal_facts, exported_facts, externs_at}
+use Rattle.smith_tree.specs.Counts.{ValidCounts, with_type_count}
+use Rattle.smith_tree.specs.Demands.{Keeps}
+use Rattle.smith_tree.specs.Facts.{id_at}
+use Rattle.smith_tree.specs.Validates.{names_of}
 use Rattle.smith_validate.specs.Counted.{counted}
 use Rattle.smith_validate.specs.Instances.{IsKept}
 use Rattle.smith_validate.specs.Marks.{named_facts}

@@ -1,7 +1,7 @@
 use Rattle.std.proofs.Common.{◌+◌, ap, sym, ◌∙◌, subst, arith}
-use Rattle.smith_validity.specs.Bodies.{after_import, reference_size}
-use Rattle.smith_validity.specs.Counts.{ValidCounts, with_import}
-use Rattle.smith_validity.specs.Facts.{sizes}
+use Rattle.smith_tree.specs.Bodies.{after_import, reference_size}
+use Rattle.smith_tree.specs.Counts.{ValidCounts, with_import}
+use Rattle.smith_tree.specs.Facts.{sizes}
 use Rattle.smith_validate.specs.Bodies.{IsRole}
 use Rattle.smith_validate.specs.Counted.{counted}
 use Rattle.smith_validate.proofs.Judging.{judged_by, keeps_by, on_any, on_judged}

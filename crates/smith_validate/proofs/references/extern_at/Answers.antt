@@ -1,5 +1,5 @@
 use Rattle.std.proofs.Common.{[], ◌∷◌}
-use Rattle.smith_validity.specs.Facts.{id_at}
+use Rattle.smith_tree.specs.Facts.{id_at}
 use Rattle.smith_validate.proofs.references.extern_at.Goals as goal
 
 pub returns-in-Func-clause-found : goal.returns-in-Func-clause-found

@@ -1,8 +1,8 @@
 use Rattle.std.proofs.Common.{◌∷◌, ◌++◌, ◌+◌, ap, refl, ◌∙◌, sym, subst}
-use Rattle.smith_validity.specs.Bodies.{after_export, externs_at}
-use Rattle.smith_validity.specs.Validates.{exported, names_of}
+use Rattle.smith_tree.specs.Bodies.{after_export, externs_at}
+use Rattle.smith_tree.specs.Validates.{exported, names_of}
 use Rattle.smith_validate.specs.Externs.{IsAsked, with_exports}
-use Rattle.smith_validity.specs.Facts.{id_at}
+use Rattle.smith_tree.specs.Facts.{id_at}
 use Rattle.smith_validate.specs.Tables.{names_in}
 use Rattle.smith_validate.proofs.Exporting.{exports_push_exactly, named_for, piece_none, piece_some, place_long, role_exported_none}
 use Rattle.smith_validate.proofs.Judging.{err_by, on_all, on_by}

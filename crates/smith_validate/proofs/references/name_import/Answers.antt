@@ -1,8 +1,8 @@
 use Rattle.std.proofs.Common.{◌∷◌, ◌++◌, refl}
-use Rattle.smith_validity.specs.Bodies.{after_import, externs_at}
-use Rattle.smith_validity.specs.Validates.{names_of}
+use Rattle.smith_tree.specs.Bodies.{after_import, externs_at}
+use Rattle.smith_tree.specs.Validates.{names_of}
 use Rattle.smith_validate.specs.Externs.{with_imports}
-use Rattle.smith_validity.specs.Facts.{id_at}
+use Rattle.smith_tree.specs.Facts.{id_at}
 use Rattle.smith_validate.specs.Tables.{names_in}
 use Rattle.smith_validate.proofs.Exporting.{named_for, piece_none, piece_some, role_imported_none}
 use Rattle.smith_validate.proofs.Judging.{on_by}

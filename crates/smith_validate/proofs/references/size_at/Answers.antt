@@ -1,6 +1,6 @@
 use Rattle.std.proofs.Common.{ap, sym, ◌∙◌}
 use Rattle.std.specs.Prelude.{slice_get}
-use Rattle.smith_validate.specs.Kept.{capped}
+use Rattle.smith_syntax.specs.Sizes.{capped}
 use Rattle.smith_validate.proofs.ScopeSteps.{size_found, size_missing}
 use Rattle.smith_validate.proofs.references.size_at.Goals as goal
 

@@ -1,7 +1,7 @@
 use Rattle.std.proofs.Common.{◌≡◌, ◌+◌, map, refl, get_or, ◌∙◌, ap, arith, sym}
 use Rattle.std.proofs.Math.ListN.{drop}
-use Rattle.smith_read.specs.PartNodes.{shown_canon_node}
-use Rattle.smith_read.specs.declared.nodes.CanonNode.TheVariants as canon
+use Rattle.smith_tree.specs.Shown.{shown_canon}
+use Rattle.smith_tree.specs.declared.entries.Func.TheVariants as canon
 use Rattle.smith_check.proofs.SectionSteps.{some_item}
 use Rattle.smith_validate.proofs.Judging.{passed_on}
 use Rattle.smith_validate.proofs.PartRows.{OpenAt, canons_row}
@@ -14,7 +14,7 @@ loop-canon-init c = record {
   path = refl;
   entry = c.requires;
   role = refl;
-  left = λ k s b outer names table h. row_all canons_row (s, b) (map shown_canon_node c.args.canons.now)
+  left = λ k s b outer names table h. row_all canons_row (s, b) (map shown_canon c.args.canons.now)
       (OpenAt outer names table k c.args.here.now) h;
 }
 
@@ -28,12 +28,12 @@ loop-canon-preserved c =
       left = λ k s b outer names table h.
           let xs = c.args.canons.now in
           let i = c.loop-canon.canon-index in
-          let x = get_or xs i (canon.Lift 0 0) in
-          let is : x ≡ get_or xs i x = some_item xs i (canon.Lift 0 0) x c.loop-canon-test.true in
-          let l = row_at canons_row shown_canon_node (s, b) xs (OpenAt outer names table k c.loop-canon.here) i x c.loop-canon-test.true is
+          let x = get_or xs i (canon.CanonLift 0 0) in
+          let is : x ≡ get_or xs i x = some_item xs i (canon.CanonLift 0 0) x c.loop-canon-test.true in
+          let l = row_at canons_row shown_canon (s, b) xs (OpenAt outer names table k c.loop-canon.here) i x c.loop-canon-test.true is
           (c.loop-canon.invariant.left k s b outer names table h) in
-          row_more canons_row (s, b) (map shown_canon_node xs) (OpenAt outer names table k c.loop-canon.here) (shown_canon_node x)
-          (map shown_canon_node (drop (i + 1) xs)) l
+          row_more canons_row (s, b) (map shown_canon xs) (OpenAt outer names table k c.loop-canon.here) (shown_canon x)
+          (map shown_canon (drop (i + 1) xs)) l
           (OpenAt outer names table k c.add_canon.new.here) (done.judged k l.at.0 l.at.1 outer names table l.is)
           (done.added k l.at.0 l.at.1 outer names table l.is);
     }
@@ -42,26 +42,26 @@ pub returns-in_err-add_canon-clause-judged : goal.returns-in_err-add_canon-claus
 returns-in_err-add_canon-clause-judged c = λ k s b outer names table h.
     let xs = c.args.canons.now in
     let i = c.loop-canon.canon-index in
-    let x = get_or xs i (canon.Lift 0 0) in
-    let is : x ≡ get_or xs i x = some_item xs i (canon.Lift 0 0) x c.loop-canon-test.true in
-    let l = row_at canons_row shown_canon_node (s, b) xs (OpenAt outer names table k c.loop-canon.here) i x c.loop-canon-test.true is
+    let x = get_or xs i (canon.CanonLift 0 0) in
+    let is : x ≡ get_or xs i x = some_item xs i (canon.CanonLift 0 0) x c.loop-canon-test.true in
+    let l = row_at canons_row shown_canon (s, b) xs (OpenAt outer names table k c.loop-canon.here) i x c.loop-canon-test.true is
     (c.loop-canon.invariant.left k s b outer names table h) in
     passed_on _ _ c.from_residual.ensures.1
-    (row_exit canons_row (s, b) (map shown_canon_node xs) (OpenAt outer names table k c.loop-canon.here) (shown_canon_node x)
-    (map shown_canon_node (drop (i + 1) xs)) l
+    (row_exit canons_row (s, b) (map shown_canon xs) (OpenAt outer names table k c.loop-canon.here) (shown_canon x)
+    (map shown_canon (drop (i + 1) xs)) l
     ((c.in_err-add_canon.ensures {u = tt}).judged k l.at.0 l.at.1 outer names table l.is))
 
 pub returns-clause-judged : goal.returns-clause-judged
 returns-clause-judged c = λ k s b outer names table h.
-    row_valid canons_row (s, b) (map shown_canon_node c.args.canons.now) (OpenAt outer names table k c.loop-canon.here)
-    (row_last canons_row shown_canon_node (s, b) c.args.canons.now
+    row_valid canons_row (s, b) (map shown_canon c.args.canons.now) (OpenAt outer names table k c.loop-canon.here)
+    (row_last canons_row shown_canon (s, b) c.args.canons.now
     (OpenAt outer names table k c.loop-canon.here) c.loop-canon.canon-index c.loop-canon-test.false
     (c.loop-canon.invariant.left k s b outer names table h))
 
 pub returns-clause-added : goal.returns-clause-added
 returns-clause-added c = λ k s b outer names table h.
-    row_after canons_row (s, b) (map shown_canon_node c.args.canons.now) (OpenAt outer names table k c.loop-canon.here)
-    (row_last canons_row shown_canon_node (s, b) c.args.canons.now
+    row_after canons_row (s, b) (map shown_canon c.args.canons.now) (OpenAt outer names table k c.loop-canon.here)
+    (row_last canons_row shown_canon (s, b) c.args.canons.now
     (OpenAt outer names table k c.loop-canon.here) c.loop-canon.canon-index c.loop-canon-test.false
     (c.loop-canon.invariant.left k s b outer names table h)) refl
 
@@ -69,13 +69,13 @@ pub returns-in_err-add_canon-clause-place : goal.returns-in_err-add_canon-clause
 returns-in_err-add_canon-clause-place c = λ k s b outer names table h.
     let xs = c.args.canons.now in
     let i = c.loop-canon.canon-index in
-    let x = get_or xs i (canon.Lift 0 0) in
-    let is : x ≡ get_or xs i x = some_item xs i (canon.Lift 0 0) x c.loop-canon-test.true in
+    let x = get_or xs i (canon.CanonLift 0 0) in
+    let is : x ≡ get_or xs i x = some_item xs i (canon.CanonLift 0 0) x c.loop-canon-test.true in
     let T = OpenAt outer names table k c.loop-canon.here in
-    let l = row_at canons_row shown_canon_node (s, b) xs T i x c.loop-canon-test.true is (c.loop-canon.invariant.left k s b outer names table h) in
+    let l = row_at canons_row shown_canon (s, b) xs T i x c.loop-canon-test.true is (c.loop-canon.invariant.left k s b outer names table h) in
     stop_on _ _ _ c.from_residual.ensures.1
-    (λ other. row_stops canons_row (s, b) (map shown_canon_node xs) T (shown_canon_node x) (map shown_canon_node (drop (i + 1) xs)) l
-    c.loop-canon.track.place.entry (c.loop-canon.invariant.entry ∙ sym (row_count canons_row shown_canon_node (s, b) xs T i x c.loop-canon-test.true l))
+    (λ other. row_stops canons_row (s, b) (map shown_canon xs) T (shown_canon x) (map shown_canon (drop (i + 1) xs)) l
+    c.loop-canon.track.place.entry (c.loop-canon.invariant.entry ∙ sym (row_count canons_row shown_canon (s, b) xs T i x c.loop-canon-test.true l))
     ((c.in_err-add_canon.ensures {u = tt}).judged k l.at.0 l.at.1 outer names table l.is))
 
 pub returns-clause-path : goal.returns-clause-path

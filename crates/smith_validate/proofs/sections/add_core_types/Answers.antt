@@ -1,6 +1,6 @@
 use Rattle.std.proofs.Common.{◌+◌, map, refl, ◌∙◌, ap, arith, sym}
 use Rattle.std.proofs.Math.ListN.{drop}
-use Rattle.smith_read_types.specs.Nodes.{shown_core_node}
+use Rattle.smith_read.specs.Nodes.{shown_core_node}
 use Rattle.smith_validate.proofs.Judging.{passed_on}
 use Rattle.smith_validate.proofs.PartRows.{BodyAt, cores_row}
 use Rattle.smith_validate.proofs.PlaceSteps.{stop_on}

@@ -1,12 +1,12 @@
 use Rattle.std.proofs.Common.{◌+◌, ◌++◌, true, map, refl, ◌∙◌, ap, arith, sym}
 use Rattle.std.proofs.Math.ListN.{drop}
-use Rattle.smith_read_types.specs.TypeNodes.{shown_type_node}
+use Rattle.smith_read.specs.TypeNodes.{shown_type_node}
 use Rattle.smith_validate.proofs.DeclSteps.{body_more, body_now}
 use Rattle.smith_validate.proofs.Judging.{passed_on}
 use Rattle.smith_validate.proofs.PartRows.{BodyNow, types_row}
 use Rattle.smith_validate.proofs.PlaceSteps.{stop_on}
 use Rattle.smith_validate.proofs.Rows.{row_after, row_all, row_at, row_count, row_exit, row_last, row_more, row_stops, row_valid}
-use Rattle.smith_validity.specs.Bodies.{Body}
+use Rattle.smith_tree.specs.Bodies.{Body}
 use Rattle.smith_validate.specs.Exact.{IsBodyExactlyAfter}
 use Rattle.smith_validate.proofs.Judging.{refused_on}
 use Rattle.smith_validate.proofs.PartsExactly.{after_more, after_none, usual_types}

@@ -1,6 +1,6 @@
 use Rattle.std.proofs.Common.{true}
-use Rattle.smith_read_types.specs.Nodes.{shown_core_node}
-use Rattle.smith_validity.specs.Bodies.{core_facts}
+use Rattle.smith_read.specs.Nodes.{shown_core_node}
+use Rattle.smith_tree.specs.Bodies.{core_facts}
 use Rattle.smith_validate.proofs.Judging.{judged_by}
 use Rattle.smith_validate.proofs.sections.declare_core_type.Goals as goal
 

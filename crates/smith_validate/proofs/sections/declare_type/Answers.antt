@@ -1,10 +1,10 @@
 use Rattle.std.proofs.Common.{◌++◌, ◌∷◌, [], true}
-use Rattle.smith_read_types.specs.TypeNodes.{shown_type_node}
-use Rattle.smith_validity.specs.Bodies.{facts, with_facts}
-use Rattle.smith_validity.specs.Facts.{id_at}
+use Rattle.smith_read.specs.TypeNodes.{shown_type_node}
+use Rattle.smith_tree.specs.Bodies.{facts, with_facts}
+use Rattle.smith_tree.specs.Facts.{id_at}
 use Rattle.smith_validate.proofs.Declaring.{body_declared_exactly}
 use Rattle.smith_validate.proofs.PartsExactly.{now_after}
-use Rattle.smith_validity.specs.Validates.{names_of}
+use Rattle.smith_tree.specs.Validates.{names_of}
 use Rattle.smith_validate.proofs.Judging.{judged_by, on_by, passed_on, refute_by}
 use Rattle.smith_validate.proofs.TypeSteps.{body_declared}
 use Rattle.smith_validate.proofs.sections.declare_type.Goals as goal

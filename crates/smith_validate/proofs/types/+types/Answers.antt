@@ -2,15 +2,15 @@ use Rattle.std.proofs.Common.{◌∷◌, ◌++◌, [], ap, refl, sym, subst, ◌
 use Rattle.std.specs.Option.{option_to_list}
 use Rattle.std.specs.Prelude.{string_bytes}
 use Rattle.smith_syntax.specs.Entries.{in_order}
-use Rattle.smith_read_types.specs.Nodes.{shown_core_node}
-use Rattle.smith_read_types.specs.TypeNodes.{shown_decl_node, shown_type_node}
-use Rattle.smith_read_types.proofs.ShownNodes.{shown_alias, shown_component, shown_core, shown_core_alias, shown_declared, shown_export, shown_function}
-use Rattle.smith_read_types.proofs.ShownNodes.{shown_import, shown_instance, shown_values}
-use Rattle.smith_validity.specs.Bodies.{after_decls, core_facts, empty_body, facts, named_in, with_core_facts, with_facts}
+use Rattle.smith_read.specs.Nodes.{shown_core_node}
+use Rattle.smith_read.specs.TypeNodes.{shown_decl_node, shown_type_node}
+use Rattle.smith_read.proofs.ShownNodes.{shown_alias, shown_component, shown_core, shown_core_alias, shown_declared, shown_export, shown_function}
+use Rattle.smith_read.proofs.ShownNodes.{shown_import, shown_instance, shown_values}
+use Rattle.smith_tree.specs.Bodies.{after_decls, core_facts, empty_body, facts, named_in, with_core_facts, with_facts}
 use Rattle.smith_syntax.specs.Shown.{shown_defined}
-use Rattle.smith_validity.specs.Facts.{id_at, members}
-use Rattle.smith_validity.specs.Sizes.{signature_members}
-use Rattle.smith_validity.specs.Validates.{names_of}
+use Rattle.smith_tree.specs.Facts.{id_at, members}
+use Rattle.smith_tree.specs.Sizes.{signature_members}
+use Rattle.smith_tree.specs.Validates.{names_of}
 use Rattle.smith_syntax.specs.Entries.{component_type, defined, function, instance_type}
 use Rattle.smith_validate.specs.Exact.{IsKeptExactly}
 use Rattle.smith_validate.specs.Tables.{names_in}

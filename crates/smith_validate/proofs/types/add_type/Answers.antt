@@ -1,7 +1,7 @@
 use Rattle.std.proofs.Common.{◌∷◌, [], ap, sym, ◌∙◌, subst, refl}
-use Rattle.smith_validity.specs.Bodies.{with_facts}
-use Rattle.smith_validity.specs.Counts.{ValidCounts, with_type_count}
-use Rattle.smith_validity.specs.Validates.{names_of}
+use Rattle.smith_tree.specs.Bodies.{with_facts}
+use Rattle.smith_tree.specs.Counts.{ValidCounts, with_type_count}
+use Rattle.smith_tree.specs.Validates.{names_of}
 use Rattle.smith_validate.proofs.Judging.{on_both}
 use Rattle.smith_validate.proofs.Names.{sub_same}
 use Rattle.smith_validate.proofs.Roles.{role_of}

@@ -1,7 +1,7 @@
 use Rattle.std.proofs.Common.{◌≡◌, false, sym, ap, refl, ◌∙◌, ◌∷◌, length, arith}
 use Rattle.smith_validate.specs.declared.known.Known.{Known}
 use Rattle.smith_validate.proofs.Roles.{instance_closed}
-use Rattle.smith_validity.specs.Facts.{id_at}
+use Rattle.smith_tree.specs.Facts.{id_at}
 use Rattle.smith_validate.specs.Instances.{refers_of}
 use Rattle.smith_validate.specs.Nested.{instance_plain}
 use Rattle.smith_validate.proofs.Attaining.{not_false, not_true}

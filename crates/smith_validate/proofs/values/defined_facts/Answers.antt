@@ -2,16 +2,16 @@ use Rattle.std.proofs.Common.{◌≡◌, ◌∙◌, [], ap, append-nil, refl, So
 use Rattle.std.specs.List.{flat_map}
 use Rattle.std.specs.Option.{option_to_list}
 use Rattle.std.specs.Prelude.{◌<◌}
-use Rattle.smith_validity.specs.Demands.{Keeps}
-use Rattle.smith_validity.specs.Facts.{sizes}
-use Rattle.smith_validity.specs.Sizes.{size_bound, summed}
+use Rattle.smith_tree.specs.Demands.{Keeps}
+use Rattle.smith_tree.specs.Facts.{sizes}
+use Rattle.smith_tree.specs.Sizes.{size_bound, summed}
 use Rattle.smith_syntax.specs.Shown.{shown_defined}
 use Rattle.smith_syntax.specs.declared.types.DefinedType.TheVariants as defined
-use Rattle.smith_validate.specs.Kept.{capped}
+use Rattle.smith_syntax.specs.Sizes.{capped}
 use Rattle.smith_validate.specs.Marks.{both, no_needs}
 use Rattle.smith_validate.specs.Values.{CoversValues, defined_plain, marks_from, value_marks}
 use Rattle.smith_validate.proofs.Judging.{passed_on, refuted_at}
-use Rattle.smith_validate.proofs.Sums.{case_types, field_types, tuple_types}
+use Rattle.smith_syntax.proofs.Members.{case_types, field_types, tuple_types}
 use Rattle.smith_validate.proofs.Valued.{marks_append, nominal_kept, nominal_marks, plain_kept, plain_marks}
 use Rattle.smith_validate.proofs.values.defined_facts.Goals as goal
 

@@ -2,14 +2,14 @@ use Rattle.std.proofs.Common.{◌≡◌, ◌++◌, ◌∙◌, ap, map, refl, sub
 use Rattle.std.specs.Option.{option_to_list}
 use Rattle.std.specs.Prelude.{◌<◌}
 use Rattle.smith_syntax.specs.Signature.{named}
-use Rattle.smith_validity.specs.Demands.{Keeps}
-use Rattle.smith_validity.specs.Facts.{sizes}
-use Rattle.smith_validity.specs.Sizes.{size_bound, summed}
-use Rattle.smith_validate.specs.Kept.{capped}
+use Rattle.smith_tree.specs.Demands.{Keeps}
+use Rattle.smith_tree.specs.Facts.{sizes}
+use Rattle.smith_tree.specs.Sizes.{size_bound, summed}
+use Rattle.smith_syntax.specs.Sizes.{capped}
 use Rattle.smith_validate.specs.Marks.{no_needs}
 use Rattle.smith_validate.specs.Values.{CoversValues, function_plain, marks_from}
 use Rattle.smith_validate.proofs.Judging.{passed_on, refuted_at}
-use Rattle.smith_validate.proofs.Sums.{field_types}
+use Rattle.smith_syntax.proofs.Members.{field_types}
 use Rattle.smith_validate.proofs.Valued.{plain_kept, plain_marks}
 use Rattle.smith_validate.proofs.values.function_facts.Goals as goal
 

@@ -2,8 +2,8 @@ use Rattle.std.proofs.Common.{◌+◌, ◌∙◌, ap, map, sum, take}
 use Rattle.std.proofs.lemmas.List.{take_all}
 use Rattle.std.specs.List.{flat_map}
 use Rattle.std.specs.Option.{option_to_list}
-use Rattle.smith_validity.specs.Facts.{sizes}
-use Rattle.smith_validity.specs.Sizes.{value_size}
+use Rattle.smith_tree.specs.Facts.{sizes}
+use Rattle.smith_tree.specs.Sizes.{value_size}
 use Rattle.smith_validate.specs.Marks.{no_needs}
 use Rattle.smith_validate.specs.Values.{marks_from}
 use Rattle.smith_validate.proofs.Sizes.{capped_more}

@@ -1,7 +1,7 @@
-use Rattle.smith_marks.proofs.Components.{valid_tree}
+use Rattle.smith_tree.proofs.Components.{valid_tree}
 use Rattle.smith_tree.proofs.Clear.{spells_law}
 use Rattle.smith_validate.specs.Outcome.{IsUnmet, asking}
-use Rattle.smith_validity.proofs.Weaker.{weaker_tree}
+use Rattle.smith_tree.proofs.Weaker.{weaker_tree}
 use Rattle.smith_verdict.specs.declared.validity.Validity.TheVariants as validity
 use Rattle.smith_verdict.proofs.laws.generated_components_are_valid.Goals as goal
 use Rattle.smith_verdict.proofs.WellFormed.{found_formed}

@@ -1,6 +1,6 @@
 use Rattle.std.proofs.Common.{ap, refl, subst, sym, ◌∙◌}
-use Rattle.smith_read_types.specs.TypeNodes.{shown_decl_node}
-use Rattle.smith_read_types.proofs.ShownNodes.{shown_alias, shown_core, shown_core_alias, shown_declared}
+use Rattle.smith_read.specs.TypeNodes.{shown_decl_node}
+use Rattle.smith_read.proofs.ShownNodes.{shown_alias, shown_core, shown_core_alias, shown_declared}
 use Rattle.smith_syntax.specs.WellFormed.{Named}
 use Rattle.smith_check.specs.Taken.{Knows}
 use Rattle.smith_check.proofs.Judging.{judged_by, on_by}

@@ -15,7 +15,8 @@ use Rattle.smith_component.specs.Exports.{NoExport, ReadsExport, ReadsExports}
 use Rattle.smith_component.specs.ExportsState.{ExportsState}
 use Rattle.smith_tree.specs.Open.{Open, with_inner}
 use Rattle.smith_component.specs.SectionValues.{externs_of}
-use Rattle.smith_component.specs.Shown.{shown_export, shown_sections}
+use Rattle.smith_component.specs.Shown.{shown_sections}
+use Rattle.smith_tree.specs.Shown.{shown_export}
 use Rattle.smith_component.specs.Sound.{Sound}
 use Rattle.smith_tree.specs.Spaces.{types_of}
 use Rattle.smith_component.specs.Tables.{IsTabled, Tabled}

@@ -6,7 +6,7 @@ use Rattle.smith_tree.specs.Open.{Open, items}
 use Rattle.smith_tree.specs.declared.choices.Item.TheVariants.{Finish}
 use Rattle.smith_component.proofs.builder.Progress.choose_item.Goals as goal
 
--- Where no input is left, the finish is the only choice.
+-- If no input is left, the finish is the only choice.
 finish_alone : (config : Config) (stack : Open) (b : List ℕ) → b ≡ [] → ReadsAmong (items config stack b) b Finish b
 finish_alone config stack [] e = record {
   place = 0;

@@ -19,7 +19,7 @@ use Rattle.smith_component.proofs.SectionValues.{is_tabled_added}
 use Rattle.smith_scopes.proofs.Plain.{all_back, all_front}
 use Rattle.smith_component.proofs.builder.Progress.close.Goals as goal
 
--- no component is open where none was taken
+-- no component is open if none was taken
 none_around : (xs : List OpenComponent) → length xs ≡ 0 → map (λ (c : OpenComponent). c.sections.items) xs ≡ []
 none_around [] h = refl
 none_around (x ∷ xs) h = absurd (omega arith)

@@ -7,7 +7,7 @@ use Rattle.smith_component.specs.ImportsState.{ImportsState}
 use Rattle.smith_component.specs.SectionValues.{NoImportValue, ReadsImportValue, externs_of}
 use Rattle.smith_component.proofs.builder.Progress.read_imports.Given as goal
 
--- The totals and the tables are those where the section has what was read.
+-- The totals and the tables are the ones when the section has what was read.
 abbrev pub invariant-loop-done : goal.invariant-loop-done
 invariant-loop-done l =
     let b = l.fn.self in

@@ -35,7 +35,7 @@ returns-clause-sound c = IfOk-weaker c.do_item.result _ _ (λ r d. d.sound) c.do
 pub returns-clause-refuses : goal.returns-clause-refuses
 returns-clause-refuses c = c.do_item.ensures.refuses c.args.u.now c.choose_item-item.ensures.chooses
 
--- Where no input is left, the choice is to finish.
+-- If no input is left, the choice is to finish.
 finish_chosen : (config : Config) (stack : Open) (left after : List ℕ) (item : Item) → left ≡ [] → ReadsAmong (items config stack left) left item after
     → item ≡ Finish
 finish_chosen config stack [] after item e r = only_finish r.place item r.named

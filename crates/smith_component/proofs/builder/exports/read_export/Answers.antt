@@ -12,9 +12,9 @@ use Rattle.smith_syntax.specs.Scope.{Scope}
 use Rattle.smith_syntax.specs.declared.deftype.ComponentTypeRef.TheVariants as to
 use Rattle.smith_tree.specs.TypeOffers.{has_room}
 use Rattle.smith_component.specs.Tables.{AddsFunction, IsKnown}
-use Rattle.smith_component.specs.Shown.{shown_export}
+use Rattle.smith_tree.specs.Shown.{shown_export}
 use Rattle.smith_component.specs.declared.builder.tables.Tables.{Tables}
-use Rattle.smith_component.specs.declared.component.Export.{Export}
+use Rattle.smith_tree.specs.declared.entries.Export.{Export}
 use Rattle.smith_component.proofs.ExportsState.{export_is_kept, export_is_read, known_at, known_more, no_room, none_there}
 use Rattle.smith_component.proofs.builder.exports.read_export.Goals as goal
 

@@ -7,9 +7,9 @@ use Rattle.smith_format.specs.declared.config.Config.{Config}
 use Rattle.smith_scopes.specs.Scopes.{own_marked}
 use Rattle.smith_component.specs.Exports.{NoExport, ReadsExport}
 use Rattle.smith_component.specs.ExportsState.{ExportsOne, ExportsState}
-use Rattle.smith_component.specs.Shown.{shown_export}
+use Rattle.smith_tree.specs.Shown.{shown_export}
 use Rattle.smith_tree.specs.Tree.{ExportEntry, Tree}
-use Rattle.smith_component.specs.declared.component.Export.{Export}
+use Rattle.smith_tree.specs.declared.entries.Export.{Export}
 use Rattle.smith_component.proofs.builder.exports.read_exports.Goals as goal
 
 pub loop-done-init : goal.loop-done-init

@@ -6,12 +6,12 @@ use Rattle.smith_format.specs.declared.config.Config.{Config}
 use Rattle.smith_scopes.specs.Scopes.{outer_marked, own_marked, own_scope}
 use Rattle.smith_component.specs.Exports.{NoExport, ReadsExport}
 use Rattle.smith_component.specs.ExportsState.{ExportsState}
-use Rattle.smith_component.specs.Shown.{shown_export}
+use Rattle.smith_tree.specs.Shown.{shown_export}
 use Rattle.smith_component.specs.Tables.{IsKnown}
 use Rattle.smith_tree.specs.Tree.{Tree}
 use Rattle.smith_component.proofs.builder.exports.read_exports.Given as goal
 
--- The scope and the tables are those where the section has what was read.
+-- The scope and the tables are the ones when the section has what was read.
 abbrev pub invariant-loop-done : goal.invariant-loop-done
 invariant-loop-done l =
     record {

@@ -230,7 +230,7 @@ add_function-requires-clause-few c =
     c.in-Some.ensures.reads in
     omega (arith, room.funcs, ap (λ r. length (function_of r)) c.in-Func.is, counts.ensures.funcs, c.requires.consistent.funcs)
 
--- The import is read and counted, regardless of what it is of.
+-- The import is read and counted, whatever it is of.
 imported : (c : goal.Joined-ty) (new : Tables) (ty : ComponentTypeRef) → ty ≡ c.in-Some.ty
     → Takes (scope_in (own_marked c.args.scopes.now)) c.args.tables.now c.in-Some.ty c.named_extern.new.externs new
     → (stack : Open) (before : List NamedExtern) (is : List Import)

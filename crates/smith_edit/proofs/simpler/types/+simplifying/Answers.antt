@@ -2,8 +2,8 @@ use Rattle.std.proofs.Common.{List, map, ap, refl, subst, sym, ◌∙◌}
 use Rattle.std.specs.Option.{IsSome, option_map}
 use Rattle.smith_syntax.specs.Entries.{Decl, Decls, in_order}
 use Rattle.smith_syntax.specs.WellFormed.{decl_exports, decl_imports, names}
-use Rattle.smith_read_types.specs.TypeNodes.{shown_decl_node}
-use Rattle.smith_read_types.specs.declared.nodes.DeclNode.{DeclNode}
+use Rattle.smith_read.specs.TypeNodes.{shown_decl_node}
+use Rattle.smith_read.specs.declared.type_nodes.DeclNode.{DeclNode}
 use Rattle.smith_edit.proofs.InTurn.{InRow, moved_step, seek_end, seek_step}
 use Rattle.smith_edit.proofs.SimplerRows.{decl_row}
 use Rattle.smith_edit.proofs.simpler.types.+simplifying.Goals as goal

@@ -1,6 +1,6 @@
 use Rattle.std.proofs.Common.{◌++◌}
 use Rattle.smith_syntax.specs.WellFormed.{export_of, import_of, names}
-use Rattle.smith_read_types.specs.TypeNodes.{shown_decl_node}
+use Rattle.smith_read.specs.TypeNodes.{shown_decl_node}
 use Rattle.smith_edit.proofs.DeclaredNames.{exported_step, imported_step}
 use Rattle.smith_edit.proofs.simpler.types.declared_names.Goals as goal
 

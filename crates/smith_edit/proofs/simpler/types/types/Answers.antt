@@ -1,6 +1,6 @@
 use Rattle.std.proofs.Common.{map, ap, refl, subst, sym, ◌∙◌}
 use Rattle.std.specs.Option.{IsSome, option_map}
-use Rattle.smith_read_types.specs.TypeNodes.{shown_type_node}
+use Rattle.smith_read.specs.TypeNodes.{shown_type_node}
 use Rattle.smith_edit.proofs.InTurn.{moved_step, seek_end, seek_step}
 use Rattle.smith_edit.proofs.SimplerRows.{type_row}
 use Rattle.smith_edit.proofs.simpler.types.types.Goals as goal

@@ -1,5 +1,5 @@
 use Rattle.std.proofs.Common.{◌≡◌, drop, map}
-use Rattle.smith_read_types.specs.TypeNodes.{shown_type_node}
+use Rattle.smith_read.specs.TypeNodes.{shown_type_node}
 use Rattle.smith_edit.specs.Items.{entry_items, row_items}
 use Rattle.smith_edit.specs.Search.{past}
 use Rattle.smith_edit.proofs.InTurn.{after_these, seek}

@@ -9,4 +9,4 @@ pub returns-clause-chosen : goal.returns-clause-chosen
 returns-clause-chosen c =
     let P : Contents → Type 0 =
     λ d. IfOk c.choose_equal.result (λ found. IsChosenEqual d.types c.args.func.now.value c.args.u.now found c.choose_equal.new.u) in
-    subst P (sym (last_is c.args.self.now c.self.inside.outer.items c.self.inside.inner c.self.view_is)) c.choose_equal.ensures.chosen
+    subst P (sym (last_is c.args.self.now c.self.inside.nest.outer.items c.self.inside.nest.own c.self.view_is)) c.choose_equal.ensures.chosen

@@ -6,8 +6,8 @@ returns-clause-count c =
     omega (
       arith,
       ap length c.self.view_is,
-      length-append c.self.inside.outer.items (c.self.inside.inner ∷ []),
-      c.self.inside.outer.ok.0,
+      length-append c.self.inside.nest.outer.items (c.self.inside.nest.own ∷ []),
+      c.self.inside.nest.outer.ok.0,
     )
 
 pub returns-clause-some : goal.returns-clause-some

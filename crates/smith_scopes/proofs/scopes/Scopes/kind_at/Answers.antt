@@ -1,24 +1,37 @@
-use Rattle.std.proofs.Common.{◌<◌, length, sym, ap, ◌∙◌}
+use Rattle.std.proofs.Common.{get_or, sym, ap, ◌∙◌, length, arith}
 use Rattle.std.specs.Prelude.{slice_get}
-use Rattle.std.proofs.lemmas.Option.{slice_get-get_or}
-use Rattle.smith_syntax.specs.Places.{own_of}
-use Rattle.smith_scopes.specs.Scopes.{inward, kind_places, shown_types}
-use Rattle.smith_scopes.proofs.Stack.{own_lists, own_shown}
+use Rattle.smith_format.specs.Consistency.{max_u32}
+use Rattle.smith_syntax.specs.Marked.{scope_in}
+use Rattle.smith_syntax.specs.Shown.{shown_core, shown_type}
+use Rattle.smith_scopes.specs.Scopes.{kind_places, shown_types}
+use Rattle.smith_scopes.proofs.ByKind.{few_of_kind, kind_within}
+use Rattle.smith_scopes.proofs.Chosen.{found_in_row, in_row}
 use Rattle.smith_scopes.proofs.scopes.Scopes.kind_at.Goals as goal
 
+pub offset_bounds-places-k : goal.offset_bounds-places-k
+offset_bounds-places-k c =
+    let many =
+    few_of_kind shown_type shown_core (scope_in c.last.result.now) max_u32 c.last.ensures.few c.last.ensures.few_core c.args.kind in
+    let own = ap (λ s. length (kind_places c.args.kind s)) c.last.ensures.own in
+    omega (arith, c.requires, many, own)
+
+pub bounds-places-k : goal.bounds-places-k
+bounds-places-k c = in_row _ _ (c.places.ensures.places ∙ ap (kind_places c.args.kind) c.last.ensures.own) c.args.k c.requires
+
+pub overflow_cast-result : goal.overflow_cast-result
+overflow_cast-result c =
+    let row = c.places.result.now in
+    let found = found_in_row row _ (c.places.ensures.places ∙ ap (kind_places c.args.kind) c.last.ensures.own) c.args.k c.requires in
+    let small =
+    kind_within shown_type shown_core (scope_in c.last.result.now) max_u32 c.last.ensures.few c.last.ensures.few_core c.args.kind c.args.k
+    (get_or row c.args.k 0) (ap (λ s. slice_get (kind_places c.args.kind s) c.args.k) c.last.ensures.own ∙ found) in
+    omega (arith, small)
+
 pub returns-clause-value : goal.returns-clause-value
-returns-clause-value c =
-    let own = own_shown c.args.self.now c.self.inside.outer.items c.self.inside.inner c.self.view_is in
-    let row = c.places.ensures.places ∙ ap (kind_places c.args.kind) (sym own) in
-    rw row (slice_get-get_or (kind_places c.args.kind (own_of (inward c.args.self.now))) c.args.k 0 c.requires)
+returns-clause-value c = found_in_row _ _ (c.places.ensures.places ∙ ap (kind_places c.args.kind) c.last.ensures.own) c.args.k c.requires
 
 pub returns-clause-lists : goal.returns-clause-lists
 returns-clause-lists c =
-    let before = c.self.inside.outer.items in
-    let own = own_shown c.args.self.now before c.self.inside.inner c.self.view_is in
-    let listed = own_lists c.args.self.now before c.self.inside.inner c.self.view_is in
-    let within : c.args.k < length c.places.result.now =
-    rw (c.places.ensures.places ∙ ap (kind_places c.args.kind) (sym own)) c.requires in
-    ap (λ d. slice_get (kind_places c.args.kind (shown_types d)) c.args.k) listed
-    ∙ ap (λ ps. slice_get ps c.args.k) (sym c.places.ensures.places)
-    ∙ slice_get-get_or c.places.result.now c.args.k 0 within
+    let lists = ap (λ d. slice_get (kind_places c.args.kind (shown_types d)) c.args.k) c.last.ensures.lists in
+    let own = ap (λ s. slice_get (kind_places c.args.kind s) c.args.k) c.last.ensures.own in
+    sym lists ∙ own ∙ found_in_row _ _ (c.places.ensures.places ∙ ap (kind_places c.args.kind) c.last.ensures.own) c.args.k c.requires

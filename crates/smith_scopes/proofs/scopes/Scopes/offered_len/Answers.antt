@@ -1,20 +1,17 @@
-use Rattle.std.proofs.Common.{sym, ap, ◌∙◌, length, map}
-use Rattle.std.proofs.lemmas.List.{length-map}
-use Rattle.smith_syntax.specs.Shown.{shown_type}
+use Rattle.std.proofs.Common.{◌∙◌, ap, arith, length}
+use Rattle.smith_syntax.specs.Shown.{shown_core, shown_type}
 use Rattle.smith_scopes.specs.Kept.{offered_places}
-use Rattle.smith_scopes.specs.Scopes.{shown_marked}
-use Rattle.smith_scopes.proofs.Stack.{own_marked_shown}
-use Rattle.smith_scopes.proofs.Offered.{all_offered, length-every_place}
+use Rattle.smith_scopes.proofs.Offered.{length-offered}
 use Rattle.smith_scopes.proofs.scopes.Scopes.offered_len.Goals as goal
 
-pub returns-in-None-clause-count : goal.returns-in-None-clause-count
-returns-in-None-clause-count c =
-    let inner = c.self.inside.inner in
-    let own = own_marked_shown c.args.self.now c.self.inside.outer.items inner c.self.view_is in
-    let all = c.in-None.ensures.places in
-    c.len.ensures.count ∙ sym (
-    ap (λ s. length (offered_places c.args.offer s)) own
-    ∙ (ap (λ o. length (offered_places o (shown_marked inner))) all.0
-    ∙ (ap length (all_offered inner all.1)
-    ∙ (length-every_place 0 (map shown_type inner.types) ∙ length-map inner.types shown_type)))
+pub returns-clause-count : goal.returns-clause-count
+returns-clause-count c = c.offered_len.ensures ∙ ap (λ s. length (offered_places c.args.offer s)) c.last.ensures.marked
+
+pub returns-clause-few : goal.returns-clause-few
+returns-clause-few c =
+    omega (
+      arith,
+      c.offered_len.ensures,
+      length-offered shown_type shown_core c.last.result.now c.args.offer,
+      c.last.ensures.few,
     )

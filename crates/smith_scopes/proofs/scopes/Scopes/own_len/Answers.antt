@@ -1,6 +1,6 @@
-use Rattle.std.proofs.Common.{arith}
-use Rattle.std.proofs.lemmas.Grind.{common_steps}
+use Rattle.std.proofs.Common.{ap, ◌∙◌, length}
 use Rattle.smith_scopes.proofs.scopes.Scopes.own_len.Goals as goal
 
 pub returns-clause-count : goal.returns-clause-count
-returns-clause-count c = grind (arith, common_steps)
+returns-clause-count c =
+    c.types_len.ensures.count ∙ ap (λ s. length s.types) c.last.ensures.own

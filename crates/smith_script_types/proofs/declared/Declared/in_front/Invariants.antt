@@ -1,6 +1,6 @@
 use Rattle.std.proofs.Common.{map, take}
 use Rattle.smith_syntax.specs.ModuleTypes.{declared_in}
-use Rattle.smith_read_types.specs.Nodes.{shown_module_node}
+use Rattle.smith_read.specs.Nodes.{shown_module_node}
 use Rattle.smith_script_types.specs.Tables.{Keeps}
 use Rattle.smith_script_types.proofs.declared.Declared.in_front.Given as goal
 

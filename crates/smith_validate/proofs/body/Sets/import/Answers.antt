@@ -1,5 +1,5 @@
 use Rattle.std.proofs.Common.{sym, ◌∙◌, subst}
-use Rattle.smith_validity.specs.Validates.{exported, imported}
+use Rattle.smith_tree.specs.Validates.{exported, imported}
 use Rattle.smith_validate.specs.Opening.{IsFound}
 use Rattle.smith_validate.proofs.Judging.{err_by, on_by, refuse}
 use Rattle.smith_validate.proofs.Piecing.{piece_openable}

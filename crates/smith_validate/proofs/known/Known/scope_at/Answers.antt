@@ -1,6 +1,6 @@
 use Rattle.std.proofs.Common.{◌-◌, arith, sym}
 use Rattle.smith_validate.specs.Kept.{kept_in, own_in}
-use Rattle.smith_read_scopes.proofs.Lists.{scope_found, scope_missing}
+use Rattle.smith_scopes.proofs.Lists.{scope_found, scope_missing}
 use Rattle.smith_validate.proofs.known.Known.scope_at.Goals as goal
 
 pub returns-then-count-len-clause-sizes : goal.returns-then-count-len-clause-sizes

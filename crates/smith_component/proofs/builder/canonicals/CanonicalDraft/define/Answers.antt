@@ -6,12 +6,13 @@ use Rattle.smith_scopes.proofs.Stack.{grown_marked, length-last}
 use Rattle.smith_types.specs.declared.make.externs.ExternNames.{ExternNames}
 use Rattle.smith_component.specs.Canonicals.{grown}
 use Rattle.smith_component.specs.CanonicalsState.{draft_of, growing}
-use Rattle.smith_component.specs.Shown.{shown_canon, shown_sections}
+use Rattle.smith_component.specs.Shown.{shown_sections}
+use Rattle.smith_tree.specs.Shown.{shown_canon}
 use Rattle.smith_component.specs.Tables.{AddsFunction}
 use Rattle.smith_component.specs.declared.builder.open.OpenComponent.{OpenComponent}
 use Rattle.smith_component.specs.declared.builder.tables.Tables.{Tables}
-use Rattle.smith_component.specs.declared.component.Func.{Func}
-use Rattle.smith_component.specs.declared.component.Func.TheVariants.{CanonLift}
+use Rattle.smith_tree.specs.declared.entries.Func.{Func}
+use Rattle.smith_tree.specs.declared.entries.Func.TheVariants.{CanonLift}
 use Rattle.smith_component.proofs.CanonicalsState.{define_draft, defines, front_push, front_same, shown_function, type_index}
 use Rattle.smith_component.proofs.Growth.{functions_counted}
 use Rattle.smith_component.proofs.builder.canonicals.CanonicalDraft.define.Goals as goal

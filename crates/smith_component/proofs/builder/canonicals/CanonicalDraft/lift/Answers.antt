@@ -7,7 +7,7 @@ use Rattle.smith_component.specs.Canonicals.{grown, with_defined}
 use Rattle.smith_component.specs.CanonicalsState.{CanonicalsState, draft_of}
 use Rattle.smith_component.specs.Tables.{AddsFunction}
 use Rattle.smith_component.specs.declared.builder.open.OpenComponent.{OpenComponent}
-use Rattle.smith_component.specs.declared.component.Func.TheVariants.{CanonLift}
+use Rattle.smith_tree.specs.declared.entries.Func.TheVariants.{CanonLift}
 use Rattle.smith_component.proofs.CanonicalsState.{chosen_equal, chosen_none, draft_lowered, equal_within, front_same, growing_more}
 use Rattle.smith_component.proofs.CanonicalsState.{lift_defined, lift_draft, lift_equal, lift_given_up}
 use Rattle.smith_component.proofs.Growth.{functions_counted}

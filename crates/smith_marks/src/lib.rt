@@ -1,4 +1,0 @@
-//! Laws of what is offered while components are made: what is kept of types says enough for a validator.
-#![tactic(auto)]
-
-pub mod laws;

@@ -1,3 +1,0 @@
-pub mod Marking
-pub mod Scope
-pub mod Scopes

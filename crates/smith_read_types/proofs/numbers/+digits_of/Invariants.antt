@@ -1,4 +1,0 @@
-use Rattle.smith_read_types.proofs.numbers.+digits_of.Given as goal
-
-abbrev pub decreases-digits_of : goal.decreases-digits_of
-decreases-digits_of l = l.most

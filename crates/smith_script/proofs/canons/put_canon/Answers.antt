@@ -1,8 +1,0 @@
-use Rattle.smith_script_core.proofs.Saying.{ends, gives_up, unsaid_left}
-use Rattle.smith_script.proofs.canons.put_canon.Goals as goal
-
-pub returns-in_err-put_canon_item : goal.returns-in_err-put_canon_item
-returns-in_err-put_canon_item c own = gives_up _ _ _ _ c.from_residual.ensures.1 (unsaid_left _ ((c.in_err-put_canon_item.ensures {u = tt}) own))
-
-pub returns : goal.returns
-returns c own = ends c.put_canon_rest.result _ _ ((c.in_ok-put_canon_item.ensures {u = tt}) own) (c.put_canon_rest.ensures own)

@@ -1,2 +1,0 @@
-pub mod CoreModules
-pub mod Weaker

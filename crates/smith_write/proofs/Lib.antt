@@ -1,5 +1,0 @@
-pub mod Writing
-pub mod Loops
-pub mod Sections
-pub mod TypeNodes
-pub mod PartNodes
