@@ -30,9 +30,10 @@ pub fn convert_within<R: Read, W: Write>(
     writer: &mut W,
     form: Form,
 ) -> Result<usize, WithinError>
-    ensures written { IfOk result (WritesWithin (table_view table.now) form (R.remaining reader.old) (R.remaining reader.new)
-        (W.contents writer.old) (W.contents writer.new)) }
-    ensures refused { IfErr result (IsWithinError (table_view table.now) (R.remaining reader.old) (R.remaining reader.new)) }
+    ensures written { IfOk result (WritesWithin (table_view table.now) form (R.remaining reader.old)
+        (R.remaining reader.new) (W.contents writer.old) (W.contents writer.new)) }
+    ensures refused { IfErr result
+        (IsWithinError (table_view table.now) (R.remaining reader.old) (R.remaining reader.new)) }
     ensures unread { IfErr result (λ e. IsOfLimits e → reader.new ≡ reader.old) }
     ensures unwritten { IfErr result (λ e. e ≢ WithinError.Run RunError.WriteFault → writer.new ≡ writer.old) }
     ensures too_long { IsErrOf result (WithinError.Run RunError.InputTooLong)

@@ -3,8 +3,7 @@
 use crate::FAULT;
 use crate::places::{STANDARD_INPUT, Source, print_fault, status_of_print};
 use crate::show::Shown;
-use smith_places::offset_of;
-use smith_read::{ComponentTree, read};
+use smith_read::{ComponentTree, offset_of, read};
 use smith_script::Fault;
 use smith_verdict::{Validity, Verdict, check as check_bytes, validate};
 use std::fmt;

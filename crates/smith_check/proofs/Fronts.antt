@@ -6,15 +6,12 @@ use Rattle.smith_check.specs.Tracks.{OnStop, StopsFirst}
 use Rattle.smith_check.specs.Upto.{IsFirst}
 use Rattle.smith_check.specs.declared.error.Stop.{Stop}
 use Rattle.smith_check.specs.declared.error.Stop.TheVariants.{OutOfMemory}
-use Rattle.smith_check.proofs.Judging.{Same, same_all, same_by, same_trans}
+use Rattle.smith_check.proofs.Judging.{Same, same_by, same_trans}
 
 module _ {A B S : Type 0} (F : List B → S → Type 0) (shown : A → B) (xs : List A) (start : S) where
   -- What precedes an entry holds, so that what is judged there with anything after it is that alone.
   pub record Front (i : ℕ) (here : S) : Type 0 where
     pub same : (ys : List B) → Same (F (map shown (take i xs) ++ ys) start) (F ys here)
-
-  pub front_start : Front 0 start
-  front_start = record { same = λ ys. same_all }
 
   module _ (i : ℕ) (here : S) (x : A) (h : i < length xs) (e : x ≡ get_or xs i x) (front : Front i here) where
     one_more : (ys : List B) → map shown (take i xs) ++ shown x ∷ ys ≡ map shown (take (i + 1) xs) ++ ys

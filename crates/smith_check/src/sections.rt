@@ -151,7 +151,8 @@ pub(crate) fn check_imports<'a>(
 
 fn check_export<'a>(here: &mut Open<'a>, export: &'a Export) -> Checked
     ensures judged { (before : List (List ℕ)) → Knows here.old.exports before → Judges result
-        ((export.now.func_index < length here.old.functions.items) × Named (before ++ string_bytes export.now.name ∷ [])) }
+        ((export.now.func_index < length here.old.functions.items)
+        × Named (before ++ string_bytes export.now.name ∷ [])) }
     ensures known { (before : List (List ℕ)) → Knows here.old.exports before
         → OnOk result (Knows here.new.exports (before ++ string_bytes export.now.name ∷ [])) }
     ensures added { (own : PlainScope) → OnOk result

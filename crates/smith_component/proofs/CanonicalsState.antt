@@ -58,6 +58,7 @@ use Rattle.smith_component.specs.declared.component.Section.{Section}
 use Rattle.smith_tree.specs.declared.choices.CanonItem.{CanonItem}
 use Rattle.smith_component.proofs.ReadsCanons.{canon_count, empty_count, signature_count, spaces_signature, with_signature}
 use Rattle.smith_tree.proofs.Marking.{marked_add, scope_marked}
+use Rattle.smith_component.proofs.EntriesState.{around_then}
 use Rattle.smith_component.proofs.Growth.{spaces-add, spaces_canon}
 use Rattle.smith_component.proofs.Spaces.{IsScalarFunction, all_at, equal_at, equal_own, exports_canons, exports_types}
 use Rattle.smith_component.proofs.Tables.{scalar_at, tabled_core_function, tabled_function, tabled_quiet, tabled_types}
@@ -451,8 +452,7 @@ pub drafts_none : (d : CanonicalDraft) → DraftsOn d d
 drafts_none d = record {
   draft = λ around draft. draft;
   front = front_same d.component.now d.component.now refl refl;
-  outer = refl;
-  depth = refl;
+  around = record { outer = refl; depth = refl };
 }
 
 pub loans_then : {a b c : CanonicalDraft} → SameLoans a b → SameLoans b c → SameLoans a c
@@ -467,8 +467,7 @@ pub drafts_then : {a b c : CanonicalDraft} → DraftsOn a b → DraftsOn b c →
 drafts_then {a} {b} {c} f g = record {
   draft = λ around d. g.draft around (f.draft around d);
   front = front_then a.component.now b.component.now c.component.now f.front g.front;
-  outer = g.outer ∙ f.outer;
-  depth = g.depth ∙ f.depth;
+  around = around_then f.around g.around;
 }
 
 -- A draft's names are those of its imports then.

@@ -11,6 +11,10 @@ use Rattle.smith_scopes.specs.Scopes.{AddsMarked, AddsSized, Contents, last_of, 
 use Rattle.smith_scopes.proofs.Marking.{marked_alike, sized_alike}
 use Rattle.smith_scopes.proofs.Stack.{GrownMarked, grown_marked, grown_sized, keeps_last, own_marked_last}
 use Rattle.smith_tree.specs.Marking.{with_core_entry, with_type_entry}
+use Rattle.smith_component.specs.EntriesState.{KeepsAround}
+
+pub around_then : {a b c : List Contents} → KeepsAround a b → KeepsAround b c → KeepsAround a c
+around_then f g = record { outer = g.outer ∙ f.outer; depth = g.depth ∙ f.depth }
 
 pub type_added : (old new : List Contents) (ty : DefType) (m : Mark) → AddsMarked old ty m new
     → ((own_marked old).keeps ≡ true → m ≡ mark (shown_type ty) (own_marked old) (outer_marked old))

@@ -7,6 +7,7 @@ use Rattle.smith_scopes.proofs.Stack.{length-inward_marked, split_marked}
 use Rattle.smith_tree.specs.Marking.{marked_inner}
 use Rattle.smith_component.specs.AddedSections.{Adds, AddsCanons}
 use Rattle.smith_component.specs.BuilderView.{building_of, stack_of, IsSound}
+use Rattle.smith_component.specs.EntriesState.{KeepsAround}
 use Rattle.smith_component.specs.Fills.{FillsAll}
 use Rattle.smith_tree.specs.Open.{with_inner}
 use Rattle.smith_component.specs.SectionValues.{AddsImportSection, AddsTypeSection}
@@ -40,19 +41,18 @@ grows_none b sound = record {
 -- The inner component has more sections, and what is kept beside it is theirs.
 pub grows : (b : Progress) (scopes : List Contents) (totals : TreeTotals) (inner : OpenComponent) (more : List Section) → IsSound b
     → inner.sections.items ≡ b.inner.sections.items ++ more → Sound b.config (with_inner (stack_of b) (shown_sections inner.sections.items))
-    → own_marked scopes ≡ marked_inner b.config (stack_of b).outer (shown_sections inner.sections.items) → outer_marked scopes ≡ outer_marked b.scopes
-    → length scopes ≡ length b.scopes
+    → own_marked scopes ≡ marked_inner b.config (stack_of b).outer (shown_sections inner.sections.items) → KeepsAround b.scopes scopes
     → Totalled totals (with_inner (stack_of b) (shown_sections inner.sections.items)) → IsTabled inner
     → Grows b (record b { scopes = scopes; totals = totals; inner = inner })
-grows b scopes totals inner more i items sound own outer depth totalled tabled =
-    let some : 0 < length scopes = omega (arith, depth, length-inward_marked b.scopes, ap length i.0.scopes_are) in
-    let around = outer ∙ ap (drop 1) i.0.scopes_are in
+grows b scopes totals inner more i items sound own around totalled tabled =
+    let some : 0 < length scopes = omega (arith, around.depth, length-inward_marked b.scopes, ap length i.0.scopes_are) in
+    let outer = around.outer ∙ ap (drop 1) i.0.scopes_are in
     record {
       sound = (
         record {
           sound = sound;
           scopes_are = split_marked scopes some ∙ (ap (λ s. s ∷ outer_marked scopes) own
-              ∙ ap (λ ss. marked_inner b.config (stack_of b).outer (shown_sections inner.sections.items) ∷ ss) around);
+              ∙ ap (λ ss. marked_inner b.config (stack_of b).outer (shown_sections inner.sections.items) ∷ ss) outer);
           totalled = totalled;
         },
         (tabled, i.1.1),

@@ -1,6 +1,5 @@
 -- Which refusals follow from which.
-use Rattle.std.proofs.Common.{◌≡◌, ℕ, List, refl, subst, sym}
-use Rattle.smith_core.specs.StandIn.{IsStandInRefusal}
+use Rattle.std.proofs.Common.{◌≡◌, ℕ, List, refl, subst}
 use Rattle.smith_input.specs.Choices.{ReadsAmong}
 use Rattle.smith_input.specs.declared.error.Error.{Error}
 use Rattle.smith_input.specs.declared.error.Error.TheVariants.{InconsistentLimits, MinimumNotMet, ModuleRefused, TooLong, OutOfMemory, PartsDisagree}
@@ -10,7 +9,7 @@ use Rattle.smith_component.specs.Filling.{CanFill}
 use Rattle.smith_tree.specs.Open.{Open, items}
 use Rattle.smith_component.specs.Refusals.{IsFillRefusal, IsStepRefusal, LacksOn, RefusesModuleOn, IsRefusal}
 use Rattle.smith_component.specs.Turn.{LacksAt, RefusesModuleAt}
-use Rattle.smith_tree.specs.declared.choices.Item.TheVariants.{Finish, Module}
+use Rattle.smith_tree.specs.declared.choices.Item.TheVariants.{Finish}
 use Rattle.smith_component.specs.Tables.{IsGrounded}
 use Rattle.smith_component.specs.Sound.{Sound}
 use Rattle.smith_component.proofs.Filling.{filled_surely}
@@ -25,16 +24,6 @@ module _ (config : Config) (stack : Open) (left rest : List ℕ) where
   finish_refused after choice TooLong h = absurd h
   finish_refused after choice OutOfMemory h = tt
   finish_refused after choice PartsDisagree h = absurd h
-
-  -- A core module that is refused is one that was chosen, after which nothing was read.
-  pub module_refused : (after : List ℕ) → ReadsAmong (items config stack left) left Module after → (e : Error) → IsStandInRefusal config e
-      → (e ≡ ModuleRefused → rest ≡ after) → IsStepRefusal config stack left e rest
-  module_refused after choice InconsistentLimits h same = absurd h
-  module_refused after choice MinimumNotMet h same = absurd h
-  module_refused after choice ModuleRefused h same = (subst (ReadsAmong (items config stack left) left Module) (sym (same refl)) choice, h)
-  module_refused after choice TooLong h same = absurd h
-  module_refused after choice OutOfMemory h same = tt
-  module_refused after choice PartsDisagree h same = absurd h
 
   -- What refuses a step refuses the run that leads to it.
   pub step_refused : (input : List ℕ) → IsConsistent config → (LacksAt config rest stack left → LacksOn config input rest)

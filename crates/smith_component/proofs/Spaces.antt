@@ -19,8 +19,8 @@ use Rattle.smith_tree.specs.Offers.{is_scalar_entry, is_scalar_type, scalar_func
 use Rattle.smith_component.specs.Tables.{IsGrounded}
 use Rattle.smith_tree.specs.Spaces.{Spaces, after_canon, spaces_of}
 use Rattle.smith_tree.specs.Tree.{Tree, Canon, lift, lower, types, canons, add, exports_in, exports_of, imports_in, imports_of}
-use Rattle.smith_tree.specs.WellFormed.{scope_of, HasSignature, FormedCanon, FormedCanons}
-use Rattle.smith_component.proofs.Growth.{Extends, canons_keep, extends_canon, extends_part, scope_bare}
+use Rattle.smith_tree.specs.WellFormed.{HasSignature, FormedCanon, FormedCanons}
+use Rattle.smith_component.proofs.Growth.{Extends, extends_canon, extends_part}
 use Rattle.smith_component.proofs.Tables.{all_weaker, get_longer, places_agree}
 use Rattle.smith_component.proofs.Tree.{own-add}
 use Rattle.smith_scopes.proofs.Plain.{all_both}
@@ -31,9 +31,6 @@ get_last [] x = refl
 get_last (z ∷ xs) x = get_last xs x
 
 -- A canonical section leaves the scope and the imports as they are.
-
-pub scope_canons : (t : Tree) (cs : List Canon) → scope_of (add t (canons cs)) ≡ scope_of t
-scope_canons t cs = scope_bare t (canons cs) (canons_keep (spaces_of t) cs)
 
 pub imports_canons : (t : Tree) (cs : List Canon) → imports_of (add t (canons cs)) ≡ imports_of t
 imports_canons t cs = own-add imports_in t (canons cs) ∙ append-nil (imports_of t)

@@ -3,7 +3,6 @@ use Rattle.std.proofs.Common.{◌≡◌, ℕ, List, true, sym, subst}
 use Rattle.smith_format.specs.Consistency.{IsConsistent}
 use Rattle.smith_format.specs.declared.config.Config.{Config}
 use Rattle.smith_tree.proofs.Components.{valid_tree}
-use Rattle.smith_tree.specs.Open.{root}
 use Rattle.smith_tree.specs.Readable.{CanBeGenerated}
 use Rattle.smith_tree.specs.Tree.{Tree}
 use Rattle.smith_tree.specs.Validates.{Validates}
@@ -19,9 +18,6 @@ use Rattle.smith_component.proofs.RunsReadable.{turn_readable}
 -- If components must validate, one that can be generated does.
 pub valid_generated : (config : Config) (tree : Tree) → config.must_validate ≡ true → IsConsistent config → CanBeGenerated config tree → Validates tree
 valid_generated = valid_tree
-
-pub read_root : (config : Config) → IsReadSoFar config root
-read_root config = record { readable = (tt, tt); offered = tt }
 
 -- a builder that goes on
 pub read_after : (old : Building) (left : List ℕ) (new : Building) (left2 : List ℕ) → IsReadSoFar old.config (open_of old)

@@ -1,19 +1,20 @@
 -- A canonical section as the program makes it.
-use Rattle.std.specs.Prelude.{◌≡◌, ℕ, Bool, true, false, List, [], ◌∷◌, ◌++◌, map, length, nat_lt, Some, slice_get}
+use Rattle.std.specs.Prelude.{◌≡◌, ℕ, ◌+◌, ◌≤◌, Bool, true, false, List, [], ◌∷◌, ◌++◌, map, length, nat_lt, Some, slice_get}
 use Rattle.smith_input.specs.Offers.{offers_of}
 use Rattle.smith_format.specs.CoreTypes.{Function}
-use Rattle.smith_format.specs.Consistency.{IsConsistent}
+use Rattle.smith_format.specs.Consistency.{IsConsistent, max_u32}
 use Rattle.smith_format.specs.declared.config.Config.{Config}
 use Rattle.smith_syntax.specs.Entries.{Signature, function}
 use Rattle.smith_syntax.specs.Flat.{Flattens, is_scalar}
 use Rattle.smith_syntax.specs.Scope.{Scope}
 use Rattle.smith_types.specs.Lifting.{ReadsLiftedType}
-use Rattle.smith_scopes.specs.Scopes.{Contents, outer_marked, own_marked}
-use Rattle.smith_component.specs.Canonicals.{CanonTurn, Growing, NoCanon, grown}
+use Rattle.smith_scopes.specs.Scopes.{Contents, own_marked}
+use Rattle.smith_component.specs.Canonicals.{CanonTurn, Growing, NoCanon, grown, spaces_at}
+use Rattle.smith_component.specs.EntriesState.{KeepsAround}
 use Rattle.smith_component.specs.SectionValues.{externs_of}
 use Rattle.smith_component.specs.Shown.{shown_sections}
 use Rattle.smith_tree.specs.Shown.{shown_canon}
-use Rattle.smith_component.specs.Tables.{Tabled}
+use Rattle.smith_component.specs.Tables.{Tabled, functions_at}
 use Rattle.smith_tree.specs.Marking.{marked_inner}
 use Rattle.smith_tree.specs.Tree.{Tree}
 use Rattle.smith_component.specs.declared.builder.canonicals.CanonicalDraft.{CanonicalDraft}
@@ -48,8 +49,11 @@ draft_of d = growing d.component.now d.funcs.now.items
 abbrev pub IsDraftIn : List Tree → CanonicalDraft → Type 0
 IsDraftIn around d = CanonicalsState d.config.now around d.scopes.now d.component.now d.funcs.now.items
 
-abbrev pub IsDraft : CanonicalDraft → Type 0
-IsDraft d = (around : List Tree) × IsDraftIn around d
+-- A draft that may have that many more functions.
+pub record IsDraft (more : ℕ) (d : CanonicalDraft) : Type 0 where
+  pub around : List Tree
+  pub is : IsDraftIn around d
+  pub room : functions_at (spaces_at (draft_of d)) + more ≤ max_u32
 
 -- It still borrows what it borrowed.
 pub record SameLoans (old new : CanonicalDraft) : Type 0 where
@@ -62,8 +66,7 @@ pub record SameLoans (old new : CanonicalDraft) : Type 0 where
 pub record DraftsOn (old new : CanonicalDraft) : Type 0 where
   pub draft : (around : List Tree) → IsDraftIn around old → IsDraftIn around new
   pub front : KeepsFront old.component.now new.component.now
-  pub outer : outer_marked new.scopes.now ≡ outer_marked old.scopes.now
-  pub depth : length new.scopes.now ≡ length old.scopes.now
+  pub around : KeepsAround old.scopes.now new.scopes.now
 
 -- what a turn is among, by the tables
 abbrev pub canon_items_of : Tables → List CanonItem

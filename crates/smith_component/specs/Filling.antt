@@ -1,5 +1,7 @@
 -- When what is missing of the minima can be filled, whatever the input.
-use Rattle.std.specs.Prelude.{◌≡◌, ℕ, ◌+◌, ◌-◌, ◌*◌, ◌<◌, ◌≤◌, ◌⊎◌, true, List, length}
+use Rattle.std.specs.Prelude.{◌≡◌, ℕ, ◌+◌, ◌-◌, ◌*◌, ◌<◌, ◌≤◌, ◌⊎◌, true, List, length, Result, MatchResult}
+use Rattle.smith_input.specs.declared.error.Error.{Error}
+use Rattle.smith_input.specs.declared.error.Error.TheVariants.{MinimumNotMet}
 use Rattle.smith_format.specs.declared.config.Config.{Config}
 use Rattle.smith_syntax.specs.Marks.{room_size, small_size}
 use Rattle.smith_tree.specs.Marking.{marked_inner}
@@ -8,6 +10,10 @@ use Rattle.smith_tree.specs.TypeOffers.{ref_places}
 use Rattle.smith_tree.specs.declared.choices.RefKind.TheVariants.{Func}
 use Rattle.smith_tree.specs.Spaces.{spaces_of, types_of}
 use Rattle.smith_tree.specs.Tree.{Tree, imports_of, function_count}
+
+-- There are at least that many, or a minimum is not met.
+abbrev pub IsMinimum : {T : Type 0} → Result T Error → ℕ → ℕ → Type 0
+IsMinimum result min count = MatchResult result (λ _. min ≤ count) (λ e. (e ≡ MinimumNotMet) × (count < min))
 
 -- how many imports are missing
 abbrev pub missing_imports : Config → Tree → ℕ

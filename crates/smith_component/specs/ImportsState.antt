@@ -1,7 +1,7 @@
 -- An import section as the program makes it.
-use Rattle.std.specs.Prelude.{◌≡◌, ℕ, List, ◌∷◌, [], ◌++◌, length, map, Option, Some, None}
+use Rattle.std.specs.Prelude.{◌≡◌, ℕ, List, ◌∷◌, [], ◌++◌, map, Option, Some, None}
 use Rattle.smith_format.specs.declared.config.Config.{Config}
-use Rattle.smith_scopes.specs.Scopes.{outer_marked, own_marked}
+use Rattle.smith_scopes.specs.Scopes.{own_marked}
 use Rattle.smith_syntax.specs.Marked.{Marked}
 use Rattle.smith_syntax.specs.Shown.{import_shown}
 use Rattle.smith_syntax.specs.declared.deftype.Import.{Import}
@@ -9,6 +9,7 @@ use Rattle.smith_types.specs.Declarations.{NamedExtern}
 use Rattle.smith_types.specs.MakingTypes.{HoldsExterns}
 use Rattle.smith_tree.specs.Offers.{marked_with_imports, with_imports}
 use Rattle.smith_component.specs.BuilderView.{stack_of}
+use Rattle.smith_component.specs.EntriesState.{KeepsAround}
 use Rattle.smith_tree.specs.Open.{Open}
 use Rattle.smith_component.specs.SectionValues.{NoImportValue, ReadsImportValue, extern_of, externs_of}
 use Rattle.smith_component.specs.Sound.{Totalled}
@@ -37,6 +38,5 @@ ImportsOne config stack before is own totals tables b (Some i) rest =
 -- too.
 pub record Imported (old : Progress) (is : List Import) (new : Progress) : Type 0 where
   pub only : new ≡ record old { scopes = new.scopes; totals = new.totals; inner = record old.inner { tables = new.inner.tables } }
-  pub outer : outer_marked new.scopes ≡ outer_marked old.scopes
-  pub depth : length new.scopes ≡ length old.scopes
+  pub around : KeepsAround old.scopes new.scopes
   pub counted : ImportsState old.config (stack_of old) (externs_of old.inner.sections.items) is (own_marked new.scopes) new.totals new.inner.tables

@@ -1,6 +1,7 @@
 -- Which refusal is returned.
-use Rattle.std.specs.Prelude.{◌≡◌, ℕ, ◌<◌, ◌≤◌, List, [], None, Result, IfErr, MatchResult}
+use Rattle.std.specs.Prelude.{◌≡◌, ℕ, List, None, Result, IfErr, OnOk}
 use Rattle.smith_input.specs.Choices.{ReadsAmong}
+use Rattle.smith_input.specs.Reading.{IsTail}
 use Rattle.smith_format.specs.Consistency.{IsConsistent}
 use Rattle.smith_format.specs.declared.config.Config.{Config}
 use Rattle.smith_input.specs.declared.error.Error.{Error}
@@ -8,7 +9,6 @@ use Rattle.smith_input.specs.declared.error.Error.TheVariants.{InconsistentLimit
 use Rattle.smith_tree.specs.Grammar.{component_text}
 use Rattle.smith_tree.specs.Tree.{Tree}
 use Rattle.smith_tree.specs.declared.choices.Item.{Item}
-use Rattle.smith_tree.specs.Limits.{Minima}
 use Rattle.smith_tree.specs.Open.{Open, items, root}
 use Rattle.smith_component.specs.Turn.{LacksAt, RefusesModuleAt, building}
 use Rattle.smith_component.specs.Fills.{Lacks}
@@ -32,10 +32,6 @@ IsFillRefusal config stack b ModuleRefused rest = ⊥
 IsFillRefusal config stack b TooLong rest = ⊥
 IsFillRefusal config stack b OutOfMemory rest = Unit {0}
 IsFillRefusal config stack b PartsDisagree rest = ⊥
-
--- There are at least that many, or a minimum is not met.
-abbrev pub IsMinimum : {T : Type 0} → Result T Error → ℕ → ℕ → Type 0
-IsMinimum result min count = MatchResult result (λ _. min ≤ count) (λ e. (e ≡ MinimumNotMet) × (count < min))
 
 -- A turn is refused if the inner component is to be finished and imports or functions are missing, if a core module is chosen that the
 -- limits on memories do not leave, and otherwise only when out of memory.
@@ -82,15 +78,18 @@ IsGenerateRefusal config input TooLong rest = IsConsistent config × (tree : Tre
 IsGenerateRefusal config input OutOfMemory rest = IsConsistent config
 IsGenerateRefusal config input PartsDisagree rest = ⊥
 
+-- A call that reads within limits: limits that do not fit together are refused before a byte is read, others only as Refusal says, and a tail
+-- of the bytes is left, also after a refusal.
+pub record ConsumesWithin {T : Type 0} (config : Config) (Refusal : Config → List ℕ → Error → List ℕ → Type 0) (result : Result T Error)
+    (bytes rest : List ℕ) : Type 0 where
+  pub accepts : OnOk result (IsConsistent config)
+  pub refuses : IfErr result (λ e. Refusal config bytes e rest)
+  pub unread : ¬ IsConsistent config → rest ≡ bytes
+  pub tail : IsTail rest bytes
+
 -- This item is chosen, and these bytes are left.
 abbrev pub IsChosen : Config → Open → List ℕ → Item → List ℕ → Type 0
 IsChosen config stack left chosen after = ReadsAmong (items config stack left) left chosen after
-
--- No input is left, and the root alone is open and is missing nothing.
-pub record IsReady (config : Config) (stack : Open) (left : List ℕ) : Type 0 where
-  pub empty : left ≡ []
-  pub alone : stack.outer ≡ []
-  pub enough : Minima config stack.inner
 
 -- There is no refusal.
 abbrev pub IsAnswered : {T E : Type 0} → Result T E → Type 0

@@ -1,15 +1,20 @@
 -- What a step leads to.
-use Rattle.std.specs.Prelude.{◌≡◌, ℕ, ◌⊎◌, List, [], ◌∷◌, ◌++◌, Option, Some, None, IsTrue}
+use Rattle.std.specs.Prelude.{◌≡◌, ℕ, ◌⊎◌, List, [], ◌∷◌, ◌++◌, Option, Some, None, IsTrue, Result, IfErr}
 use Rattle.smith_input.specs.Choices.{ReadsAmong}
 use Rattle.smith_format.specs.declared.config.Config.{Config}
+use Rattle.smith_input.specs.declared.error.Error.{Error}
+use Rattle.smith_input.specs.declared.error.Error.TheVariants.{MinimumNotMet}
 use Rattle.smith_tree.specs.Open.{Open, is_component_offered, is_module_offered, items}
 use Rattle.smith_component.specs.SectionValues.{AddsCoreTypeSection, AddsImportSection, AddsModule, AddsTypeSection}
 use Rattle.smith_component.specs.Turn.{Next, Turn, building, answered, Closes, Does}
 use Rattle.smith_tree.specs.Readable.{CanBeGenerated}
 use Rattle.smith_tree.specs.WellFormed.{WellFormed}
-use Rattle.smith_tree.specs.Limits.{Limits, Sized}
+use Rattle.smith_tree.specs.Limits.{Limits, Minima, Sized}
 use Rattle.smith_component.specs.Building.{Building, open_of}
 use Rattle.smith_component.specs.BuilderView.{building_of, stack_of, IsSound}
+use Rattle.smith_component.specs.Fills.{FillsAll}
+use Rattle.smith_component.specs.Filling.{CanFill}
+use Rattle.smith_component.specs.Refusals.{IsAnswered, IsStepRefusal}
 use Rattle.smith_component.specs.Shown.{shown_sections}
 use Rattle.smith_tree.specs.Tree.{Tree}
 use Rattle.smith_component.specs.declared.builder.Progress.{Progress}
@@ -130,6 +135,12 @@ pub record ClosesInner (old new : Progress) (c : Option Tree) : Type 0 where
   pub keeps : StaysWithin old.config (step_of new c)
   pub sections : ClosesSections (building_of old) (step_of new c)
 
+-- What is missing of the minima was filled on the bytes b.
+pub record FillsMinima (old : Progress) (b : List ℕ) (new : Progress) (rest : List ℕ) : Type 0 where
+  pub filled : FillsAll old.config (stack_of old) b (stack_of new).inner rest
+  pub minima : Minima old.config (stack_of new).inner
+  pub grows : Grows old new
+
 -- An item was done on the bytes b, and c is the component that it finished, if any.
 pub record DoesItem (item : Item) (old : Progress) (b : List ℕ) (new : Progress) (c : Option Tree) (rest : List ℕ) : Type 0 where
   pub does : Does old.config item (stack_of old) b (next_of (step_of new c)) rest
@@ -142,3 +153,15 @@ pub record DoesItem (item : Item) (old : Progress) (b : List ℕ) (new : Progres
 abbrev pub IsOffered : Config → Open → Item → Type 0
 IsOffered config stack chosen =
     (chosen ≡ item.Module → IsTrue (is_module_offered config stack)) × (chosen ≡ item.Component → IsTrue (is_component_offered config stack))
+
+-- No input is left, and the root alone is open and is missing nothing.
+pub record IsReady (config : Config) (stack : Open) (left : List ℕ) : Type 0 where
+  pub empty : left ≡ []
+  pub alone : stack.outer ≡ []
+  pub enough : Minima config stack.inner
+
+-- Why a step is refused, and when it is not: if it is ready, and for a minimum if what is missing can be filled.
+pub record RefusesStep {T : Type 0} (config : Config) (stack : Open) (left : List ℕ) (result : Result T Error) (left2 : List ℕ) : Type 0 where
+  pub refuses : IfErr result (λ e. IsStepRefusal config stack left e left2)
+  pub alone : IsReady config stack left → IsAnswered result
+  pub fills : CanFill config stack.outer stack.inner → IfErr result (λ e. ¬ (e ≡ MinimumNotMet))

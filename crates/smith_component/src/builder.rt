@@ -5,11 +5,10 @@ ghost use Rattle.smith_input.specs.Reading.{IsTail};
 ghost use Rattle.smith_format.specs.Consistency.{IsConsistent};
 ghost use Rattle.smith_component.specs.Building.{open_of};
 ghost use Rattle.smith_component.specs.BuilderView.{building_of, stack_of, IsSound};
-ghost use Rattle.smith_component.specs.Filling.{CanFill};
-ghost use Rattle.smith_tree.specs.Limits.{max_depth, Minima};
-ghost use Rattle.smith_component.specs.Refusals.{IsAnswered, IsChosen, IsNewRefusal, IsReady, IsRefusal, IsStepRefusal};
-ghost use Rattle.smith_component.specs.Steps.{next_of, step_of, DoesItem, IsOffered, IsStep, IsTurn, SoundUnlessDone};
-ghost use Rattle.smith_component.specs.Steps.{ValidatesIfDone};
+ghost use Rattle.smith_tree.specs.Limits.{Minima};
+ghost use Rattle.smith_component.specs.Refusals.{IsAnswered, IsChosen, IsNewRefusal, IsRefusal, IsStepRefusal};
+ghost use Rattle.smith_component.specs.Steps.{next_of, step_of, DoesItem, IsOffered, IsReady, IsStep, IsTurn};
+ghost use Rattle.smith_component.specs.Steps.{RefusesStep, SoundUnlessDone, ValidatesIfDone};
 ghost use Rattle.smith_component.specs.Runs.{Falls, RunsTo};
 ghost use Rattle.smith_tree.specs.Open.{root};
 ghost use Rattle.smith_tree.specs.declared.choices.Item.TheVariants.{Finish, Module};
@@ -182,12 +181,9 @@ impl Builder {
         // If components must validate, one that is finished does.
         ensures validates { self.config.must_validate ≡ true → IfOk result ValidatesIfDone }
         ensures accepted { IsConsistent self.config }
-        // A refusal leaves what is decided too, allocation failure aside.
-        ensures refuses { IfErr result (λ e. IsStepRefusal self.config (open_of self) u.old e u.new) }
-        // No memory is needed to finish the root if no input is left and nothing is missing.
-        ensures alone { IsReady self.config (open_of self) u.old → IsAnswered result }
-        ensures fills { CanFill self.config (open_of self).outer (open_of self).inner
-            → IfErr result (λ e. ¬ (e ≡ Error.MinimumNotMet)) }
+        // A refusal leaves what is decided too, allocation failure aside. No memory is needed to finish the root if no
+        // input is left and nothing is missing.
+        ensures refusals { RefusesStep self.config (open_of self) u.old result u.new }
         ensures tail { IsTail u.new u.old }
     {
         let mut progress = self.progress;

@@ -1,11 +1,10 @@
 //! Components and their bytes from input.
 
-ghost use Rattle.std.specs.Prelude.{◌≡◌, ℕ, List, ◌++◌, true, IfOk, IfErr, OnOk};
-ghost use Rattle.smith_input.specs.Reading.{IsTail};
+ghost use Rattle.std.specs.Prelude.{◌≡◌, ℕ, List, ◌++◌, true, IfOk, IfErr};
 ghost use Rattle.smith_format.specs.Consistency.{IsConsistent};
 ghost use Rattle.smith_tree.specs.Generates.{Generates};
 ghost use Rattle.smith_component.specs.Runs.{IsMade};
-ghost use Rattle.smith_component.specs.Refusals.{IsGenerateRefusal};
+ghost use Rattle.smith_component.specs.Refusals.{ConsumesWithin, IsGenerateRefusal};
 ghost use Rattle.smith_tree.specs.Grammar.{Spells};
 ghost use Rattle.smith_tree.specs.Script.{Within, script};
 ghost use Rattle.smith_tree.specs.Tree.{Tree};
@@ -50,10 +49,9 @@ pub fn generate(alloc: Global, config: Config, u: &mut Unstructured) -> Result<G
     // If components must validate, it does.
     ensures validates { config.must_validate ≡ true → IfOk result (λ g. Validates g.component) }
 
-    ensures accepts { OnOk result (IsConsistent config) }
-    ensures refuses { IfErr result (λ e. IsGenerateRefusal config u.old e u.new) }
-    ensures unread { ¬ IsConsistent config → u.new ≡ u.old }
-    ensures tail { IsTail u.new u.old }
+    // Only limits that fit together are accepted, and with others nothing is read. A refusal leaves a tail of the input
+    // too, and is decided, allocation failure aside.
+    ensures input { ConsumesWithin config IsGenerateRefusal result u.old u.new }
 {
     let component = Component::new(alloc, config, u)?;
     let bytes = component.written(alloc)?;

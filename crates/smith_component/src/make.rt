@@ -1,11 +1,11 @@
 //! Components from input.
 
-ghost use Rattle.std.specs.Prelude.{◌≡◌, ℕ, List, ◌+◌, ◌≤◌, ◌++◌, length, true, IfOk, IfErr, OnOk};
-ghost use Rattle.smith_input.specs.Reading.{IsTail};
+ghost use Rattle.std.specs.Prelude.{◌≡◌, ℕ, List, ◌+◌, ◌≤◌, ◌++◌, true, IfOk, IfErr};
+ghost use Rattle.smith_input.specs.Consumes.{Consumes};
 ghost use Rattle.smith_format.specs.Consistency.{IsConsistent, IsDefault};
 ghost use Rattle.smith_component.specs.Runs.{IsMade, RunsTo};
 ghost use Rattle.smith_tree.specs.Limits.{Limits, Sized};
-ghost use Rattle.smith_component.specs.Refusals.{IsRefusal};
+ghost use Rattle.smith_component.specs.Refusals.{ConsumesWithin, IsRefusal};
 ghost use Rattle.smith_tree.specs.Script.{Within, script};
 ghost use Rattle.smith_tree.specs.Tree.{Tree};
 ghost use Rattle.smith_tree.specs.WellFormed.{WellFormed};
@@ -33,14 +33,12 @@ impl Component {
             → u.old ≡ script config plan ++ rest → IfErr result (λ e. e ≡ Error.OutOfMemory) }
         // If components must validate, it does.
         ensures validates { config.must_validate ≡ true → IfOk result (λ c. Validates c) }
-        ensures accepts { OnOk result (IsConsistent config) }
-        ensures refuses { IfErr result (λ e. IsRefusal config u.old e u.new) }
         // If no import and no function is required, and the limits on memories do not cross, it fails only when out of
         // memory.
         ensures acceptance { IsConsistent config → config.min_imports ≡ 0 → config.min_funcs ≡ 0
             → config.min_memories ≤ config.max_memories → IfErr result (λ e. e ≡ Error.OutOfMemory) }
-        ensures unread { ¬ IsConsistent config → u.new ≡ u.old }
-        ensures tail { IsTail u.new u.old }
+        // Only limits that fit together are accepted, and with others nothing is read.
+        ensures input { ConsumesWithin config IsRefusal result u.old u.new }
     {
         config.check()?;
         let mut progress = Progress::new(alloc, config);
@@ -55,8 +53,7 @@ impl Component {
         ensures run { IfOk result (λ c. (config : Config) → IsDefault config → RunsTo config u.old c u.new) }
         ensures reach { (config : Config) (plan : Tree) (rest : List ℕ) → IsDefault config → Within config plan
             → u.old ≡ script config plan ++ rest → IfOk result (λ c. (c ≡ plan) × (u.new ≡ rest)) }
-        ensures memory { IfErr result (λ e. e ≡ Error.OutOfMemory) }
-        ensures tail { IsTail u.new u.old }
+        ensures input { Consumes result u.old u.new }
     {
         Component::new(alloc, Config::default(), u)
     }

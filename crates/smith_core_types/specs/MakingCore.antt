@@ -1,5 +1,5 @@
 -- A module type as the program makes it: what it keeps beside the declarations, and what one call adds.
-use Rattle.std.specs.Prelude.{◌≡◌, ℕ, ◌-◌, ◌<◌, Bool, true, false, List, [], ◌∷◌, ◌++◌, map, length, Option, Some, MatchOption}
+use Rattle.std.specs.Prelude.{◌≡◌, ℕ, ◌+◌, ◌-◌, ◌<◌, ◌≤◌, Bool, true, false, List, [], ◌∷◌, ◌++◌, map, length, Option, Some, MatchOption}
 use Rattle.std.specs.declared.alloc.Global.{Global}
 use Rattle.std.specs.declared.rc.Rc.{Rc}
 use Rattle.smith_format.specs.CoreTypes.{Function}
@@ -9,8 +9,9 @@ use Rattle.smith_format.specs.declared.types.EntityType.{EntityType}
 use Rattle.smith_format.specs.declared.types.ExportKind.{ExportKind}
 use Rattle.smith_format.specs.declared.types.ExportKind.TheVariants as kind
 use Rattle.smith_format.specs.declared.types.FuncType.{FuncType}
+use Rattle.smith_syntax.specs.CoreLimits.{CoreLimits}
 use Rattle.smith_syntax.specs.Entries.{CoreEntry, ModuleDecl}
-use Rattle.smith_core_types.specs.MadeCore.{ReadsDecl, ReadsDeclOf, ReadsEntity, ReadsImportNames, ReadsExportName, EndsModuleType}
+use Rattle.smith_core_types.specs.MadeCore.{MadeCore, ReadsDecl, ReadsDeclOf, ReadsEntity, ReadsImportNames, ReadsExportName, EndsModuleType}
 use Rattle.smith_tree.specs.CoreTypeOffers.{alias_choices, entity_kinds}
 use Rattle.smith_core_types.specs.MadeCore.{with_fuel}
 use Rattle.smith_tree.specs.CoreTypeOffers.{with_decl}
@@ -18,7 +19,8 @@ use Rattle.smith_tree.specs.CoreTypeOffers.{Declared as SoFar}
 use Rattle.smith_syntax.specs.ModuleTypes.{adds, aliased, module_export_names, is_tag_type, names_from}
 use Rattle.smith_syntax.specs.Scope.{Scope}
 use Rattle.smith_syntax.specs.Places.{places}
-use Rattle.smith_syntax.specs.Shown.{shown_decl}
+use Rattle.smith_syntax.specs.Shown.{shown_core, shown_decl}
+use Rattle.smith_syntax.specs.WellFormed.{FormedCore, core_size}
 use Rattle.smith_syntax.specs.declared.core_types.CoreType.{CoreType}
 use Rattle.smith_syntax.specs.declared.core_types.CoreType.TheVariants as core
 use Rattle.smith_syntax.specs.declared.core_types.ModuleTypeDef.{ModuleTypeDef}
@@ -92,6 +94,15 @@ KeepEach around own (d ∷ ds) = KeepsNamed around own d × KeepEach around (own
 abbrev pub KeepsAliased : List CoreEntry → CoreType → Type 0
 KeepsAliased around (core.Func f) = Unit {0}
 KeepsAliased around (core.Module m) = KeepEach around [] m.defs.items
+
+-- A core type as the bytes and the fuel say, which keeps what its aliases name: it is well formed, within the limits, and
+-- no larger than the fuel that it took.
+pub record CoreMadeToFit (config : Config) (around : Scope) (bytes : List ℕ) (fuel : ℕ) (t : CoreType) (rest : List ℕ) (left : ℕ) : Type 0 where
+  pub made : MadeCore config around bytes fuel (shown_core t) rest left
+  pub kept : KeepsAliased around.core_types t
+  pub formed : FormedCore (shown_core t) around.core_types
+  pub limits : CoreLimits config (shown_core t)
+  pub size : core_size (shown_core t) + left ≤ fuel
 
 -- the own types after declarations
 abbrev pub own_after : List CoreEntry → List Function → List ModuleDecl → List Function

@@ -3,7 +3,7 @@
 ghost use Rattle.std.specs.Prelude.{◌≡◌, ◌+◌, ◌-◌, ◌<◌, ◌≤◌, ℕ, length, slice_get, true};
 ghost use Rattle.std.specs.Prelude.{Some, OnOk, IfOk, IfErr};
 ghost use Rattle.smith_input.specs.Choices.{ReadsAmong};
-ghost use Rattle.smith_input.specs.Reading.{IsTail};
+ghost use Rattle.smith_input.specs.Consumes.{Consumes};
 ghost use Rattle.smith_format.specs.Shown.{shown_func};
 ghost use Rattle.smith_tree.specs.CoreTypeOffers.{alias_choices};
 ghost use Rattle.smith_core_types.specs.MakingCore.{AddsDecl, KeepsDeclared, choices_among, shown_funcs, so_far};
@@ -54,8 +54,7 @@ fn alias_choice(
         u.old (a.0, a.1) u.new) }
     ensures named { IfOk result (λ a.
         aliased (own_scope scopes.now).core_types (shown_funcs own.now) a.0 a.1 ≡ Some (shown_func a.2.value)) }
-    ensures memory { IfErr result (λ e. e ≡ Error.OutOfMemory) }
-    ensures tail { IsTail u.new u.old }
+    ensures input { Consumes result u.old u.new }
 {
     let around = scopes.kind_len(Kind::CoreFunc);
     let place = u.choose_index(around + own.len());
@@ -80,8 +79,7 @@ pub(crate) fn add_alias(
     ensures kept { KeepsDeclared (own_scope scopes.now).core_types declared.old
         → OnOk result (KeepsDeclared (own_scope scopes.now).core_types declared.new) }
     ensures own { OnOk result (length declared.new.own.items ≤ length declared.old.own.items + 1) }
-    ensures memory { IfErr result (λ e. e ≡ Error.OutOfMemory) }
-    ensures tail { IsTail u.new u.old }
+    ensures input { Consumes result u.old u.new }
 {
     let (count, i, ty) = alias_choice(u, scopes, &declared.own)?;
     declared.own.push(ty.clone()?)?;

@@ -1,7 +1,7 @@
 //! Core function types from the input.
 
-ghost use Rattle.std.specs.Prelude.{◌≡◌, IfOk, IfErr};
-ghost use Rattle.smith_input.specs.Reading.{IsTail};
+ghost use Rattle.std.specs.Prelude.{IfOk};
+ghost use Rattle.smith_input.specs.Consumes.{Consumes};
 ghost use Rattle.smith_format.specs.CoreReading.{ReadsFunction};
 ghost use Rattle.smith_format.specs.Limits.{configured, max_results};
 ghost use Rattle.smith_format.specs.Shown.{shown_func};
@@ -16,8 +16,7 @@ use std::rc::Rc;
 pub(crate) fn core_function(making: &Making, u: &mut Unstructured) -> Result<Rc<FuncType>, Error>
     ensures reads { IfOk result (λ t. ReadsFunction (configured making.now.config.now)
         (max_results making.now.config.now) u.old (shown_func t.value) u.new) }
-    ensures memory { IfErr result (λ e. e ≡ Error.OutOfMemory) }
-    ensures tail { IsTail u.new u.old }
+    ensures input { Consumes result u.old u.new }
 {
     let func = configured_func_type(making.alloc, u, making.config, making.valtypes)?;
     let shared = Rc::new(making.alloc, func)?;

@@ -1,18 +1,18 @@
 //! Core types from the input.
 
-ghost use Rattle.std.specs.Prelude.{◌≡◌, ◌+◌, ◌≤◌, ◌^◌, ◌++◌, ℕ, List, length, IfOk, IfErr};
-ghost use Rattle.smith_input.specs.Reading.{IsTail};
+ghost use Rattle.std.specs.Prelude.{◌≡◌, ◌+◌, ◌≤◌, ◌^◌, ◌++◌, ℕ, List, length, IfOk};
+ghost use Rattle.smith_input.specs.Consumes.{Consumes};
 ghost use Rattle.smith_format.specs.Limits.{configured};
 ghost use Rattle.smith_syntax.specs.CoreLimits.{CoreLimits};
 ghost use Rattle.smith_syntax.specs.Entries.{CoreEntry};
 ghost use Rattle.smith_tree.specs.CoreTypeScript.{script_core};
 ghost use Rattle.smith_core_types.specs.MadeCore.{MadeCore};
-ghost use Rattle.smith_core_types.specs.MakingCore.{KeepsAliased};
+ghost use Rattle.smith_core_types.specs.MakingCore.{CoreMadeToFit, KeepsAliased};
 ghost use Rattle.smith_tree.specs.CoreTypeNeeds.{core_need};
 ghost use Rattle.smith_tree.specs.ReadableCoreTypes.{IsReadableCore};
 ghost use Rattle.smith_scopes.specs.Scopes.{own_scope};
 ghost use Rattle.smith_syntax.specs.Shown.{shown_core, shown_shared_core};
-ghost use Rattle.smith_syntax.specs.WellFormed.{FormedCore, core_size};
+ghost use Rattle.smith_syntax.specs.WellFormed.{FormedCore};
 
 use crate::core_functions::core_function;
 use crate::making::Making;
@@ -34,8 +34,7 @@ fn made_core_type(
     ensures made { IfOk result (λ t. MadeCore making.now.config.now (own_scope scopes.now) u.old fuel.old
         (shown_core t) u.new fuel.new) }
     ensures kept { IfOk result (λ t. KeepsAliased (own_scope scopes.now).core_types t) }
-    ensures memory { IfErr result (λ e. e ≡ Error.OutOfMemory) }
-    ensures tail { IsTail u.new u.old }
+    ensures input { Consumes result u.old u.new }
 {
     burn(fuel);
     if *fuel == 0 {
@@ -65,20 +64,15 @@ pub fn arbitrary_core_type(
     fuel: &mut u32,
 ) -> Result<Rc<CoreType>, Error>
     requires { valtypes.now ≡ configured config.now }
-    ensures made { IfOk result (λ t. MadeCore config.now (own_scope scopes.now) u.old fuel.old (shown_shared_core t)
-        u.new fuel.new) }
-    ensures kept { IfOk result (λ t. KeepsAliased (own_scope scopes.now).core_types t.value) }
-    ensures formed { IfOk result (λ t. FormedCore (shown_shared_core t) (own_scope scopes.now).core_types) }
-    ensures limits { IfOk result (λ t. CoreLimits config.now (shown_shared_core t)) }
-    ensures size { IfOk result (λ t. core_size (shown_shared_core t) + fuel.new ≤ fuel.old) }
+    ensures made { IfOk result (λ t. CoreMadeToFit config.now (own_scope scopes.now) u.old fuel.old t.value u.new
+        fuel.new) }
     // The script of a core type whose names can be read and for which the fuel lasts produces that type.
     ensures script { (e : CoreEntry) (rest : List ℕ) → FormedCore e (own_scope scopes.now).core_types
         → CoreLimits config.now e → IsReadableCore e → core_need e ≤ fuel.old
         → length (own_scope scopes.now).core_types ≤ 2 ^ 63
         → u.old ≡ script_core config.now (own_scope scopes.now) fuel.old e ++ rest
         → IfOk result (λ t. (shown_shared_core t ≡ e) × (u.new ≡ rest)) }
-    ensures memory { IfErr result (λ e. e ≡ Error.OutOfMemory) }
-    ensures tail { IsTail u.new u.old }
+    ensures input { Consumes result u.old u.new }
 {
     let making = Making {
         alloc,

@@ -1,8 +1,7 @@
 //! What the canonical ABI asks of a module type, from the input.
 
 ghost use Rattle.std.specs.Prelude.{◌≡◌, ◌+◌, ◌<◌, ◌≤◌, ◌&&◌, ℕ, length, nat_lt, OnOk, IfOk};
-ghost use Rattle.std.specs.Prelude.{IfErr};
-ghost use Rattle.smith_input.specs.Reading.{IsTail};
+ghost use Rattle.smith_input.specs.Consumes.{Consumes};
 ghost use Rattle.smith_format.specs.Shown.{shown_func};
 ghost use Rattle.smith_core_types.specs.MadeCore.{MemoryLine};
 ghost use Rattle.smith_tree.specs.CoreTypeOffers.{allows_function, allows_type};
@@ -26,8 +25,7 @@ fn memory_line(making: &Making, u: &mut Unstructured, declared: &mut Declared) -
         MemoryLine (so_far declared.old fuel) u.old (so_far declared.new fuel) u.new) }
     ensures own { OnOk result (declared.new.own.items ≡ declared.old.own.items) }
     ensures kept { (around : _) → KeepsDeclared around declared.old → OnOk result (KeepsDeclared around declared.new) }
-    ensures memory { IfErr result (λ e. e ≡ Error.OutOfMemory) }
-    ensures tail { IsTail u.new u.old }
+    ensures input { Consumes result u.old u.new }
 {
     if making.config.max_memories == 0 {
         return Ok(());
@@ -63,8 +61,7 @@ fn function_line(
         (shown_func ty.value) (so_far declared.old fuel) u.old (so_far declared.new fuel) u.new) }
     ensures own { OnOk result (length declared.new.own.items ≤ length declared.old.own.items + 1) }
     ensures kept { (around : _) → KeepsDeclared around declared.old → OnOk result (KeepsDeclared around declared.new) }
-    ensures memory { IfErr result (λ e. e ≡ Error.OutOfMemory) }
-    ensures tail { IsTail u.new u.old }
+    ensures input { Consumes result u.old u.new }
 {
     if !allows_line(making.config, declared) {
         return Ok(());
@@ -88,8 +85,7 @@ pub(crate) fn front(
     ensures reads { IfOk result (λ d. (fuel : ℕ) → ReadsFront making.now.config.now u.old fuel (so_far d fuel) u.new) }
     ensures few { IfOk result (λ d. length d.own.items ≤ 2) }
     ensures kept { IfOk result (λ d. (around : _) → KeepsDeclared around d) }
-    ensures memory { IfErr result (λ e. e ≡ Error.OutOfMemory) }
-    ensures tail { IsTail u.new u.old }
+    ensures input { Consumes result u.old u.new }
 {
     // The three lines add two function types and five declarations at most. Few module types have many more, and
     // ten declarations would be a block of more than 1,032 bytes, for which `malloc` has no cache.

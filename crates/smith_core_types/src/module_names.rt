@@ -1,9 +1,9 @@
 //! The names of what a module type imports and exports.
 
-ghost use Rattle.std.specs.Prelude.{◌≡◌, ◌∷◌, ℕ, List, [], map, length, string_bytes, IfOk, IfErr};
+ghost use Rattle.std.specs.Prelude.{◌≡◌, ◌∷◌, ℕ, List, [], map, length, string_bytes, IfOk};
 ghost use Rattle.std.specs.Prelude.{MatchOption};
 ghost use Rattle.smith_input.specs.NewNames.{is_among};
-ghost use Rattle.smith_input.specs.Reading.{IsTail};
+ghost use Rattle.smith_input.specs.Consumes.{Consumes};
 ghost use Rattle.smith_input.specs.Texts.{ReadsNewText, ReadsText};
 ghost use Rattle.smith_core_types.specs.MakingCore.{names_taken};
 ghost use Rattle.smith_syntax.specs.ModuleTypes.{module_export_names, names_from};
@@ -122,8 +122,7 @@ pub(crate) fn import_names(
 ) -> Result<(String, String), Error>
     ensures reads { IfOk result (λ n. (mid : List ℕ) × ReadsText 100 u.old (string_bytes n.0) mid
         × ReadsNewText 100 (names_from (string_bytes n.0) (map shown_decl defs.now)) mid (string_bytes n.1) u.new) }
-    ensures memory { IfErr result (λ e. e ≡ Error.OutOfMemory) }
-    ensures tail { IsTail u.new u.old }
+    ensures input { Consumes result u.old u.new }
 {
     let from = limited_string(alloc, MAX_NAME_LEN, u)?;
     let taken = Taken {
@@ -143,8 +142,7 @@ pub(crate) fn export_name(
 ) -> Result<String, Error>
     ensures reads { IfOk result (λ n.
         ReadsNewText 100 (module_export_names (map shown_decl defs.now)) u.old (string_bytes n) u.new) }
-    ensures memory { IfErr result (λ e. e ≡ Error.OutOfMemory) }
-    ensures tail { IsTail u.new u.old }
+    ensures input { Consumes result u.old u.new }
 {
     let taken = Taken {
         defs,

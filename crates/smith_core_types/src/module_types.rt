@@ -1,10 +1,10 @@
 //! Module types from the input.
 
 ghost use Rattle.std.specs.Prelude.{◌≡◌, ◌+◌, ◌-◌, ◌<◌, ◌≤◌, ◌&&◌, ℕ, Bool, List, []};
-ghost use Rattle.std.specs.Prelude.{map, length, nat_lt, OnOk, IfOk, IfErr};
+ghost use Rattle.std.specs.Prelude.{map, length, nat_lt, OnOk, IfOk};
 ghost use Rattle.smith_input.specs.Choices.{ReadsAmong};
 ghost use Rattle.smith_input.specs.Loops.{Loop};
-ghost use Rattle.smith_input.specs.Reading.{IsTail};
+ghost use Rattle.smith_input.specs.Consumes.{Consumes};
 ghost use Rattle.smith_syntax.specs.Entries.{ModuleDecl};
 ghost use Rattle.smith_core_types.specs.MadeCore.{MadeModule, EndsModuleType, ReadsDecl};
 ghost use Rattle.smith_tree.specs.CoreTypeOffers.{allows_type, alias_choices, module_items};
@@ -70,8 +70,7 @@ fn import(making: &Making, u: &mut Unstructured, declared: &mut Declared) -> Res
         (so_far declared.new (fuel - 1))) }
     ensures own { OnOk result (length declared.new.own.items ≤ length declared.old.own.items + 1) }
     ensures kept { (around : _) → KeepsDeclared around declared.old → OnOk result (KeepsDeclared around declared.new) }
-    ensures memory { IfErr result (λ e. e ≡ Error.OutOfMemory) }
-    ensures tail { IsTail u.new u.old }
+    ensures input { Consumes result u.old u.new }
 {
     let (module, name) = import_names(making.alloc, u, &declared.counted.defs)?;
     match entity(making, u, declared) {
@@ -96,8 +95,7 @@ fn export(making: &Making, u: &mut Unstructured, declared: &mut Declared) -> Res
         (so_far declared.new (fuel - 1))) }
     ensures own { OnOk result (length declared.new.own.items ≤ length declared.old.own.items + 1) }
     ensures kept { (around : _) → KeepsDeclared around declared.old → OnOk result (KeepsDeclared around declared.new) }
-    ensures memory { IfErr result (λ e. e ≡ Error.OutOfMemory) }
-    ensures tail { IsTail u.new u.old }
+    ensures input { Consumes result u.old u.new }
 {
     let name = export_name(making.alloc, u, &declared.counted.defs)?;
     match entity(making, u, declared) {
@@ -125,8 +123,7 @@ fn add_of(
     ensures own { OnOk result (length declared.new.own.items ≤ length declared.old.own.items + 1) }
     ensures kept { KeepsDeclared (own_scope scopes.now).core_types declared.old
         → OnOk result (KeepsDeclared (own_scope scopes.now).core_types declared.new) }
-    ensures memory { IfErr result (λ e. e ≡ Error.OutOfMemory) }
-    ensures tail { IsTail u.new u.old }
+    ensures input { Consumes result u.old u.new }
 {
     match item {
         ModuleItem::Import => import(making, u, declared),
@@ -155,8 +152,7 @@ fn turn(
     ensures own { OnOk result (length declared.new.own.items ≤ length declared.old.own.items + 1) }
     ensures kept { KeepsDeclared (own_scope scopes.now).core_types declared.old
         → OnOk result (KeepsDeclared (own_scope scopes.now).core_types declared.new) }
-    ensures memory { IfErr result (λ e. e ≡ Error.OutOfMemory) }
-    ensures tail { IsTail u.new u.old }
+    ensures input { Consumes result u.old u.new }
 {
     let item = module_item(u, making.config, scopes, declared);
     add_of(making, u, scopes, declared, item)
@@ -177,8 +173,7 @@ fn declarations(
         u.old more u.new (so_far declared.new fuel.new)) }
     ensures kept { KeepsDeclared (own_scope scopes.now).core_types declared.old
         → OnOk result (KeepsDeclared (own_scope scopes.now).core_types declared.new) }
-    ensures memory { IfErr result (λ e. e ≡ Error.OutOfMemory) }
-    ensures tail { IsTail u.new u.old }
+    ensures input { Consumes result u.old u.new }
 {
     for done in 0..100 {
         if !u.more(done, 0, 100) {
@@ -205,8 +200,7 @@ pub(crate) fn module_type(
     ensures made { IfOk result (λ defs. MadeModule making.now.config.now (own_scope scopes.now) u.old fuel.old
         (map shown_decl defs.items) u.new fuel.new) }
     ensures kept { IfOk result (λ defs. KeepEach (own_scope scopes.now).core_types [] defs.items) }
-    ensures memory { IfErr result (λ e. e ≡ Error.OutOfMemory) }
-    ensures tail { IsTail u.new u.old }
+    ensures input { Consumes result u.old u.new }
 {
     let mut declared = front(making, u, scopes)?;
     declarations(making, u, scopes, fuel, &mut declared)?;

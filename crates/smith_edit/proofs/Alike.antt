@@ -1,11 +1,12 @@
 -- What entries become, if they remain.
 use Rattle.std.proofs.Common.{◌≡◌, ℕ, ◌≤◌, Bool, true, false, List, [], ◌∷◌, ◌++◌, Option, None, Some, length, map, ap, sym, refl, subst, ◌∙◌, arith}
+use Rattle.std.proofs.lemmas.List.{map-id}
 use Rattle.std.specs.Prelude.{if◌then◌else◌}
 use Rattle.std.specs.List.{AllByRecursion}
 use Rattle.std.specs.Option.{option_map, option_to_list}
 use Rattle.smith_format.specs.CoreTypes.{Function}
 use Rattle.smith_syntax.specs.Entries.{Case, CoreEntry, DefValType, Entry, Field, Signature, function}
-use Rattle.smith_syntax.specs.Entries.{primitive_type, record_type, variant_type, list_type, tuple_type, flags_type, enum_type, option_type, result_type}
+use Rattle.smith_syntax.specs.Entries.{primitive_type, record_type, variant_type, list_type, tuple_type, option_type, result_type}
 use Rattle.smith_syntax.specs.Flat.{is_scalar}
 use Rattle.smith_syntax.specs.ModuleTypes.{func_in, is_tag_type}
 use Rattle.smith_syntax.specs.Scope.{Scope, is_component, is_core_module, is_defined, is_func, is_instance}
@@ -51,10 +52,6 @@ pub record ScopeFollows (s : Spaces) (old new : Scope) : Type 0 where
 pub from_map : {A B : Type 0} (f : A → B) (o : Option A) (y : B) → option_map f o ≡ Some y → (x : A) × (o ≡ Some x) × (f x ≡ y)
 from_map f None y e = absurd cc
 from_map f (Some x) y e = (x, refl, cc)
-
-map_same : {A : Type 0} (xs : List A) → map (λ x. x) xs ≡ xs
-map_same [] = refl
-map_same (x ∷ xs) = ap (λ ys. x ∷ ys) (map_same xs)
 
 -- members
 
@@ -182,8 +179,8 @@ module _ (s : Renumbering) (own next : Scope) (follows : Follows Alike s own.typ
   some_name x y e = cc
 
   names_sub : (r : Removal) (ns : List (List ℕ)) → Sub (members Some r ns) ns
-  names_sub r ns = subst (λ xs. Sub xs ns) (map_same (members Some r ns))
-      (subst (λ xs. Sub (map (λ n. n) (members Some r ns)) xs) (map_same ns) (members_sub Some (λ n. n) some_name r ns))
+  names_sub r ns = subst (λ xs. Sub xs ns) (map-id (members Some r ns))
+      (subst (λ xs. Sub (map (λ n. n) (members Some r ns)) xs) (map-id ns) (members_sub Some (λ n. n) some_name r ns))
 
   formed_names : (r : Removal) (ns z : List (List ℕ)) (n : ℕ) → Named ns × (1 ≤ length ns) × (length ns ≤ n) → left_of ns (members Some r ns) ≡ Some z
       → Named z × (1 ≤ length z) × (length z ≤ n)
@@ -198,9 +195,8 @@ module _ (s : Renumbering) (own next : Scope) (follows : Follows Alike s own.typ
   formed_defined r (variant_type cs) u h e = let (z, at, is) = from_map variant_type _ u e in subst (λ x. FormedDefined x next) is (formed_variant r cs z h at)
   formed_defined r (list_type v) u h e = let (w, at, is) = from_map list_type _ u e in subst (λ x. FormedDefined x next) is (formed_value v w h at)
   formed_defined r (tuple_type vs) u h e = let (z, at, is) = from_map tuple_type _ u e in subst (λ x. FormedDefined x next) is (formed_tuple r vs z h at)
-  formed_defined r (flags_type ns) u h e = let (z, at, is) = from_map flags_type _ u e in subst (λ x. FormedDefined x next) is (formed_names r ns z 32 h at)
-  formed_defined r (enum_type ns) u h e = let (z, at, is) = from_map enum_type _ u e in subst (λ x. FormedDefined x next) is (formed_names r ns z 100 h at)
   formed_defined r (option_type v) u h e = let (w, at, is) = from_map option_type _ u e in subst (λ x. FormedDefined x next) is (formed_value v w h at)
   formed_defined r (result_type ok err) u h e =
       let is : result_type (optional_edited s r ok) (optional_edited s (past (length (option_to_list ok)) r) err) ≡ u = cc in
       subst (λ x. FormedDefined x next) is (formed_optional r ok h.0, formed_optional (past (length (option_to_list ok)) r) err h.1)
+  formed_defined r t u h e = let (z, at, is) = from_map _ _ u e in subst (λ x. FormedDefined x next) is (formed_names r _ z _ h at)

@@ -11,13 +11,13 @@ use Rattle.smith_syntax.specs.Entries.{aliases, declares, exports, imports, defi
 use Rattle.smith_syntax.specs.Entries.{primitive_type, record_type, variant_type, list_type, tuple_type, flags_type, enum_type, option_type, result_type}
 use Rattle.smith_syntax.specs.Entries.{core_type_decl, type_decl, type_alias, core_type_alias, import_decl, export_decl, no_decls, then_decls}
 use Rattle.smith_syntax.specs.declared.types.ComponentValType.{ComponentValType}
-use Rattle.smith_tree.specs.Tree.{Canon, ExportEntry, Tree, Part, ends, first}
+use Rattle.smith_tree.specs.Tree.{Tree, Part, ends, first}
 use Rattle.smith_tree.specs.Tree as part
-use Rattle.smith_edit.specs.Edited.{after_canon, after_core, after_export, after_import, after_module_decl, after_one, after_type, and_decl, and_part}
-use Rattle.smith_edit.specs.Edited.{canon_edited, case_edited}
-use Rattle.smith_edit.specs.Edited.{core_edited, core_row, decl_edited, decls_edited, defined_edited, entry_edited, export_edited, field_edited}
+use Rattle.smith_edit.specs.Edited.{after_module_decl, after_one, and_decl, and_part}
+use Rattle.smith_edit.specs.Edited.{after_canon, after_core, after_export, after_import, after_type, canon_edited, case_edited, export_edited, import_edited}
+use Rattle.smith_edit.specs.Edited.{core_edited, core_row, decl_edited, decls_edited, defined_edited, entry_edited, field_edited}
 use Rattle.smith_edit.specs.Edited.{function_edited}
-use Rattle.smith_edit.specs.Edited.{import_edited, left_of, members, module_decl_edited, one, optional_edited, part_edited, rows, signature_edited, tree_edited}
+use Rattle.smith_edit.specs.Edited.{left_of, members, module_decl_edited, one, optional_edited, part_edited, rows, signature_edited, tree_edited}
 use Rattle.smith_edit.specs.Edited.{after_decl, after_section, type_row, value_edited, within}
 use Rattle.smith_edit.specs.Edits.{without}
 use Rattle.smith_edit.specs.Items.{core_items, decl_items, decls_items, entry_items, function_items, module_decl_items, none_inside, part_items, row_items}
@@ -283,14 +283,13 @@ and_kept r p q t n false b h =
 
 mutual
   pub part_fewer : (p : Part) (w : Walk) → part_items (part_edited p w) + hits w.removal (part_items p) ≤ part_items p
-  part_fewer (part.custom name contents) w = omega (arith, hits_most w.removal 0)
-  part_fewer (part.core_module text) w = omega (arith, hits_most w.removal 0)
   part_fewer (part.core_types ts) w = rows_fewer core_items core_row after_core core_row_fewer w ts
   part_fewer (part.component t) w = tree_fewer t (entered w)
   part_fewer (part.types ts) w = rows_fewer entry_items type_row after_type type_row_fewer w ts
   part_fewer (part.canons fs) w = plain_rows_fewer canon_edited after_canon w fs
   part_fewer (part.imports is) w = plain_rows_fewer import_edited after_import w is
   part_fewer (part.exports es) w = plain_rows_fewer export_edited after_export w es
+  part_fewer p w = omega (arith, hits_most w.removal 0)
 
   pub tree_fewer : (t : Tree) (w : Walk) → tree_items (tree_edited t w) + hits w.removal (tree_items t) ≤ tree_items t
   tree_fewer ends w = omega (arith, hits_most w.removal 0)

@@ -14,7 +14,7 @@ use Rattle.smith_format.proofs.Digits.{signed_some}
 use Rattle.smith_format.proofs.Piece.{parts_are, s_index_fits, s_index_none}
 use Rattle.smith_syntax.specs.Entries.{Case, CoreEntry, core_func, core_module, Decl, Decls, DefValType, Entry, Field, ImportEntry, ModuleDecl, Signature}
 use Rattle.smith_syntax.specs.Entries.{aliases, declares, exports, imports, defined, function, component_type, instance_type, decl_count}
-use Rattle.smith_syntax.specs.Entries.{primitive_type, record_type, variant_type, list_type, tuple_type, flags_type, enum_type, option_type, result_type}
+use Rattle.smith_syntax.specs.Entries.{primitive_type, record_type, variant_type, list_type, tuple_type, option_type, result_type}
 use Rattle.smith_syntax.specs.Entries.{core_type_decl, type_decl, type_alias, core_type_alias, import_decl, export_decl, no_decls, then_decls}
 use Rattle.smith_syntax.specs.Grammar.{case, core_entry, decl, decls, defvaltype, entry, externdesc, functype, import_entry, importdecl, labelvaltype}
 use Rattle.smith_syntax.specs.Grammar.{maybe_valtype}
@@ -136,11 +136,10 @@ defined_left s l r (variant_type cs) = compound_left variant_type (byte 0x71) ca
 defined_left s l r (list_type v) = mapped list_type valtype defvaltype (value_edited s v) (valtype v) _ (λ x h. after (byte 0x70) _ _ h) (value_left s l v)
 defined_left s l r (tuple_type vs) = compound_left tuple_type (byte 0x6f) valtype (λ xs. refl) vs _
     (many_members valtype (value_edited s) (value_left s l) r vs)
-defined_left s l r (flags_type ns) = compound_left flags_type (byte 0x6e) text (λ xs. refl) ns _ (many_members text Some name_left r ns)
-defined_left s l r (enum_type ns) = compound_left enum_type (byte 0x6d) text (λ xs. refl) ns _ (many_members text Some name_left r ns)
 defined_left s l r (option_type v) = mapped option_type valtype defvaltype (value_edited s v) (valtype v) _ (λ x h. after (byte 0x6b) _ _ h) (value_left s l v)
 defined_left s l r (result_type ok err) =
     after (byte 0x6a) _ _ (glue _ _ _ _ (maybe_shorter s l r ok) (maybe_shorter s l (past (length (option_to_list ok)) r) err))
+defined_left s l r t = compound_left _ _ text (λ xs. refl) _ _ (many_members text Some name_left r _)
 
 signature_shorter : (s : Renumbering) → Low s → (r : Removal) (g : Signature) → NoLonger (functype (signature_edited s r g)) (functype g)
 signature_shorter s l r g =
@@ -198,11 +197,9 @@ function_shorter r f = after (byte 0x60) _ _
 
 entity_left : (s : Renumbering) → Low s → (e : EntityType) → Left entity (entity_edited s e) (entity e)
 entity_left s l (entities.Func i) = mapped entities.Func u entity (new_index s i) (u i) _ (λ x h. after (byte 0x00) _ _ h) (new_left u u_grow s i l)
-entity_left s l (entities.Table t) = same (entity (entities.Table t))
-entity_left s l (entities.Memory m) = same (entity (entities.Memory m))
-entity_left s l (entities.Global g) = same (entity (entities.Global g))
 entity_left s l (entities.Tag t) = mapped (λ i. entities.Tag (record { func_type_idx = i })) u entity (new_index s t.func_type_idx) (u t.func_type_idx) _
     (λ x h. after (byte 0x04) _ _ (after (byte 0x00) _ _ h)) (new_left u u_grow s t.func_type_idx l)
+entity_left s l e = same (entity e)
 
 core_types_of : (s : Scope) → LowScope s → Low s.core_types
 core_types_of s l = l.core_types
@@ -230,10 +227,7 @@ core_shorter w l (core_module ds) =
 ref_left : (s : Scope) → LowScope s → (r : ComponentTypeRef) → Left externdesc (ref_edited s r) (externdesc r)
 ref_left s l (to.Module i) = mapped to.Module u externdesc (new_index s.core_types i) (u i) _ (λ x h. after _ _ _ h)
     (new_left u u_grow s.core_types i l.core_types)
-ref_left s l (to.Func i) = mapped to.Func u externdesc (new_index s.types i) (u i) _ (λ x h. after _ _ _ h) (new_left u u_grow s.types i l.types)
-ref_left s l (to.TypeEq i) = mapped to.TypeEq u externdesc (new_index s.types i) (u i) _ (λ x h. after _ _ _ h) (new_left u u_grow s.types i l.types)
-ref_left s l (to.Component i) = mapped to.Component u externdesc (new_index s.types i) (u i) _ (λ x h. after _ _ _ h) (new_left u u_grow s.types i l.types)
-ref_left s l (to.Instance i) = mapped to.Instance u externdesc (new_index s.types i) (u i) _ (λ x h. after _ _ _ h) (new_left u u_grow s.types i l.types)
+ref_left s l r = mapped _ u externdesc _ _ _ (λ x h. after _ _ _ h) (new_left u u_grow s.types _ l.types)
 
 import_left : (b : Bool) (s : Scope) → LowScope s → (name : List ℕ) (n : Unit {0}) (r : ComponentTypeRef)
     → Left (decl b) (option_map (import_decl name n) (ref_edited s r)) (importdecl b name r)
@@ -319,14 +313,13 @@ export_entry_left w l e = mapped (λ f. record e { func = f }) u export_entry (n
     (new_left u u_grow w.own.functions e.func l.own.functions)
 
 part_low : (w : Walk) → LowWalk w → (p : Part) → LowWalk (after_part w p)
-part_low w l (section.custom name contents) = l
-part_low w l (section.core_module t) = l
 part_low w l (section.core_types ts) = rows_low core_items core_row after_core core_entry core_row_left adds_core w l ts
 part_low w l (section.component t) = record { own = l.own; outer = l.outer }
 part_low w l (section.types ts) = rows_low entry_items type_row after_type entry type_row_left adds_type w l ts
 part_low w l (section.canons fs) = rows_low none_inside canon_edited after_canon canon canon_left adds_canon w l fs
 part_low w l (section.imports is) = rows_low none_inside import_edited after_import import_entry import_entry_left adds_import w l is
 part_low w l (section.exports es) = rows_low none_inside export_edited after_export export_entry export_entry_left adds_export_entry w l es
+part_low w l p = l
 
 section_low : (w : Walk) → LowWalk w → (p : Part) → LowWalk (after_section w p)
 section_low w l p = let low = part_low (within w) (record { own = l.own; outer = l.outer }) p in record { own = low.own; outer = low.outer }
@@ -337,8 +330,6 @@ and_shorter false p t q q2 l m = glue (part p) q (parts t) q2 l m
 
 mutual
   part_shorter : (p : Part) (w : Walk) → LowWalk w → NoLonger (part (part_edited p w)) (part p)
-  part_shorter (section.custom name contents) w l = same (part (section.custom name contents))
-  part_shorter (section.core_module t) w l = same (part (section.core_module t))
   part_shorter (section.core_types ts) w l = sized_grow 3 _ _ (many_rows core_items core_row after_core core_entry core_row_left adds_core w l ts)
   part_shorter (section.component t) w l = sized_grow 4 _ _ (after (bytes preamble) _ _ (tree_shorter t (entered w) (low_entered w l)))
   part_shorter (section.types ts) w l = sized_grow 7 _ _ (many_rows entry_items type_row after_type entry type_row_left adds_type w l ts)
@@ -346,6 +337,7 @@ mutual
   part_shorter (section.imports is) w l = sized_grow 10 _ _ (many_rows none_inside import_edited after_import import_entry import_entry_left adds_import w l is)
   part_shorter (section.exports es) w l = sized_grow 11 _ _
       (many_rows none_inside export_edited after_export export_entry export_entry_left adds_export_entry w l es)
+  part_shorter p w l = same (part p)
 
   tree_shorter : (t : Tree) (w : Walk) → LowWalk w → NoLonger (parts (tree_edited t w)) (parts t)
   tree_shorter ends w l = same (Some [])

@@ -1,5 +1,5 @@
 -- Index spaces, and what they become.
-use Rattle.std.proofs.Common.{◌≡◌, ℕ, zero, suc, List, [], ◌∷◌, ◌++◌, Option, None, Some, length, length-append, ap, sym, refl, subst, ◌∙◌, arith}
+use Rattle.std.proofs.Common.{◌≡◌, ℕ, zero, suc, ◌<◌, List, [], ◌∷◌, ◌++◌, Option, None, Some, length, length-append, ap, sym, refl, subst, ◌∙◌, arith}
 use Rattle.std.proofs.Common.{⊎_elim, append-nil}
 use Rattle.std.proofs.lemmas.Option.{slice_get_within}
 use Rattle.std.specs.Prelude.{slice_get}
@@ -10,8 +10,7 @@ use Rattle.smith_edit.specs.declared.renumbering.Renumbered.{Renumbered}
 use Rattle.smith_edit.proofs.LowIndexes.{entry_or, get_more}
 
 pub get_still : {A : Type 0} (xs ys : List A) (i : ℕ) (x : A) → slice_get xs i ≡ Some x → slice_get (xs ++ ys) i ≡ Some x
-get_still [] ys zero x h = absurd cc
-get_still [] ys (suc i) x h = absurd cc
+get_still [] ys i x h = absurd cc
 get_still (z ∷ zs) ys zero x h = h
 get_still (z ∷ zs) ys (suc i) x h = get_still zs ys i x h
 
@@ -19,34 +18,37 @@ pub get_last : {A : Type 0} (xs : List A) (x : A) → slice_get (xs ++ x ∷ [])
 get_last [] x = refl
 get_last (y ∷ ys) x = get_last ys x
 
+pub some_at : {A : Type 0} (xs : List A) (i : ℕ) → i < length xs → (x : A) × (slice_get xs i ≡ Some x)
+some_at [] i h = absurd (omega (arith, h))
+some_at (x ∷ xs) zero h = (x, refl)
+some_at (x ∷ xs) (suc i) h = some_at xs i (omega (arith, h))
+
 -- as long a list has as many items
 pub get_other : {A B : Type 0} (xs : List A) (ys : List B) (i : ℕ) (x : A) → length ys ≡ length xs → slice_get xs i ≡ Some x
     → (y : B) × (slice_get ys i ≡ Some y)
-get_other [] ys zero x e h = absurd cc
-get_other [] ys (suc i) x e h = absurd cc
-get_other (z ∷ zs) [] i x e h = absurd (omega (arith, e))
-get_other (z ∷ zs) (y ∷ ys) zero x e h = (y, refl)
-get_other (z ∷ zs) (y ∷ ys) (suc i) x e h = get_other zs ys i x (omega (arith, e)) h
+get_other xs ys i x e h = some_at ys i (omega (arith, e, slice_get_within xs i x h))
 
 -- the record of an entry that is there
 pub entry_there : (s : Renumbering) (i : ℕ) (r : Renumbered) → slice_get s.entries i ≡ Some r → entry_at s i ≡ r
 entry_there s i r h = ap (λ (o : Option Renumbered). entry_or o i) h
 
 no_item : {A B : Type 0} (i : ℕ) (x : A) → slice_get [] i ≡ Some x → B
-no_item zero x h = absurd cc
-no_item (suc i) x h = absurd cc
+no_item i x h = absurd cc
+
+-- not removed
+abbrev pub IsLeft : Fate → Type 0
+IsLeft Removed = ⊥
+IsLeft f = Unit {0}
 
 module _ {A : Type 0} (Rel : Fate → A → A → Type 0) where
   -- what an entry is in the new space
   abbrev pub Stays : Fate → ℕ → A → List A → Type 0
-  Stays Kept i x new = (y : A) × (slice_get new i ≡ Some y) × Rel Kept x y
-  Stays Changed i x new = (y : A) × (slice_get new i ≡ Some y) × Rel Changed x y
   Stays Removed i x new = Unit {0}
+  Stays f i x new = (y : A) × (slice_get new i ≡ Some y) × Rel f x y
 
   pub stays_more : (f : Fate) (i : ℕ) (x : A) (new more : List A) → Stays f i x new → Stays f i x (new ++ more)
-  stays_more Kept i x new more h = (h.0, get_still new more i h.0 h.1, h.2)
-  stays_more Changed i x new more h = (h.0, get_still new more i h.0 h.1, h.2)
   stays_more Removed i x new more h = tt
+  stays_more f i x new more h = (h.0, get_still new more i h.0 h.1, h.2)
 
   -- the entries of the old space, as they became the entries of the new one
   pub record Follows (s : Renumbering) (old new : List A) : Type 0 where
@@ -58,15 +60,13 @@ module _ {A : Type 0} (Rel : Fate → A → A → Type 0) where
 
   index_by : (f : Fate) (i j : ℕ) (x : A) (new : List A) → Stays f i x new → elim f [ Kept ↦ Some i | Changed ↦ Some i | Removed ↦ None ] ≡ Some j
       → (g : Fate) × (y : A) × (slice_get new j ≡ Some y) × Rel g x y
-  index_by Kept i j x new h e = let is : i ≡ j = cc in (Kept, h.0, subst (λ k. slice_get new k ≡ Some h.0) is h.1, h.2)
-  index_by Changed i j x new h e = let is : i ≡ j = cc in (Changed, h.0, subst (λ k. slice_get new k ≡ Some h.0) is h.1, h.2)
   index_by Removed i j x new h e = absurd cc
+  index_by f i j x new h e = let is : i ≡ j = cc in (f, h.0, subst (λ k. slice_get new k ≡ Some h.0) is h.1, h.2)
 
   kept_by : (f : Fate) (i j : ℕ) (x : A) (new : List A) → Stays f i x new → elim f [ Kept ↦ Some i | Changed ↦ None | Removed ↦ None ] ≡ Some j
       → (y : A) × (slice_get new j ≡ Some y) × Rel Kept x y
   kept_by Kept i j x new h e = let is : i ≡ j = cc in (h.0, subst (λ k. slice_get new k ≡ Some h.0) is h.1, h.2)
-  kept_by Changed i j x new h e = absurd cc
-  kept_by Removed i j x new h e = absurd cc
+  kept_by f i j x new h e = absurd cc
 
   pub index_follows : (s : Renumbering) (old new : List A) → Follows s old new → (i j : ℕ) (x : A) → slice_get old i ≡ Some x → new_index s i ≡ Some j
       → (g : Fate) × (y : A) × (slice_get new j ≡ Some y) × Rel g x y
@@ -125,18 +125,11 @@ module _ {A : Type 0} (Rel : Fate → A → A → Type 0) where
     found = λ i z r at is. subst (Stays r.fate r.index z) (append-nil new) (more_found s Removed old new [] x h tt i z r at is);
   }
 
-  pub follows_kept : (s : Renumbering) (old new : List A) (x y : A) → Follows s old new → Rel Kept x y
-      → Follows (with_entry s Kept) (old ++ x ∷ []) (new ++ y ∷ [])
-  follows_kept s old new x y h rel = record {
-    count = push_count s Kept old x h.count;
+  pub follows_left : (f : Fate) → IsLeft f → (s : Renumbering) (old new : List A) (x y : A) → Follows s old new → Rel f x y
+      → Follows (with_entry s f) (old ++ x ∷ []) (new ++ y ∷ [])
+  follows_left Removed left s old new x y h rel = absurd left
+  follows_left f left s old new x y h rel = record {
+    count = push_count s f old x h.count;
     next = omega (arith, h.next, length-append new (y ∷ []));
-    found = more_found s Kept old new (y ∷ []) x h (y, subst (λ n. slice_get (new ++ y ∷ []) n ≡ Some y) (sym h.next) (get_last new y), rel);
-  }
-
-  pub follows_changed : (s : Renumbering) (old new : List A) (x y : A) → Follows s old new → Rel Changed x y
-      → Follows (with_entry s Changed) (old ++ x ∷ []) (new ++ y ∷ [])
-  follows_changed s old new x y h rel = record {
-    count = push_count s Changed old x h.count;
-    next = omega (arith, h.next, length-append new (y ∷ []));
-    found = more_found s Changed old new (y ∷ []) x h (y, subst (λ n. slice_get (new ++ y ∷ []) n ≡ Some y) (sym h.next) (get_last new y), rel);
+    found = more_found s f old new (y ∷ []) x h (y, subst (λ n. slice_get (new ++ y ∷ []) n ≡ Some y) (sym h.next) (get_last new y), rel);
   }

@@ -26,8 +26,8 @@ use Rattle.smith_edit.specs.declared.renumbering.Fate.TheVariants.{Kept, Removed
 use Rattle.smith_edit.specs.declared.scope.Scope.{Scope as Spaces}
 use Rattle.smith_edit.proofs.Alike.{AlikeCore, AlikeFunction, from_map}
 use Rattle.smith_edit.proofs.Fewer.{members_fewer}
-use Rattle.smith_edit.proofs.Follows.{Follows, follows_kept, follows_removed, index_follows, none_yet}
-use Rattle.smith_edit.proofs.Sublists.{Sub, none, skip, sub_append, sub_distinct, sub_same}
+use Rattle.smith_edit.proofs.Follows.{Follows, follows_left, follows_removed, index_follows, none_yet}
+use Rattle.smith_edit.proofs.Sublists.{Sub, nothing_of, sub_append, sub_distinct, sub_same}
 
 -- one of the entries that follow a place, if it is left
 pub one_is : {A : Type 0} (b : Bool) (o : Option A) (y : A) → (if b then None else o) ≡ Some y → o ≡ Some y
@@ -101,16 +101,13 @@ module _ (around around2 : List CoreEntry) where
   formed_one : (w : Walk) (own own2 : List Function) → ModuleFollows w around around2 own own2 → (d e : ModuleDecl) → FormedDecl around own d
       → module_decl_edited w d ≡ Some e → FormedDecl around2 own2 e
   formed_one w own own2 m (declares f) e h at = let is : declares (function_edited w.removal f) ≡ e = cc in subst (FormedDecl around2 own2) is tt
-  formed_one w own own2 m (imports a n t) e h at =
-      let (u, there, is) = from_map (imports a n) (entity_edited w.own.core_types t) e at in
-      subst (FormedDecl around2 own2) is (formed_entity w.own.core_types own own2 m.types t u h there)
   formed_one w own own2 m (aliases count i) e h at =
       let (j, there, is) = from_map (aliases count) (aliased_core_type w count i) e at in
       let (g, g_is, alike) = formed_alias w own own2 m count i j h.0 h.1 there in
       subst (FormedDecl around2 own2) is (g, g_is)
-  formed_one w own own2 m (exports n t) e h at =
-      let (u, there, is) = from_map (exports n) (entity_edited w.own.core_types t) e at in
-      subst (FormedDecl around2 own2) is (formed_entity w.own.core_types own own2 m.types t u h there)
+  formed_one w own own2 m d e h at =
+      let (u, there, is) = from_map _ (entity_edited w.own.core_types _) e at in
+      subst (FormedDecl around2 own2) is (formed_entity w.own.core_types own own2 m.types _ u h there)
 
   -- what a declaration adds, which is removed, and which remains
 
@@ -120,11 +117,10 @@ module _ (around around2 : List CoreEntry) where
   removed_follows : (s : Spaces) (own own2 : List Function) → Follows AlikeFunction s.core_types own own2 → (d : ModuleDecl) → FormedDecl around own d
       → Follows AlikeFunction (after_module_decl s d None).core_types (own ++ adds around own d) own2
   removed_follows s own own2 m (declares f) h = follows_removed AlikeFunction s.core_types own own2 f m
-  removed_follows s own own2 m (imports a n t) h = subst (λ xs. Follows AlikeFunction s.core_types xs own2) (sym (append-nil own)) m
   removed_follows s own own2 m (aliases count i) h =
       subst (λ xs. Follows AlikeFunction (with_entry s.core_types Removed) (own ++ xs) own2) (sym (alias_adds around own count i h.0 h.1))
       (follows_removed AlikeFunction s.core_types own own2 h.0 m)
-  removed_follows s own own2 m (exports n t) h = subst (λ xs. Follows AlikeFunction s.core_types xs own2) (sym (append-nil own)) m
+  removed_follows s own own2 m d h = subst (λ xs. Follows AlikeFunction s.core_types xs own2) (sym (append-nil own)) m
 
   kept_decl : (w : Walk) (own own2 : List Function) → ModuleFollows w around around2 own own2 → (d e : ModuleDecl) → FormedDecl around own d
       → module_decl_edited w d ≡ Some e
@@ -132,12 +128,7 @@ module _ (around around2 : List CoreEntry) where
   kept_decl w own own2 m (declares f) e h at =
       let is : declares (function_edited w.removal f) ≡ e = cc in
       subst (λ x. Follows AlikeFunction (with_entry w.own.core_types Kept) (own ++ f ∷ []) (own2 ++ adds around2 own2 x)) is
-      (follows_kept AlikeFunction w.own.core_types own own2 f (function_edited w.removal f) m.types (alike_function Kept w.removal f))
-  kept_decl w own own2 m (imports a n t) e h at =
-      let (u, there, is) = from_map (imports a n) (entity_edited w.own.core_types t) e at in
-      subst (λ x. Follows AlikeFunction w.own.core_types (own ++ []) (own2 ++ adds around2 own2 x)) is
-      (subst (λ xs. Follows AlikeFunction w.own.core_types xs (own2 ++ [])) (sym (append-nil own))
-      (subst (Follows AlikeFunction w.own.core_types own) (sym (append-nil own2)) m.types))
+      (follows_left AlikeFunction Kept tt w.own.core_types own own2 f (function_edited w.removal f) m.types (alike_function Kept w.removal f))
   kept_decl w own own2 m (aliases count i) e h at =
       let (j, there, is) = from_map (aliases count) (aliased_core_type w count i) e at in
       let (g, g_is, alike) = formed_alias w own own2 m count i j h.0 h.1 there in
@@ -145,9 +136,9 @@ module _ (around around2 : List CoreEntry) where
       (subst (λ xs. Follows AlikeFunction (with_entry w.own.core_types Kept) (own ++ xs) (own2 ++ adds around2 own2 (aliases count j)))
       (sym (alias_adds around own count i h.0 h.1))
       (subst (λ xs. Follows AlikeFunction (with_entry w.own.core_types Kept) (own ++ h.0 ∷ []) (own2 ++ xs)) (sym (alias_adds around2 own2 count j g g_is))
-      (follows_kept AlikeFunction w.own.core_types own own2 h.0 g m.types alike)))
-  kept_decl w own own2 m (exports n t) e h at =
-      let (u, there, is) = from_map (exports n) (entity_edited w.own.core_types t) e at in
+      (follows_left AlikeFunction Kept tt w.own.core_types own own2 h.0 g m.types alike)))
+  kept_decl w own own2 m d e h at =
+      let (u, there, is) = from_map _ (entity_edited w.own.core_types _) e at in
       subst (λ x. Follows AlikeFunction w.own.core_types (own ++ []) (own2 ++ adds around2 own2 x)) is
       (subst (λ xs. Follows AlikeFunction w.own.core_types xs (own2 ++ [])) (sym (append-nil own))
       (subst (Follows AlikeFunction w.own.core_types own) (sym (append-nil own2)) m.types))
@@ -213,16 +204,12 @@ export_kept w (aliases count i) e at =
 export_kept w (exports n t) e at =
     let (u, there, is) = from_map (exports n) (entity_edited w.own.core_types t) e at in ap (λ x. module_export_names (x ∷ [])) (sym is)
 
-module _ (of : List ModuleDecl → List (List ℕ)) (nothing : of [] ≡ []) (more : (d : ModuleDecl) (ds : List ModuleDecl) → of (d ∷ ds) ≡ of (d ∷ []) ++ of ds)
+module _ (of : List ModuleDecl → List (List ℕ)) (more : (d : ModuleDecl) (ds : List ModuleDecl) → of (d ∷ ds) ≡ of (d ∷ []) ++ of ds)
     (kept : (w : Walk) (d e : ModuleDecl) → module_decl_edited w d ≡ Some e → of (e ∷ []) ≡ of (d ∷ [])) where
-  sub_drop : (ns : List (List ℕ)) → Sub [] ns
-  sub_drop [] = none
-  sub_drop (n ∷ ns) = skip n [] ns (sub_drop ns)
-
   sub_then : (w : Walk) (d : ModuleDecl) (o : Option ModuleDecl) → ((e : ModuleDecl) → o ≡ Some e → module_decl_edited w d ≡ Some e)
       → (later ds : List ModuleDecl)
       → Sub (of later) (of ds) → Sub (of (option_to_list o ++ later)) (of (d ∷ ds))
-  sub_then w d None at later ds s = subst (Sub (of later)) (sym (more d ds)) (sub_append [] (of (d ∷ [])) (of later) (of ds) (sub_drop (of (d ∷ []))) s)
+  sub_then w d None at later ds s = subst (Sub (of later)) (sym (more d ds)) (sub_append [] (of (d ∷ [])) (of later) (of ds) (nothing_of (of (d ∷ []))) s)
   sub_then w d (Some e) at later ds s =
       subst (λ xs. Sub xs (of (d ∷ ds))) (sym (more e later))
       (subst (Sub (of (e ∷ []) ++ of later)) (sym (more d ds))
@@ -249,8 +236,8 @@ formed_core (core_func f) w around around2 follows h = tt
 formed_core (core_module ds) w around around2 follows h = (
   formed_rows around around2 ds (entered w) [] [] (entered_follows w around around2 follows) h.0,
   record {
-    imported = λ from. sub_distinct bytes_eq _ _ (rows_sub (names_from from) refl (import_names from) (import_kept from) ds (entered w)) (h.1.imported from);
-    exported = sub_distinct bytes_eq _ _ (rows_sub module_export_names refl export_names export_kept ds (entered w)) h.1.exported;
+    imported = λ from. sub_distinct bytes_eq _ _ (rows_sub (names_from from) (import_names from) (import_kept from) ds (entered w)) (h.1.imported from);
+    exported = sub_distinct bytes_eq _ _ (rows_sub module_export_names export_names export_kept ds (entered w)) h.1.exported;
   },
 )
 

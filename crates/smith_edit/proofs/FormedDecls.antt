@@ -1,5 +1,5 @@
 -- What types declare, which remains well formed.
-use Rattle.std.proofs.Common.{◌≡◌, ℕ, ◌+◌, List, [], ◌∷◌, Option, None, Some, length, map, ap, sym, refl, subst, ◌∙◌, arith}
+use Rattle.std.proofs.Common.{◌≡◌, ℕ, ◌+◌, List, [], ◌∷◌, ◌++◌, Option, None, Some, length, map, ap, sym, refl, subst, ◌∙◌, arith}
 use Rattle.std.specs.Prelude.{if◌then◌else◌}
 use Rattle.smith_syntax.specs.Entries.{Decl, Decls, Entry, Signature, defined, function, component_type, instance_type}
 use Rattle.smith_syntax.specs.Entries.{core_type_decl, type_decl, type_alias, core_type_alias, import_decl, export_decl, no_decls, then_decls}
@@ -15,16 +15,10 @@ use Rattle.smith_edit.proofs.Alike.{ScopeFollows, fields_sub, formed_defined, fo
 use Rattle.smith_edit.proofs.Fewer.{members_fewer}
 use Rattle.smith_edit.proofs.FormedCores.{formed_core, one_is}
 use Rattle.smith_edit.proofs.FormedTypes.{WalkFollows, alias_core, alias_type, entered_follows, formed_ref, kept_after, ref_eq, removed_after, skipped_follows}
-use Rattle.smith_edit.proofs.Sublists.{Sub, keep, named_sub, none, skip, sub_append, sub_same}
-
-abbrev Pairs : Type 0
-Pairs = List (List ℕ × Unit {0})
+use Rattle.smith_edit.proofs.Editing.{after_next, next_decl}
+use Rattle.smith_edit.proofs.Sublists.{Sub, keep, named_sub, none, nothing_of, skip, sub_append, sub_same}
 
 -- names
-
-pub nothing_of : {A : Type 0} (xs : List A) → Sub [] xs
-nothing_of [] = none
-nothing_of (x ∷ xs) = skip x [] xs (nothing_of xs)
 
 sub_map : {A B : Type 0} (f : A → B) (ys xs : List A) → Sub ys xs → Sub (map f ys) (map f xs)
 sub_map f _ _ none = none
@@ -36,58 +30,40 @@ sub_none _ _ none e = refl
 sub_none _ _ (skip x ys xs s) e = absurd cc
 sub_none _ _ (keep x ys xs s) e = absurd cc
 
-import_kept : (d x : Decl) (w : Walk) → decl_edited d w ≡ Some x → import_of x ≡ import_of d
-import_kept (core_type_decl t k) x w e = let is : core_type_decl (core_edited w t) k ≡ x = cc in ap import_of (sym is)
-import_kept (type_decl t) x w e = let (u, at, is) = from_map type_decl (entry_edited t w) x e in ap import_of (sym is)
-import_kept (type_alias count i k) x w e = let (j, at, is) = from_map (λ n. type_alias count n k) (aliased_type w count i) x e in ap import_of (sym is)
-import_kept (core_type_alias count i k) x w e = let (j, at, is) = from_map (λ n. core_type_alias count n k)
-    (aliased_core_type w count i) x e in ap import_of (sym is)
-import_kept (import_decl name n r) x w e = let (q, at, is) = from_map (import_decl name n) (ref_edited w.own r) x e in ap import_of (sym is)
-import_kept (export_decl name n r) x w e = let (q, at, is) = from_map (export_decl name n) (ref_edited w.own r) x e in ap import_of (sym is)
+-- what a declaration imports and exports
+abbrev named_of : Decl → List (List ℕ × Unit {0}) × List (List ℕ × Unit {0})
+named_of d = (import_of d, export_of d)
 
-export_kept : (d x : Decl) (w : Walk) → decl_edited d w ≡ Some x → export_of x ≡ export_of d
-export_kept (core_type_decl t k) x w e = let is : core_type_decl (core_edited w t) k ≡ x = cc in ap export_of (sym is)
-export_kept (type_decl t) x w e = let (u, at, is) = from_map type_decl (entry_edited t w) x e in ap export_of (sym is)
-export_kept (type_alias count i k) x w e = let (j, at, is) = from_map (λ n. type_alias count n k) (aliased_type w count i) x e in ap export_of (sym is)
-export_kept (core_type_alias count i k) x w e = let (j, at, is) = from_map (λ n. core_type_alias count n k)
-    (aliased_core_type w count i) x e in ap export_of (sym is)
-export_kept (import_decl name n r) x w e = let (q, at, is) = from_map (import_decl name n) (ref_edited w.own r) x e in ap export_of (sym is)
-export_kept (export_decl name n r) x w e = let (q, at, is) = from_map (export_decl name n) (ref_edited w.own r) x e in ap export_of (sym is)
+names_kept : (d x : Decl) (w : Walk) → decl_edited d w ≡ Some x → named_of x ≡ named_of d
+names_kept (core_type_decl t k) x w e = let is : core_type_decl (core_edited w t) k ≡ x = cc in ap named_of (sym is)
+names_kept (type_decl t) x w e = let (u, at, is) = from_map type_decl (entry_edited t w) x e in ap named_of (sym is)
+names_kept (type_alias count i k) x w e = let (j, at, is) = from_map (λ n. type_alias count n k) (aliased_type w count i) x e in ap named_of (sym is)
+names_kept (core_type_alias count i k) x w e = let (j, at, is) = from_map (λ n. core_type_alias count n k)
+    (aliased_core_type w count i) x e in ap named_of (sym is)
+names_kept (import_decl name n r) x w e = let (q, at, is) = from_map (import_decl name n) (ref_edited w.own r) x e in ap named_of (sym is)
+names_kept (export_decl name n r) x w e = let (q, at, is) = from_map (export_decl name n) (ref_edited w.own r) x e in ap named_of (sym is)
 
-abbrev next_of : Walk → Decl → Option Decl
-next_of w d = if removes w.removal then None else decl_edited d (skipped 1 w)
+module _ {N : Type 0} (of : Decl → List N) (all : Decls → List N) (more : (d : Decl) (ds : Decls) → all (then_decls d ds) ≡ of d ++ all ds)
+    (kept : (d x : Decl) (w : Walk) → decl_edited d w ≡ Some x → of x ≡ of d) where
+  and_sub : (d : Decl) (w : Walk) (o : Option Decl) → ((x : Decl) → o ≡ Some x → decl_edited d w ≡ Some x) → (later ds : Decls)
+      → Sub (all later) (all ds) → Sub (all (and_decl o later)) (all (then_decls d ds))
+  and_sub d w None at later ds s = subst (Sub (all later)) (sym (more d ds)) (sub_append [] (of d) (all later) (all ds) (nothing_of (of d)) s)
+  and_sub d w (Some x) at later ds s =
+      subst (Sub (all (then_decls x later))) (sym (more d ds))
+      (subst (λ xs. Sub xs (of d ++ all ds)) (sym (more x later))
+      (sub_append (of x) (of d) (all later) (all ds) (subst (λ xs. Sub xs (of d)) (sym (kept d x w (at x refl))) (sub_same (of d))) s))
 
-abbrev after_of : Walk → Decl → Walk
-after_of w d = record w { removal = past (decl_items d + 1) w.removal; own = after_decl w.own d (next_of w d) }
-
-and_imports : (d : Decl) (w : Walk) (o : Option Decl) → ((x : Decl) → o ≡ Some x → decl_edited d w ≡ Some x) → (later ds : Decls)
-    → Sub (decl_imports later) (decl_imports ds) → Sub (decl_imports (and_decl o later)) (decl_imports (then_decls d ds))
-and_imports d w None at later ds s = sub_append [] (import_of d) (decl_imports later) (decl_imports ds) (nothing_of (import_of d)) s
-and_imports d w (Some x) at later ds s =
-    sub_append (import_of x) (import_of d) (decl_imports later) (decl_imports ds)
-    (subst (λ xs. Sub xs (import_of d)) (sym (import_kept d x w (at x refl))) (sub_same (import_of d))) s
-
-and_exports : (d : Decl) (w : Walk) (o : Option Decl) → ((x : Decl) → o ≡ Some x → decl_edited d w ≡ Some x) → (later ds : Decls)
-    → Sub (decl_exports later) (decl_exports ds) → Sub (decl_exports (and_decl o later)) (decl_exports (then_decls d ds))
-and_exports d w None at later ds s = sub_append [] (export_of d) (decl_exports later) (decl_exports ds) (nothing_of (export_of d)) s
-and_exports d w (Some x) at later ds s =
-    sub_append (export_of x) (export_of d) (decl_exports later) (decl_exports ds)
-    (subst (λ xs. Sub xs (export_of d)) (sym (export_kept d x w (at x refl))) (sub_same (export_of d))) s
+  decls_sub : (ds : Decls) (w : Walk) → Sub (all (decls_edited ds w)) (all ds)
+  decls_sub no_decls w = sub_same (all no_decls)
+  decls_sub (then_decls d ds) w =
+      and_sub d (skipped 1 w) (next_decl w d) (λ x at. one_is (removes w.removal) (decl_edited d (skipped 1 w)) x at) (decls_edited ds (after_next w d)) ds
+      (decls_sub ds (after_next w d))
 
 imports_sub : (ds : Decls) (w : Walk) → Sub (decl_imports (decls_edited ds w)) (decl_imports ds)
-imports_sub no_decls w = none
-imports_sub (then_decls d ds) w =
-    and_imports d (skipped 1 w) (next_of w d) (λ x at. one_is (removes w.removal) (decl_edited d (skipped 1 w)) x at) (decls_edited ds (after_of w d)) ds
-    (imports_sub ds (after_of w d))
+imports_sub = decls_sub import_of decl_imports (λ d ds. refl) (λ d x w e. ap (λ n. n.0) (names_kept d x w e))
 
 exports_sub : (ds : Decls) (w : Walk) → Sub (decl_exports (decls_edited ds w)) (decl_exports ds)
-exports_sub no_decls w = none
-exports_sub (then_decls d ds) w =
-    and_exports d (skipped 1 w) (next_of w d) (λ x at. one_is (removes w.removal) (decl_edited d (skipped 1 w)) x at) (decls_edited ds (after_of w d)) ds
-    (exports_sub ds (after_of w d))
-
-name_of : List ℕ × Unit {0} → List ℕ
-name_of x = x.0
+exports_sub = decls_sub export_of decl_exports (λ d ds. refl) (λ d x w e. ap (λ n. n.1) (names_kept d x w e))
 
 -- function types
 
@@ -163,7 +139,8 @@ mutual
   formed_decls no_decls w own own2 outer outer2 f h = tt
   formed_decls (then_decls d ds) w own own2 outer outer2 f h =
       let g = skipped_follows 1 w own own2 outer outer2 f in
-      let at : (x : Decl) → next_of w d ≡ Some x → decl_edited d (skipped 1 w) ≡ Some x = λ x e. one_is (removes w.removal) (decl_edited d (skipped 1 w)) x e in
-      decl_then d (skipped 1 w) own own2 outer outer2 g h.0 (next_of w d) at (λ x e. formed_decl d (skipped 1 w) own own2 outer outer2 g h.0 x (at x e))
-      (decls_edited ds (after_of w d))
-      (λ own3 s. formed_decls ds (after_of w d) (scope_after outer own d) own3 outer outer2 (record { here = s; around = f.around }) h.1)
+      let at : (x : Decl) → next_decl w d ≡ Some x → decl_edited d (skipped 1 w) ≡ Some x =
+      λ x e. one_is (removes w.removal) (decl_edited d (skipped 1 w)) x e in
+      decl_then d (skipped 1 w) own own2 outer outer2 g h.0 (next_decl w d) at (λ x e. formed_decl d (skipped 1 w) own own2 outer outer2 g h.0 x (at x e))
+      (decls_edited ds (after_next w d))
+      (λ own3 s. formed_decls ds (after_next w d) (scope_after outer own d) own3 outer outer2 (record { here = s; around = f.around }) h.1)

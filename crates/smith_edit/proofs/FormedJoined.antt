@@ -59,14 +59,9 @@ exports_spaces (e ∷ es) ns s = exports_spaces es (ns ++ new_name ns e.name ∷
 -- a section with new names
 
 renamed_spaces : (x : Part) (is es : List (List ℕ)) (s : Spaces) → spaces_after s (part_renamed is es x) ≡ spaces_after s x
-renamed_spaces (part.custom name contents) is es s = refl
-renamed_spaces (part.core_module t) is es s = refl
-renamed_spaces (part.core_types ts) is es s = refl
-renamed_spaces (part.component t) is es s = refl
-renamed_spaces (part.types ts) is es s = refl
-renamed_spaces (part.canons fs) is es s = refl
 renamed_spaces (part.imports js) is es s = imports_spaces js is s
 renamed_spaces (part.exports fs) is es s = exports_spaces fs es s
+renamed_spaces p is es s = refl
 
 joined_names : {A : Type 0} (name : A → List ℕ) (before xs : List A) → Named (map name before ++ map name xs) → Named (map name (before ++ xs))
 joined_names name before xs h = subst Named (sym (map-append name before xs)) h
@@ -75,12 +70,6 @@ renamed_part : (x : Part) (before : Tree) → BarePart x [] before → AllByRecu
     → AllByRecursion Kebab (export_names (exports_in x))
     → Named (import_names (imports_of before)) → Named (export_names (exports_of before))
     → FormedPart (part_renamed (import_names (imports_of before)) (export_names (exports_of before)) x) [] before
-renamed_part (part.custom name contents) before b ki ke ni ne = tt
-renamed_part (part.core_module t) before b ki ke ni ne = tt
-renamed_part (part.core_types ts) before b ki ke ni ne = b
-renamed_part (part.component t) before b ki ke ni ne = b
-renamed_part (part.types ts) before b ki ke ni ne = b
-renamed_part (part.canons fs) before b ki ke ni ne = b
 renamed_part (part.imports js) before b ki ke ni ne = (
   imports_formed (scope_of before) js (import_names (imports_of before)) b,
   joined_names (λ i. i.name) (imports_of before) _ (renamed_named (λ i. i.name) import_renamed (λ i text. refl) js (import_names (imports_of before)) ni ki),
@@ -89,6 +78,7 @@ renamed_part (part.exports fs) before b ki ke ni ne = (
   exports_formed fs (export_names (exports_of before)) (spaces_of before) b,
   joined_names (λ e. e.name) (exports_of before) _ (renamed_named (λ e. e.name) export_renamed (λ e text. refl) fs (export_names (exports_of before)) ne ke),
 )
+renamed_part p before b ki ke ni ne = b
 
 -- the names of a component that is well formed
 
@@ -100,49 +90,25 @@ later_kebab : {A : Type 0} (name : A → List ℕ) (before xs : List A) → Name
 later_kebab name before xs h = all_later (map name before) (map name xs) (subst (AllByRecursion Kebab) (map-append name before xs) h.0)
 
 import_kebab : (p : Part) (outer : List Scope) (before : Tree) → FormedPart p outer before → AllByRecursion Kebab (import_names (imports_in p))
-import_kebab (part.custom name contents) outer before h = tt
-import_kebab (part.core_module t) outer before h = tt
-import_kebab (part.core_types ts) outer before h = tt
-import_kebab (part.component t) outer before h = tt
-import_kebab (part.types ts) outer before h = tt
-import_kebab (part.canons fs) outer before h = tt
 import_kebab (part.imports is) outer before h = later_kebab (λ i. i.name) (imports_of before) is h.1
-import_kebab (part.exports es) outer before h = tt
+import_kebab p outer before h = tt
 
 export_kebab : (p : Part) (outer : List Scope) (before : Tree) → FormedPart p outer before → AllByRecursion Kebab (export_names (exports_in p))
-export_kebab (part.custom name contents) outer before h = tt
-export_kebab (part.core_module t) outer before h = tt
-export_kebab (part.core_types ts) outer before h = tt
-export_kebab (part.component t) outer before h = tt
-export_kebab (part.types ts) outer before h = tt
-export_kebab (part.canons fs) outer before h = tt
-export_kebab (part.imports is) outer before h = tt
 export_kebab (part.exports es) outer before h = later_kebab (λ e. e.name) (exports_of before) es h.1
+export_kebab p outer before h = tt
 
 same_names : {A : Type 0} (name : A → List ℕ) (xs : List A) → Named (map name xs) → Named (map name (xs ++ []))
 same_names name xs h = subst (λ ys. Named (map name ys)) (sym (append-nil xs)) h
 
 imports_named : (p : Part) (outer : List Scope) (before : Tree) → FormedPart p outer before → Named (import_names (imports_of before))
     → Named (import_names (imports_of before ++ imports_in p))
-imports_named (part.custom name contents) outer before h n = same_names (λ i. i.name) (imports_of before) n
-imports_named (part.core_module t) outer before h n = same_names (λ i. i.name) (imports_of before) n
-imports_named (part.core_types ts) outer before h n = same_names (λ i. i.name) (imports_of before) n
-imports_named (part.component t) outer before h n = same_names (λ i. i.name) (imports_of before) n
-imports_named (part.types ts) outer before h n = same_names (λ i. i.name) (imports_of before) n
-imports_named (part.canons fs) outer before h n = same_names (λ i. i.name) (imports_of before) n
 imports_named (part.imports is) outer before h n = h.1
-imports_named (part.exports es) outer before h n = same_names (λ i. i.name) (imports_of before) n
+imports_named p outer before h n = same_names (λ i. i.name) (imports_of before) n
 
 exports_named : (p : Part) (outer : List Scope) (before : Tree) → FormedPart p outer before → Named (export_names (exports_of before))
     → Named (export_names (exports_of before ++ exports_in p))
-exports_named (part.custom name contents) outer before h n = same_names (λ e. e.name) (exports_of before) n
-exports_named (part.core_module t) outer before h n = same_names (λ e. e.name) (exports_of before) n
-exports_named (part.core_types ts) outer before h n = same_names (λ e. e.name) (exports_of before) n
-exports_named (part.component t) outer before h n = same_names (λ e. e.name) (exports_of before) n
-exports_named (part.types ts) outer before h n = same_names (λ e. e.name) (exports_of before) n
-exports_named (part.canons fs) outer before h n = same_names (λ e. e.name) (exports_of before) n
-exports_named (part.imports is) outer before h n = same_names (λ e. e.name) (exports_of before) n
 exports_named (part.exports es) outer before h n = h.1
+exports_named p outer before h n = same_names (λ e. e.name) (exports_of before) n
 
 record BothNamed (before : Tree) : Type 0 where
   pub of_imports : Named (import_names (imports_of before))

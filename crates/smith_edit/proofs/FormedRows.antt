@@ -34,21 +34,20 @@ use Rattle.smith_edit.specs.declared.renumbering.Renumbered.{Renumbered}
 use Rattle.smith_edit.specs.declared.scope.Scope.{Scope as Indexes}
 use Rattle.smith_edit.proofs.Alike.{Alike, Same, from_map}
 use Rattle.smith_edit.proofs.Fewer.{members_fewer, optional_fewer}
-use Rattle.smith_edit.proofs.Follows.{Stays, entry_there, get_other, kept_follows}
+use Rattle.smith_edit.proofs.Follows.{Stays, entry_there, get_other, kept_follows, some_at}
 use Rattle.smith_edit.proofs.FormedCores.{alike_core, formed_core, one_is}
 use Rattle.smith_edit.proofs.FormedDecls.{formed_entry}
 use Rattle.smith_edit.proofs.FormedTypes.{ScopesFollow, alike_entry, formed_ref, ref_eq}
 use Rattle.smith_edit.proofs.Places.{OfFunction, OfType, PlaceFollows, core_function_kept, core_function_removed, core_kept, core_removed, flat_scalar}
-use Rattle.smith_edit.proofs.Places.{function_changed}
-use Rattle.smith_edit.proofs.Places.{function_kept, function_removed, kept_entry, same_signature, same_type, scope, type_changed, type_kept, type_removed}
+use Rattle.smith_edit.proofs.Places.{function_left, function_removed, kept_entry, same_signature, same_type, scope, type_left, type_removed}
 
 -- entries in order, each judged by what is before it
 
-module _ {A : Type 0} (Ok : A → Spaces → List Scope → Type 0) (adds : Spaces → A → Spaces) where
-  abbrev pub AllFormed : List A → Spaces → List Scope → Type 0
-  AllFormed [] s outer = Unit {0}
-  AllFormed (x ∷ xs) s outer = Ok x s outer × AllFormed xs (adds s x) outer
-
+-- All is what is said of entries in order: of each one by what is before it, and of the ones after it.
+module _ {A : Type 0} (Ok : A → Spaces → List Scope → Type 0) (adds : Spaces → A → Spaces) (All : List A → Spaces → List Scope → Type 0)
+    (none : (s : Spaces) (outer : List Scope) → All [] s outer)
+    (apart : (x : A) (xs : List A) (s : Spaces) (outer : List Scope) → All (x ∷ xs) s outer → Ok x s outer × All xs (adds s x) outer)
+    (more : (x : A) (xs : List A) (s : Spaces) (outer : List Scope) → Ok x s outer × All xs (adds s x) outer → All (x ∷ xs) s outer) where
   module _ (items : A → ℕ) (edited : Walk → A → Option A) (after : Indexes → A → Option A → Indexes)
       (removed : (w : Walk) (s s2 : Spaces) (outer outer2 : List Scope) → PlaceFollows w.own s s2 → ScopesFollow w.outer outer outer2 → (x : A) → Ok x s outer
       → PlaceFollows (after w.own x None) (adds s x) s2)
@@ -57,24 +56,25 @@ module _ {A : Type 0} (Ok : A → Spaces → List Scope → Type 0) (adds : Spac
     row_then : (w : Walk) (s s2 : Spaces) (outer outer2 : List Scope) → PlaceFollows w.own s s2 → ScopesFollow w.outer outer outer2 → (x : A) → Ok x s outer
         → (o : Option A) → ((y : A) → o ≡ Some y → edited w x ≡ Some y) → (v : Walk) (xs later : List A)
         → ((s3 : Spaces) → PlaceFollows (after w.own x o) (adds s x) s3
-        → AllFormed later s3 outer2 × PlaceFollows v.own (fold adds (adds s x) xs) (fold adds s3 later))
-        → AllFormed (option_to_list o ++ later) s2 outer2 × PlaceFollows v.own (fold adds (adds s x) xs) (fold adds s2 (option_to_list o ++ later))
+        → All later s3 outer2 × PlaceFollows v.own (fold adds (adds s x) xs) (fold adds s3 later))
+        → All (option_to_list o ++ later) s2 outer2 × PlaceFollows v.own (fold adds (adds s x) xs) (fold adds s2 (option_to_list o ++ later))
     row_then w s s2 outer outer2 p q x h None at v xs later go = go s2 (removed w s s2 outer outer2 p q x h)
     row_then w s s2 outer outer2 p q x h (Some y) at v xs later go =
         let (ok, next) = kept w s s2 outer outer2 p q x y h (at y refl) in
         let (formed, follows) = go (adds s2 y) next in
-        ((ok, formed), follows)
+        (more y later s2 outer2 (ok, formed), follows)
 
     pub rows_formed : (xs : List A) (w : Walk) (s s2 : Spaces) (outer outer2 : List Scope) → PlaceFollows w.own s s2 → ScopesFollow w.outer outer outer2
-        → AllFormed xs s outer
-        → AllFormed (rows items edited after w xs) s2 outer2
+        → All xs s outer
+        → All (rows items edited after w xs) s2 outer2
         × PlaceFollows (after_rows items edited after w xs).own (fold adds s xs) (fold adds s2 (rows items edited after w xs))
-    rows_formed [] w s s2 outer outer2 p q h = (tt, p)
+    rows_formed [] w s s2 outer outer2 p q h = (none s2 outer2, p)
     rows_formed (x ∷ xs) w s s2 outer outer2 p q h =
         let o : Option A = one items edited after w x in
         let v : Walk = after_one items edited after w x in
-        row_then (skipped 1 w) s s2 outer outer2 p q x h.0 o (λ y at. one_is (removes w.removal) (edited (skipped 1 w) x) y at)
-        (after_rows items edited after v xs) xs (rows items edited after v xs) (λ s3 f. rows_formed xs v (adds s x) s3 outer outer2 f q h.1)
+        let (ok, others) = apart x xs s outer h in
+        row_then (skipped 1 w) s s2 outer outer2 p q x ok o (λ y at. one_is (removes w.removal) (edited (skipped 1 w) x) y at)
+        (after_rows items edited after v xs) xs (rows items edited after v xs) (λ s3 f. rows_formed xs v (adds s x) s3 outer outer2 f q others)
 
 -- if everything is removed
 pub rows_nothing : {A : Type 0} (items : A → ℕ) (edited : Walk → A → Option A) (after : Indexes → A → Option A → Indexes) (xs : List A) (w : Walk)
@@ -184,8 +184,8 @@ same_kept w e x at n = record {
 
 type_by : (own : Indexes) (s s2 : Spaces) → PlaceFollows own s s2 → (e x : Entry) → ((f : Fate) → Alike f e x) → (b : Bool) → (b ≡ true → Same Kept e x)
     → PlaceFollows (with_type own (if b then Kept else Changed)) (adds_type s e) (adds_type s2 x)
-type_by own s s2 p e x alike true same = type_kept own s s2 p e x (alike Kept) (same refl)
-type_by own s s2 p e x alike false same = type_changed own s s2 p e x (alike Changed) (record { same = λ no g is scalar. absurd cc })
+type_by own s s2 p e x alike true same = type_left own s s2 p Kept tt e x (alike Kept) (same refl)
+type_by own s s2 p e x alike false same = type_left own s s2 p Changed tt e x (alike Changed) (record { same = λ no g is scalar. absurd cc })
 
 pub type_stays : (w : Walk) (s s2 : Spaces) (outer outer2 : List Scope) → PlaceFollows w.own s s2 → ScopesFollow w.outer outer outer2 → (e x : Entry)
     → TypeOk e s outer
@@ -235,7 +235,7 @@ canon_stays w s s2 outer outer2 p q (lift c t) d (signature, lowered, f, type_is
         same_signature w.own s s2 p f f2 lowered has (flat_scalar lowered common lowered_flat) function_there,
         flat,
       ),
-      function_kept w.own s s2 p t u there,
+      function_left w.own s s2 p Kept tt t u there,
     )
 
 -- imports
@@ -254,11 +254,8 @@ no_functions own s s2 p =
 
 ref_gone : (own : Indexes) (s s2 : Spaces) → PlaceFollows own s s2 → (r : ComponentTypeRef)
     → PlaceFollows (after_ref own r false) (record s { functions = s.functions ++ function_of r }) s2
-ref_gone own s s2 p (to.Module i) = no_function own s s2 p
 ref_gone own s s2 p (to.Func i) = function_removed own s s2 p i
-ref_gone own s s2 p (to.TypeEq i) = no_function own s s2 p
-ref_gone own s s2 p (to.Component i) = no_function own s s2 p
-ref_gone own s s2 p (to.Instance i) = no_function own s s2 p
+ref_gone own s s2 p r = no_function own s s2 p
 
 pub import_gone : (w : Walk) (s s2 : Spaces) (outer outer2 : List Scope) → PlaceFollows w.own s s2 → ScopesFollow w.outer outer outer2 → (i : ImportEntry)
     → ImportOk i s outer
@@ -269,9 +266,8 @@ function_by : (own : Indexes) (s s2 : Spaces) → PlaceFollows own s s2 → (t u
     ≡ Some (record { index = n; fate = f })
     → elim f [ Kept ↦ Some n | Changed ↦ Some n | Removed ↦ None ] ≡ Some u
     → PlaceFollows (with_function own f) (record s { functions = s.functions ++ t ∷ [] }) (record s2 { functions = s2.functions ++ u ∷ [] })
-function_by own s s2 p t u Kept n at e = let is : n ≡ u = cc in function_kept own s s2 p t u (subst (OfType own.types Kept t) is at)
-function_by own s s2 p t u Changed n at e = let is : n ≡ u = cc in function_changed own s s2 p t u (subst (OfType own.types Changed t) is at)
 function_by own s s2 p t u Removed n at e = absurd cc
+function_by own s s2 p t u f n at e = let is : n ≡ u = cc in function_left own s s2 p f tt t u (subst (OfType own.types f t) is at)
 
 function_stays : (own : Indexes) (s s2 : Spaces) → PlaceFollows own s s2 → (t u : ℕ) (e : Entry) → slice_get s.types t ≡ Some e → new_index own.types t ≡ Some u
     → PlaceFollows (with_function own (entry_at own.types t).fate) (record s { functions = s.functions ++ t ∷ [] })
@@ -283,25 +279,13 @@ function_stays own s s2 p t u e at new =
 
 ref_stays : (own : Indexes) (s s2 : Spaces) → PlaceFollows own s s2 → (r x : ComponentTypeRef) → FormedRef (scope s) r → ref_edited own r ≡ Some x
     → PlaceFollows (after_ref own r true) (record s { functions = s.functions ++ function_of r }) (record s2 { functions = s2.functions ++ function_of x })
-ref_stays own s s2 p (to.Module i) x h e =
-    let (j, at, is) = from_map to.Module (new_index own.core_types i) x e in
-    subst (λ y. PlaceFollows own (record s { functions = s.functions ++ [] }) (record s2 { functions = s2.functions ++ function_of y })) is
-    (no_functions own s s2 p)
 ref_stays own s s2 p (to.Func i) x h e =
     let (j, at, is) = from_map to.Func (new_index own.types i) x e in
     subst (λ y. PlaceFollows (with_function own (entry_at own.types i).fate) (record s { functions = s.functions ++ i ∷ [] })
     (record s2 { functions = s2.functions ++ function_of y })) is
     (function_stays own s s2 p i j h.0 h.1 at)
-ref_stays own s s2 p (to.TypeEq i) x h e =
-    let (j, at, is) = from_map to.TypeEq (new_index own.types i) x e in
-    subst (λ y. PlaceFollows own (record s { functions = s.functions ++ [] }) (record s2 { functions = s2.functions ++ function_of y })) is
-    (no_functions own s s2 p)
-ref_stays own s s2 p (to.Component i) x h e =
-    let (j, at, is) = from_map to.Component (new_index own.types i) x e in
-    subst (λ y. PlaceFollows own (record s { functions = s.functions ++ [] }) (record s2 { functions = s2.functions ++ function_of y })) is
-    (no_functions own s s2 p)
-ref_stays own s s2 p (to.Instance i) x h e =
-    let (j, at, is) = from_map to.Instance (new_index own.types i) x e in
+ref_stays own s s2 p r x h e =
+    let (j, at, is) = from_map _ _ x e in
     subst (λ y. PlaceFollows own (record s { functions = s.functions ++ [] }) (record s2 { functions = s2.functions ++ function_of y })) is
     (no_functions own s s2 p)
 
@@ -319,11 +303,6 @@ import_stays w s s2 outer outer2 p q i x h e =
 
 abbrev pub ExportOk : ExportEntry → Spaces → List Scope → Type 0
 ExportOk e s outer = e.func < length s.functions
-
-some_at : {A : Type 0} (xs : List A) (i : ℕ) → i < length xs → (x : A) × (slice_get xs i ≡ Some x)
-some_at [] i h = absurd (omega (arith, h))
-some_at (x ∷ xs) zero h = (x, refl)
-some_at (x ∷ xs) (suc i) h = some_at xs i (omega (arith, h))
 
 like_gone : (own : Indexes) (s s2 : Spaces) → PlaceFollows own s s2 → (f t : ℕ) (r : Renumbered) → slice_get s.functions f ≡ Some t
     → slice_get own.functions.entries f ≡ Some r
@@ -349,23 +328,15 @@ export_by : (own : Indexes) (s s2 : Spaces) → PlaceFollows own s s2 → (t g :
     → (g < length s2.functions)
     × PlaceFollows (with_function own f) (record s { functions = s.functions ++ t ∷ [] })
     (record s2 { functions = s2.functions ++ option_to_list (slice_get s2.functions g) })
-export_by own s s2 p t g Kept n (u, there, of_type) e =
-    let is : n ≡ g = cc in
-    let at : slice_get s2.functions g ≡ Some u = subst (λ k. slice_get s2.functions k ≡ Some u) is there in (
-      slice_get_within s2.functions g u at,
-      subst (λ o. PlaceFollows (with_function own Kept) (record s { functions = s.functions ++ t ∷ [] })
-          (record s2 { functions = s2.functions ++ option_to_list o })) (sym at)
-          (function_kept own s s2 p t u of_type),
-    )
-export_by own s s2 p t g Changed n (u, there, of_type) e =
-    let is : n ≡ g = cc in
-    let at : slice_get s2.functions g ≡ Some u = subst (λ k. slice_get s2.functions k ≡ Some u) is there in (
-      slice_get_within s2.functions g u at,
-      subst (λ o. PlaceFollows (with_function own Changed) (record s { functions = s.functions ++ t ∷ [] })
-          (record s2 { functions = s2.functions ++ option_to_list o })) (sym at)
-          (function_changed own s s2 p t u of_type),
-    )
 export_by own s s2 p t g Removed n h e = absurd cc
+export_by own s s2 p t g f n (u, there, of_type) e =
+    let is : n ≡ g = cc in
+    let at : slice_get s2.functions g ≡ Some u = subst (λ k. slice_get s2.functions k ≡ Some u) is there in (
+      slice_get_within s2.functions g u at,
+      subst (λ o. PlaceFollows (with_function own f) (record s { functions = s.functions ++ t ∷ [] })
+          (record s2 { functions = s2.functions ++ option_to_list o })) (sym at)
+          (function_left own s s2 p f tt t u of_type),
+    )
 
 pub export_stays : (w : Walk) (s s2 : Spaces) (outer outer2 : List Scope) → PlaceFollows w.own s s2 → ScopesFollow w.outer outer outer2
     → (e x : ExportEntry) → ExportOk e s outer

@@ -28,56 +28,12 @@ use Rattle.smith_edit.proofs.AfterRows.{part_outer}
 use Rattle.smith_edit.proofs.Alike.{from_map}
 use Rattle.smith_edit.proofs.Fewer.{some_same}
 use Rattle.smith_edit.proofs.FormedCores.{one_is}
-use Rattle.smith_edit.proofs.FormedDecls.{nothing_of}
-use Rattle.smith_edit.proofs.FormedRows.{AllFormed, CanonOk, CoreOk, ExportOk, ImportOk, TypeOk, adds_core, adds_type, canon_gone, canon_stays, core_gone}
+use Rattle.smith_edit.proofs.FormedRows.{CanonOk, CoreOk, ExportOk, ImportOk, TypeOk, adds_core, adds_type, canon_gone, canon_stays, core_gone}
 use Rattle.smith_edit.proofs.FormedRows.{core_stays}
 use Rattle.smith_edit.proofs.FormedRows.{export_gone, export_stays, import_gone, import_stays, rows_formed, rows_nothing, type_gone, type_stays}
 use Rattle.smith_edit.proofs.FormedTypes.{ScopesFollow, no_scopes, then_scopes}
 use Rattle.smith_edit.proofs.Places.{PlaceFollows, nothing_yet, scope}
-use Rattle.smith_edit.proofs.Sublists.{Sub, keep, named_sub, none, skip, sub_append}
-
--- entries in order, as sections judge them
-
-cores_to : (ts : List CoreEntry) (s : Spaces) (outer : List Scope) → FormedCores ts (scope s) → AllFormed CoreOk adds_core ts s outer
-cores_to [] s outer h = tt
-cores_to (t ∷ ts) s outer h = (h.0, cores_to ts (adds_core s t) outer h.1)
-
-cores_from : (ts : List CoreEntry) (s : Spaces) (outer : List Scope) → AllFormed CoreOk adds_core ts s outer → FormedCores ts (scope s)
-cores_from [] s outer h = tt
-cores_from (t ∷ ts) s outer h = (h.0, cores_from ts (adds_core s t) outer h.1)
-
-types_to : (es : List Entry) (s : Spaces) (outer : List Scope) → FormedTypes es (scope s) outer → AllFormed TypeOk adds_type es s outer
-types_to [] s outer h = tt
-types_to (e ∷ es) s outer h = (h.0, types_to es (adds_type s e) outer h.1)
-
-types_from : (es : List Entry) (s : Spaces) (outer : List Scope) → AllFormed TypeOk adds_type es s outer → FormedTypes es (scope s) outer
-types_from [] s outer h = tt
-types_from (e ∷ es) s outer h = (h.0, types_from es (adds_type s e) outer h.1)
-
-canons_to : (cs : List Canon) (s : Spaces) (outer : List Scope) → FormedCanons cs s → AllFormed CanonOk after_canon cs s outer
-canons_to [] s outer h = tt
-canons_to (c ∷ cs) s outer h = (h.0, canons_to cs (after_canon s c) outer h.1)
-
-canons_from : (cs : List Canon) (s : Spaces) (outer : List Scope) → AllFormed CanonOk after_canon cs s outer → FormedCanons cs s
-canons_from [] s outer h = tt
-canons_from (c ∷ cs) s outer h = (h.0, canons_from cs (after_canon s c) outer h.1)
-
-imports_to : (is : List ImportEntry) (s : Spaces) (outer : List Scope) → AllByRecursion (FormedImport (scope s)) is → AllFormed ImportOk after_import is s outer
-imports_to [] s outer h = tt
-imports_to (i ∷ is) s outer h = (h.0, imports_to is (after_import s i) outer h.1)
-
-imports_from : (is : List ImportEntry) (s : Spaces) (outer : List Scope) → AllFormed ImportOk after_import is s outer
-    → AllByRecursion (FormedImport (scope s)) is
-imports_from [] s outer h = tt
-imports_from (i ∷ is) s outer h = (h.0, imports_from is (after_import s i) outer h.1)
-
-exports_to : (es : List ExportEntry) (s : Spaces) (outer : List Scope) → FormedExports es s → AllFormed ExportOk after_export es s outer
-exports_to [] s outer h = tt
-exports_to (e ∷ es) s outer h = (h.0, exports_to es (after_export s e) outer h.1)
-
-exports_from : (es : List ExportEntry) (s : Spaces) (outer : List Scope) → AllFormed ExportOk after_export es s outer → FormedExports es s
-exports_from [] s outer h = tt
-exports_from (e ∷ es) s outer h = (h.0, exports_from es (after_export s e) outer h.1)
+use Rattle.smith_edit.proofs.Sublists.{Sub, keep, named_sub, none, nothing_of, skip, sub_append}
 
 -- spaces after a section
 
@@ -101,16 +57,14 @@ own_added f t p = ap (flat_map f) (parts_added t p) ∙ flat_map-append f (parts
 
 -- if everything is removed nothing is added
 nothing_added : (p : Part) (w : Walk) (s : Spaces) → w.removal ≡ Everything → spaces_after s (part_edited p w) ≡ s
-nothing_added (part.custom name contents) w s e = refl
-nothing_added (part.core_module t) w s e = refl
 nothing_added (part.core_types ts) w s e = ap (λ xs. record s { core_types = s.core_types ++ xs }) (rows_nothing core_items core_row after_core ts w e)
     ∙ ap (λ xs. record s { core_types = xs }) (append-nil s.core_types)
-nothing_added (part.component t) w s e = refl
 nothing_added (part.types es) w s e = ap (λ xs. record s { types = s.types ++ xs }) (rows_nothing entry_items type_row after_type es w e)
     ∙ ap (λ xs. record s { types = xs }) (append-nil s.types)
 nothing_added (part.canons fs) w s e = ap (fold after_canon s) (rows_nothing none_inside canon_edited edit_canon fs w e)
 nothing_added (part.imports is) w s e = ap (fold after_import s) (rows_nothing none_inside import_edited edit_import is w e)
 nothing_added (part.exports es) w s e = ap (fold after_export s) (rows_nothing none_inside export_edited edit_export es w e)
+nothing_added p w s e = refl
 
 -- names
 
@@ -140,24 +94,12 @@ pub record NamesFollow (before before2 : Tree) : Type 0 where
   pub of_exports : Sub (export_names (exports_of before2)) (export_names (exports_of before))
 
 pub part_imports : (p : Part) (w : Walk) → Sub (import_names (imports_in (part_edited p w))) (import_names (imports_in p))
-part_imports (part.custom name contents) w = none
-part_imports (part.core_module t) w = none
-part_imports (part.core_types ts) w = none
-part_imports (part.component t) w = none
-part_imports (part.types es) w = none
-part_imports (part.canons fs) w = none
 part_imports (part.imports is) w = rows_names none_inside import_edited edit_import (λ i. i.name) import_name is w
-part_imports (part.exports es) w = none
+part_imports p w = none
 
 pub part_exports : (p : Part) (w : Walk) → Sub (export_names (exports_in (part_edited p w))) (export_names (exports_in p))
-part_exports (part.custom name contents) w = none
-part_exports (part.core_module t) w = none
-part_exports (part.core_types ts) w = none
-part_exports (part.component t) w = none
-part_exports (part.types es) w = none
-part_exports (part.canons fs) w = none
-part_exports (part.imports is) w = none
 part_exports (part.exports es) w = rows_names none_inside export_edited edit_export (λ e. e.name) export_name es w
+part_exports p w = none
 
 sub_names : {A : Type 0} (name : A → List ℕ) (as2 cs2 as1 cs1 : List A) → Sub (map name as2) (map name as1) → Sub (map name cs2) (map name cs1)
     → Sub (map name (as2 ++ cs2)) (map name (as1 ++ cs1))
@@ -197,23 +139,16 @@ formed_and false q rest outer before h k = k refl
 -- what sections are without the names of imports and exports
 
 abbrev pub BarePart : Part → List Scope → Tree → Type 0
-BarePart (part.custom name contents) outer before = Unit {0}
-BarePart (part.core_module t) outer before = Unit {0}
 BarePart (part.core_types ts) outer before = FormedCores ts (scope_of before)
 BarePart (part.component t) outer before = Formed t (scope_of before ∷ outer) ends
 BarePart (part.types es) outer before = FormedTypes es (scope_of before) outer
 BarePart (part.canons fs) outer before = FormedCanons fs (spaces_of before)
 BarePart (part.imports is) outer before = AllByRecursion (FormedImport (scope_of before)) is
 BarePart (part.exports es) outer before = FormedExports es (spaces_of before)
+BarePart p outer before = Unit {0}
 
 part_named : (p : Part) (w : Walk) (before before2 : Tree) (outer outer2 : List Scope) → NamesFollow before before2 → FormedPart p outer before
     → BarePart (part_edited p w) outer2 before2 → FormedPart (part_edited p w) outer2 before2
-part_named (part.custom name contents) w before before2 outer outer2 n h b = tt
-part_named (part.core_module t) w before before2 outer outer2 n h b = tt
-part_named (part.core_types ts) w before before2 outer outer2 n h b = b
-part_named (part.component t) w before before2 outer outer2 n h b = b
-part_named (part.types es) w before before2 outer outer2 n h b = b
-part_named (part.canons fs) w before before2 outer outer2 n h b = b
 part_named (part.imports is) w before before2 outer outer2 n h b = (
   b,
   named_sub _ _ (sub_names (λ i. i.name) (imports_of before2) (rows none_inside import_edited edit_import w is) (imports_of before) is n.of_imports
@@ -224,21 +159,20 @@ part_named (part.exports es) w before before2 outer outer2 n h b = (
   named_sub _ _ (sub_names (λ e. e.name) (exports_of before2) (rows none_inside export_edited edit_export w es) (exports_of before) es n.of_exports
       (part_exports (part.exports es) w)) h.1,
 )
+part_named p w before before2 outer outer2 n h b = b
 
 mutual
   pub part_bare : (p : Part) (w : Walk) (before before2 : Tree) (outer outer2 : List Scope) → PlaceFollows w.own (spaces_of before) (spaces_of before2)
       → ScopesFollow w.outer outer outer2
       → FormedPart p outer before → BarePart (part_edited p w) outer2 before2 × PlaceFollows (after_part w p).own (spaces_after (spaces_of before) p)
       (spaces_after (spaces_of before2) (part_edited p w))
-  part_bare (part.custom name contents) w before before2 outer outer2 f q h = (tt, f)
-  part_bare (part.core_module t) w before before2 outer outer2 f q h = (tt, f)
   part_bare (part.core_types ts) w before before2 outer outer2 f q h =
       let s : Spaces = spaces_of before in
       let s2 : Spaces = spaces_of before2 in
       let new : List CoreEntry = rows core_items core_row after_core w ts in
-      let (formed, follows) = rows_formed CoreOk adds_core core_items core_row after_core core_gone core_stays ts w s s2 outer outer2 f q
-      (cores_to ts s outer h) in (
-        cores_from new s2 outer2 formed,
+      let (formed, follows) = rows_formed CoreOk adds_core (λ xs z o. FormedCores xs (scope z)) (λ z o. tt) (λ x xs z o k. k) (λ x xs z o k. k)
+      core_items core_row after_core core_gone core_stays ts w s s2 outer outer2 f q h in (
+        formed,
         subst (λ z. PlaceFollows (after_part w (part.core_types ts)).own (record s { core_types = s.core_types ++ ts }) z) (cores_added new s2)
             (subst (λ z. PlaceFollows (after_part w (part.core_types ts)).own z (fold adds_core s2 new)) (cores_added ts s) follows),
       )
@@ -251,27 +185,22 @@ mutual
       let s : Spaces = spaces_of before in
       let s2 : Spaces = spaces_of before2 in
       let new : List Entry = rows entry_items type_row after_type w es in
-      let (formed, follows) = rows_formed TypeOk adds_type entry_items type_row after_type type_gone type_stays es w s s2 outer outer2 f q
-      (types_to es s outer h) in (
-        types_from new s2 outer2 formed,
+      let (formed, follows) = rows_formed TypeOk adds_type (λ xs z o. FormedTypes xs (scope z) o) (λ z o. tt) (λ x xs z o k. k) (λ x xs z o k. k)
+      entry_items type_row after_type type_gone type_stays es w s s2 outer outer2 f q h in (
+        formed,
         subst (λ z. PlaceFollows (after_part w (part.types es)).own (record s { types = s.types ++ es }) z) (types_added new s2)
             (subst (λ z. PlaceFollows (after_part w (part.types es)).own z (fold adds_type s2 new)) (types_added es s) follows),
       )
   part_bare (part.canons fs) w before before2 outer outer2 f q h =
-      let (formed, follows) = rows_formed CanonOk after_canon none_inside canon_edited edit_canon canon_gone canon_stays fs w (spaces_of before)
-      (spaces_of before2) outer outer2 f q
-      (canons_to fs (spaces_of before) outer h) in
-      (canons_from (rows none_inside canon_edited edit_canon w fs) (spaces_of before2) outer2 formed, follows)
+      rows_formed CanonOk after_canon (λ xs z o. FormedCanons xs z) (λ z o. tt) (λ x xs z o k. k) (λ x xs z o k. k) none_inside canon_edited edit_canon
+      canon_gone canon_stays fs w (spaces_of before) (spaces_of before2) outer outer2 f q h
   part_bare (part.imports is) w before before2 outer outer2 f q h =
-      let new : List ImportEntry = rows none_inside import_edited edit_import w is in
-      let (formed, follows) = rows_formed ImportOk after_import none_inside import_edited edit_import import_gone import_stays is w (spaces_of before)
-      (spaces_of before2) outer outer2 f q
-      (imports_to is (spaces_of before) outer h.0) in (imports_from new (spaces_of before2) outer2 formed, follows)
+      rows_formed ImportOk after_import (λ xs z o. AllByRecursion (FormedImport (scope z)) xs) (λ z o. tt) (λ x xs z o k. k) (λ x xs z o k. k)
+      none_inside import_edited edit_import import_gone import_stays is w (spaces_of before) (spaces_of before2) outer outer2 f q h.0
   part_bare (part.exports es) w before before2 outer outer2 f q h =
-      let new : List ExportEntry = rows none_inside export_edited edit_export w es in
-      let (formed, follows) = rows_formed ExportOk after_export none_inside export_edited edit_export export_gone export_stays es w (spaces_of before)
-      (spaces_of before2) outer outer2 f q
-      (exports_to es (spaces_of before) outer h.0) in (exports_from new (spaces_of before2) outer2 formed, follows)
+      rows_formed ExportOk after_export (λ xs z o. FormedExports xs z) (λ z o. tt) (λ x xs z o k. k) (λ x xs z o k. k) none_inside export_edited edit_export
+      export_gone export_stays es w (spaces_of before) (spaces_of before2) outer outer2 f q h.0
+  part_bare p w before before2 outer outer2 f q h = (tt, f)
 
   pub tree_formed : (t : Tree) (w : Walk) (before before2 : Tree) (outer outer2 : List Scope) → PlaceFollows w.own (spaces_of before) (spaces_of before2)
       → ScopesFollow w.outer outer outer2 → NamesFollow before before2 → Formed t outer before → Formed (tree_edited t w) outer2 before2

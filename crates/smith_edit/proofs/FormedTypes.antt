@@ -18,7 +18,7 @@ use Rattle.smith_edit.specs.declared.renumbering.Fate.{Fate}
 use Rattle.smith_edit.specs.declared.renumbering.Fate.TheVariants.{Kept, Removed}
 use Rattle.smith_edit.specs.declared.scope.Scope.{Scope as Spaces}
 use Rattle.smith_edit.proofs.Alike.{Alike, AlikeCore, ScopeFollows, from_map}
-use Rattle.smith_edit.proofs.Follows.{Follows, follows_kept, follows_removed, index_follows, none_yet}
+use Rattle.smith_edit.proofs.Follows.{Follows, follows_left, follows_removed, index_follows, none_yet}
 use Rattle.smith_edit.proofs.FormedCores.{alike_core}
 
 -- scopes, innermost first, as they became others
@@ -90,10 +90,7 @@ module _ (s : Spaces) (own own2 : Scope) (follows : ScopeFollows s own own2) whe
 
   pub ref_eq : (r q : ComponentTypeRef) → ref_edited s r ≡ Some q → is_type_eq q ≡ is_type_eq r
   ref_eq (to.Module i) q e = let (j, at, is) = from_map to.Module (new_index s.core_types i) q e in ap is_type_eq (sym is)
-  ref_eq (to.Func i) q e = let (j, at, is) = from_map to.Func (new_index s.types i) q e in ap is_type_eq (sym is)
-  ref_eq (to.TypeEq i) q e = let (j, at, is) = from_map to.TypeEq (new_index s.types i) q e in ap is_type_eq (sym is)
-  ref_eq (to.Component i) q e = let (j, at, is) = from_map to.Component (new_index s.types i) q e in ap is_type_eq (sym is)
-  ref_eq (to.Instance i) q e = let (j, at, is) = from_map to.Instance (new_index s.types i) q e in ap is_type_eq (sym is)
+  ref_eq r q e = let (j, at, is) = from_map _ (new_index s.types _) q e in ap is_type_eq (sym is)
 
   -- one more entry
 
@@ -101,7 +98,7 @@ module _ (s : Spaces) (own own2 : Scope) (follows : ScopeFollows s own own2) whe
   more_type_removed x = record { types = follows_removed Alike s.types own.types own2.types x follows.types; core_types = follows.core_types }
 
   pub more_type : (x y : Entry) → Alike Kept x y → ScopeFollows (with_type s Kept) (one_type own x) (one_type own2 y)
-  more_type x y a = record { types = follows_kept Alike s.types own.types own2.types x y follows.types a; core_types = follows.core_types }
+  more_type x y a = record { types = follows_left Alike Kept tt s.types own.types own2.types x y follows.types a; core_types = follows.core_types }
 
   pub more_core_removed : (x : CoreEntry) → ScopeFollows (with_core_type s Removed) (one_core_type own x) own2
   more_core_removed x = record {
@@ -110,7 +107,10 @@ module _ (s : Spaces) (own own2 : Scope) (follows : ScopeFollows s own own2) whe
   }
 
   pub more_core : (x y : CoreEntry) → AlikeCore Kept x y → ScopeFollows (with_core_type s Kept) (one_core_type own x) (one_core_type own2 y)
-  more_core x y a = record { types = follows.types; core_types = follows_kept AlikeCore s.core_types own.core_types own2.core_types x y follows.core_types a }
+  more_core x y a = record {
+    types = follows.types;
+    core_types = follows_left AlikeCore Kept tt s.core_types own.core_types own2.core_types x y follows.core_types a;
+  }
 
   no_more : ScopeFollows s (with_types own []) own2
   no_more = record { types = subst (λ ts. Follows Alike s.types ts own2.types) (sym (append-nil own.types)) follows.types; core_types = follows.core_types }
@@ -164,9 +164,7 @@ alike_entry (instance_type ds) w x e f =
 
 plain_alike : (f : Fate) (e : Entry) → Alike f e (plain e)
 plain_alike f (defined t) = record { of_values = refl; of_functions = refl; of_components = refl; of_instances = refl }
-plain_alike f (function g) = record { of_values = refl; of_functions = refl; of_components = refl; of_instances = refl }
-plain_alike f (component_type ds) = record { of_values = refl; of_functions = refl; of_components = refl; of_instances = refl }
-plain_alike f (instance_type ds) = record { of_values = refl; of_functions = refl; of_components = refl; of_instances = refl }
+plain_alike f e = record { of_values = refl; of_functions = refl; of_components = refl; of_instances = refl }
 
 alike_plain : (f : Fate) (e x : Entry) → Alike f e x → Alike f (plain e) (plain x)
 alike_plain f e x a =
@@ -193,13 +191,10 @@ module _ (w : Walk) (own own2 : Scope) (outer outer2 : List Scope) (follows : Wa
 
   export_removed : (r : ComponentTypeRef) → FormedRef own r
       → ScopeFollows (if is_type_eq r then with_type w.own Removed else w.own) (with_types own (option_to_list (exported_type own r))) own2
-  export_removed (to.Module i) h = no_more w.own own own2 follows.here
-  export_removed (to.Func i) h = no_more w.own own own2 follows.here
   export_removed (to.TypeEq i) h =
       subst (λ ts. ScopeFollows (with_type w.own Removed) (with_types own (option_to_list ts)) own2) (sym h.1)
       (more_type_removed w.own own own2 follows.here h.0)
-  export_removed (to.Component i) h = no_more w.own own own2 follows.here
-  export_removed (to.Instance i) h = no_more w.own own own2 follows.here
+  export_removed r h = no_more w.own own own2 follows.here
 
   pub removed_after : (d : Decl) → FormedDeclaration d own outer → ScopeFollows (after_decl w.own d None) (scope_after outer own d) own2
   removed_after (core_type_decl t k) h = more_core_removed w.own own own2 follows.here t
@@ -222,14 +217,6 @@ module _ (w : Walk) (own own2 : Scope) (outer outer2 : List Scope) (follows : Wa
   export_kept : (r q : ComponentTypeRef) → FormedRef own r → ref_edited w.own r ≡ Some q
       → ScopeFollows (if is_type_eq r then with_type w.own Kept else w.own) (with_types own (option_to_list (exported_type own r)))
       (with_types own2 (option_to_list (exported_type own2 q)))
-  export_kept (to.Module i) q h e =
-      let (j, at, is) = from_map to.Module (new_index w.own.core_types i) q e in
-      subst (λ x. ScopeFollows w.own (with_types own []) (with_types own2 (option_to_list (exported_type own2 x)))) is
-      (no_more_both w.own own own2 follows.here)
-  export_kept (to.Func i) q h e =
-      let (j, at, is) = from_map to.Func (new_index w.own.types i) q e in
-      subst (λ x. ScopeFollows w.own (with_types own []) (with_types own2 (option_to_list (exported_type own2 x)))) is
-      (no_more_both w.own own own2 follows.here)
   export_kept (to.TypeEq i) q h e =
       let (j, at, is) = from_map to.TypeEq (new_index w.own.types i) q e in
       let (f, y, there, alike) = kind_ref w.own own own2 follows.here i j h.0 h.1 at in
@@ -239,12 +226,8 @@ module _ (w : Walk) (own own2 : Scope) (outer outer2 : List Scope) (follows : Wa
       (sym h.1)
       (subst (λ ts. ScopeFollows (with_type w.own Kept) (with_types own (h.0 ∷ [])) (with_types own2 (option_to_list ts))) (sym there)
       (more_type w.own own own2 follows.here h.0 y (loose f h.0 y alike))))
-  export_kept (to.Component i) q h e =
-      let (j, at, is) = from_map to.Component (new_index w.own.types i) q e in
-      subst (λ x. ScopeFollows w.own (with_types own []) (with_types own2 (option_to_list (exported_type own2 x)))) is
-      (no_more_both w.own own own2 follows.here)
-  export_kept (to.Instance i) q h e =
-      let (j, at, is) = from_map to.Instance (new_index w.own.types i) q e in
+  export_kept r q h e =
+      let (j, at, is) = from_map _ _ q e in
       subst (λ x. ScopeFollows w.own (with_types own []) (with_types own2 (option_to_list (exported_type own2 x)))) is
       (no_more_both w.own own own2 follows.here)
 

@@ -8,7 +8,7 @@ use Rattle.smith_format.specs.declared.types.EntityType.{EntityType}
 use Rattle.smith_format.specs.declared.types.EntityType.TheVariants as entity
 use Rattle.smith_syntax.specs.Entries.{Case, Decl, DefValType, Entry, Field, ImportEntry, ModuleDecl}
 use Rattle.smith_syntax.specs.Entries.{aliases, declares, exports, imports, defined, function, component_type, instance_type}
-use Rattle.smith_syntax.specs.Entries.{primitive_type, record_type, variant_type, list_type, tuple_type, flags_type, enum_type, option_type, result_type}
+use Rattle.smith_syntax.specs.Entries.{primitive_type, record_type, variant_type, list_type, tuple_type, option_type, result_type}
 use Rattle.smith_syntax.specs.Entries.{core_type_decl, type_decl, type_alias, core_type_alias, import_decl, export_decl}
 use Rattle.smith_syntax.specs.declared.deftype.ComponentTypeRef.{ComponentTypeRef}
 use Rattle.smith_syntax.specs.declared.deftype.ComponentTypeRef.TheVariants as to
@@ -35,17 +35,15 @@ no_map f None e = refl
 no_map f (Some x) e = absurd cc
 
 by_fate : (i : ℕ) (f : Fate) → ◌≡◌ {A = Option ℕ} (elim f [ Kept ↦ Some i | Changed ↦ Some i | Removed ↦ None ]) None → f ≡ Removed
-by_fate i Kept e = absurd cc
-by_fate i Changed e = absurd cc
 by_fate i Removed e = refl
+by_fate i f e = absurd cc
 
 gone : (s : Renumbering) (i : ℕ) → new_index s i ≡ None → IsGone s i
 gone s i e = by_fate (entry_at s i).index (entry_at s i).fate e
 
 by_kept : (i : ℕ) (f : Fate) → ◌≡◌ {A = Option ℕ} (elim f [ Kept ↦ Some i | Changed ↦ None | Removed ↦ None ]) None → ¬ (f ≡ Kept)
 by_kept i Kept e h = absurd cc
-by_kept i Changed e h = absurd cc
-by_kept i Removed e h = absurd cc
+by_kept i f e h = absurd cc
 
 differs : (s : Renumbering) (i : ℕ) → kept_index s i ≡ None → Differs s i
 differs s i e = by_kept (entry_at s i).index (entry_at s i).fate e
@@ -114,30 +112,24 @@ never : (n : List ℕ) → Some n ≡ None → ⊥
 never n e = absurd cc
 
 defined_goes : (s : Renumbering) (r : Removal) (t : DefValType) → defined_edited s r t ≡ None → DefinedGoes s r t
-defined_goes s r (primitive_type p) e = absurd cc
 defined_goes s r (record_type fs) e = none_left (field_edited s) (λ (f : Field). IsValueGone s f.1) (field_gone s) r fs (no_map record_type _ e)
 defined_goes s r (variant_type cs) e = none_left (case_edited s) (IsCaseGone s) (case_gone s) r cs (no_map variant_type _ e)
 defined_goes s r (list_type v) e = value_gone s v (no_map list_type (value_edited s v) e)
 defined_goes s r (tuple_type vs) e = none_left (value_edited s) (IsValueGone s) (value_gone s) r vs (no_map tuple_type _ e)
-defined_goes s r (flags_type ns) e = none_left Some (λ (n : List ℕ). ⊥) never r ns (no_map flags_type _ e)
-defined_goes s r (enum_type ns) e = none_left Some (λ (n : List ℕ). ⊥) never r ns (no_map enum_type _ e)
 defined_goes s r (option_type v) e = value_gone s v (no_map option_type (value_edited s v) e)
+defined_goes s r (primitive_type p) e = absurd cc
 defined_goes s r (result_type ok err) e = absurd cc
+defined_goes s r t e = none_left Some (λ (n : List ℕ). ⊥) never r _ (no_map _ _ e)
 
 pub entry_goes : (e : Entry) (w : Walk) → entry_edited e w ≡ None → EntryGoes w e
 entry_goes (defined t) w e = defined_goes w.own.types w.removal t (no_map defined (defined_edited w.own.types w.removal t) e)
-entry_goes (function g) w e = absurd cc
-entry_goes (component_type ds) w e = absurd cc
-entry_goes (instance_type ds) w e = absurd cc
+entry_goes x w e = absurd cc
 
 -- references
 
 ref_gone : (own : Scope) (r : ComponentTypeRef) → ref_edited own r ≡ None → IsRefGone own r
 ref_gone own (to.Module i) e = gone own.core_types i (no_map to.Module _ e)
-ref_gone own (to.Func i) e = gone own.types i (no_map to.Func _ e)
-ref_gone own (to.TypeEq i) e = gone own.types i (no_map to.TypeEq _ e)
-ref_gone own (to.Component i) e = gone own.types i (no_map to.Component _ e)
-ref_gone own (to.Instance i) e = gone own.types i (no_map to.Instance _ e)
+ref_gone own r e = gone own.types _ (no_map _ _ e)
 
 pub decl_goes : (d : Decl) (w : Walk) → decl_edited d w ≡ None → DeclGoes w d
 decl_goes (core_type_decl t k) w e = absurd cc
@@ -149,10 +141,8 @@ decl_goes (export_decl name n r) w e = ref_gone w.own r (no_map (export_decl nam
 
 entity_gone : (s : Renumbering) (t : EntityType) → entity_edited s t ≡ None → IsEntityGone s t
 entity_gone s (entity.Func i) e = gone s i (no_map entity.Func (new_index s i) e)
-entity_gone s (entity.Table t) e = absurd cc
-entity_gone s (entity.Memory m) e = absurd cc
-entity_gone s (entity.Global g) e = absurd cc
 entity_gone s (entity.Tag t) e = gone s t.func_type_idx (no_map (λ i. entity.Tag (record { func_type_idx = i })) (new_index s t.func_type_idx) e)
+entity_gone s x e = absurd cc
 
 pub module_decl_goes : (d : ModuleDecl) (w : Walk) → module_decl_edited w d ≡ None → ModuleDeclGoes w d
 module_decl_goes (declares f) w e = absurd cc

@@ -1,14 +1,11 @@
 -- What is sought among items in a row.
 use Rattle.std.proofs.Common.{◌≡◌, ℕ, ◌+◌, ◌-◌, ◌<◌, ◌≤◌, List, [], ◌∷◌, ◌++◌, Option, None, Some, drop, get_or, map, length, ap, sym, refl, ◌∙◌}
+use Rattle.std.proofs.lemmas.List.{map-append}
 use Rattle.std.specs.Option.{option_map}
 use Rattle.smith_edit.specs.Search.{past, sought}
 use Rattle.smith_edit.specs.declared.simpler.search.Search.{Search}
 use Rattle.smith_edit.proofs.Lists.{map_drop, map_dropped}
 use Rattle.smith_edit.proofs.Seeking.{and_then, past_none, past_past, sought_none, sought_turn}
-
-map_same : {C : Type 0} (o : Option C) → option_map (λ c. c) o ≡ o
-map_same None = refl
-map_same (Some c) = refl
 
 map_map : {A B C : Type 0} (f : B → C) (g : A → B) (o : Option A) → option_map f (option_map g o) ≡ option_map (λ x. f (g x)) o
 map_map f g None = refl
@@ -17,10 +14,6 @@ map_map f g (Some x) = refl
 map_with : {A B : Type 0} (f g : A → B) (o : Option A) → ((x : A) → f x ≡ g x) → option_map f o ≡ option_map g o
 map_with f g None h = refl
 map_with f g (Some x) h = ap Some (h x)
-
-map_push : {X A : Type 0} (f : X → A) (xs : List X) (x : X) → map f (xs ++ x ∷ []) ≡ map f xs ++ f x ∷ []
-map_push f [] x = refl
-map_push f (y ∷ ys) x = ap (λ zs. f y ∷ zs) (map_push f ys x)
 
 -- Items that are gathered to a whole, each of which is that many items with what is inside it.
 pub record InRow (X A C : Type 0) : Type 0 where
@@ -63,7 +56,7 @@ module _ {X A C : Type 0} (r : InRow X A C) where
   abbrev pub and_rest : Search → A → C → Option A → Option C
   and_rest s x c o = and_then o (λ y. option_map (r.cons y) (seek (past (r.size x) s) c))
 
-  prepend_all : (xs : List A) → prepend r.cons xs (r.gather []) ≡ r.gather xs
+  pub prepend_all : (xs : List A) → prepend r.cons xs (r.gather []) ≡ r.gather xs
   prepend_all [] = refl
   prepend_all (x ∷ xs) = ap (r.cons x) (prepend_all xs) ∙ sym (r.first x xs)
 
@@ -72,9 +65,6 @@ module _ {X A C : Type 0} (r : InRow X A C) where
       ap (λ n. sought n s (λ k. r.all k (r.cons x c)) (r.cons x c)) (r.sum x c)
       ∙ sought_turn r.cons (r.size x) (r.sizes c) (λ k. r.simpler k x) (λ k. r.all k c) (λ k. r.all k (r.cons x c)) x c (λ k. r.here k x c)
       (λ k. r.there k x c) s
-
-  pub seek_init : (s : Search) (xs : List A) → after_these [] s xs ≡ seek s (r.gather xs)
-  seek_init s xs = map_same (seek s (r.gather xs))
 
   module _ (s : Search) (xs : List X) (i : ℕ) (x : X) (lt : i < length xs) (at : x ≡ get_or xs i x) where
     here_first : seek s (r.gather (map r.shown (drop i xs))) ≡ and_rest s (r.shown x) (r.gather (map r.shown (drop (i + 1) xs))) (seek_one s (r.shown x))
@@ -90,17 +80,10 @@ module _ {X A C : Type 0} (r : InRow X A C) where
         let rest : Option C = seek (past (r.size (r.shown x)) s) left in
         let next : seek s (r.gather (map r.shown (drop i xs))) ≡ option_map (r.cons (r.shown y)) rest =
         here_first ∙ sym (ap (and_rest s (r.shown x) left) is) in
-        rw (more, map_push r.shown done y, on)
+        rw (more, map-append r.shown done (y ∷ []), on)
         (sym (map_with (λ c. prepend r.cons (map r.shown done) (r.cons (r.shown y) c)) (prepend r.cons (map r.shown done ++ r.shown y ∷ [])) rest
         (prepend_push r.cons (map r.shown done) (r.shown y)))
         ∙ (sym (map_map (prepend r.cons (map r.shown done)) (r.cons (r.shown y)) rest) ∙ (sym (ap (option_map (prepend r.cons (map r.shown done))) next) ∙ h)))
-
-    pub seek_stop : (done : List A) (whole : Option C) → None ≡ seek_one s (r.shown x)
-        → after_these done s (map r.shown (drop i xs)) ≡ whole → None ≡ whole
-    seek_stop done whole is h =
-        let left : C = r.gather (map r.shown (drop (i + 1) xs)) in
-        let next : seek s (r.gather (map r.shown (drop i xs))) ≡ None = here_first ∙ sym (ap (and_rest s (r.shown x) left) is) in
-        sym (ap (option_map (prepend r.cons done)) next) ∙ h
 
     pub moved_step : (v whole : Search) → v ≡ past (r.size (r.shown x)) s → past (r.sizes (r.gather (map r.shown (drop i xs)))) s ≡ whole
         → past (r.sizes (r.gather (map r.shown (drop (i + 1) xs)))) v ≡ whole
@@ -119,7 +102,3 @@ module _ {X A C : Type 0} (r : InRow X A C) where
   seek_end s xs i done whole ge h =
       sym (ap Some (prepend_all done))
       ∙ (sym (ap (option_map (prepend r.cons done)) (ap (λ ys. seek s (r.gather ys)) (map_dropped r.shown xs i ge) ∙ empty_sought s)) ∙ h)
-
-  pub moved_end : (s whole : Search) (xs : List X) (i : ℕ) → length xs ≤ i → past (r.sizes (r.gather (map r.shown (drop i xs)))) s ≡ whole → s ≡ whole
-  moved_end s whole xs i ge h =
-      sym (past_none s) ∙ (sym (ap (λ n. past n s) (ap (λ ys. r.sizes (r.gather ys)) (map_dropped r.shown xs i ge) ∙ r.none)) ∙ h)

@@ -1,5 +1,7 @@
 -- Components joined, section by section.
 use Rattle.std.proofs.Common.{◌≡◌, ℕ, ◌+◌, ◌<◌, ◌≤◌, false, List, [], ◌∷◌, ◌++◌, append_assoc, drop, get_or, map, length, ap, sym, refl, ◌∙◌}
+use Rattle.std.proofs.Common.{append-nil}
+use Rattle.std.proofs.lemmas.List.{map-append}
 use Rattle.smith_read.specs.PartNodes.{shown_part_node}
 use Rattle.smith_read.specs.declared.nodes.PartNode.{PartNode}
 use Rattle.smith_tree.specs.Tree.{Part, Tree, ends, first, exports_in, exports_of, imports_in, imports_of, parts_of, tree_of}
@@ -11,7 +13,7 @@ use Rattle.smith_edit.specs.Walk.{Walk}
 use Rattle.smith_edit.specs.declared.removal.Removal.{Removal}
 use Rattle.smith_edit.specs.declared.removal.Removal.TheVariants.{Nothing}
 use Rattle.smith_edit.proofs.AfterRows.{after_kept, part_removal}
-use Rattle.smith_edit.proofs.Lists.{append_nil, map_drop, map_dropped}
+use Rattle.smith_edit.proofs.Lists.{map_drop, map_dropped}
 
 pub parts_same : (ps : List Part) → parts_of (tree_of ps) ≡ ps
 parts_same [] = refl
@@ -21,44 +23,19 @@ pub tree_same : (t : Tree) → tree_of (parts_of t) ≡ t
 tree_same ends = refl
 tree_same (first p t) = ap (λ u. first p u) (tree_same t)
 
-map_append : {A B : Type 0} (f : A → B) (xs ys : List A) → map f (xs ++ ys) ≡ map f xs ++ map f ys
-map_append f [] ys = refl
-map_append f (x ∷ xs) ys = ap (λ zs. f x ∷ zs) (map_append f xs ys)
+-- the names of sections
 
--- the names of a section, and of the sections after it
+abbrev pub imported : List Part → List (List ℕ)
+imported ps = import_names (imports_of (tree_of ps))
 
-pub imports_more : (names : List (List ℕ)) (p : Part) (t : Tree)
-    → names ++ import_names (imports_of (first p t)) ≡ names ++ import_names (imports_in p) ++ import_names (imports_of t)
-imports_more names p t = ap (λ ns. names ++ ns) (map_append (λ i. i.name) (imports_in p) (imports_of t))
-    ∙ sym (append_assoc names (import_names (imports_in p)) (import_names (imports_of t)))
+abbrev pub exported : List Part → List (List ℕ)
+exported ps = export_names (exports_of (tree_of ps))
 
-pub exports_more : (names : List (List ℕ)) (p : Part) (t : Tree)
-    → names ++ export_names (exports_of (first p t)) ≡ names ++ export_names (exports_in p) ++ export_names (exports_of t)
-exports_more names p t = ap (λ ns. names ++ ns) (map_append (λ e. e.name) (exports_in p) (exports_of t))
-    ∙ sym (append_assoc names (export_names (exports_in p)) (export_names (exports_of t)))
+pub imported_more : (p : Part) (ps : List Part) → imported (p ∷ ps) ≡ import_names (imports_in p) ++ imported ps
+imported_more p ps = map-append (λ i. i.name) (imports_in p) (imports_of (tree_of ps))
 
-module _ (xs : List PartNode) (i : ℕ) (x : PartNode) (lt : i < length xs) (at : x ≡ get_or xs i x) where
-  pub imports_step : (names whole : List (List ℕ)) → names ++ import_names (imports_of (tree_of (map shown_part_node (drop i xs)))) ≡ whole
-      → names ++ import_names (imports_in (shown_part_node x)) ++ import_names (imports_of (tree_of (map shown_part_node (drop (i + 1) xs)))) ≡ whole
-  imports_step names whole h =
-      sym (imports_more names (shown_part_node x) (tree_of (map shown_part_node (drop (i + 1) xs))))
-      ∙ (sym (ap (λ ps. names ++ import_names (imports_of (tree_of ps))) (map_drop shown_part_node xs i x lt at)) ∙ h)
-
-  pub exports_step : (names whole : List (List ℕ)) → names ++ export_names (exports_of (tree_of (map shown_part_node (drop i xs)))) ≡ whole
-      → names ++ export_names (exports_in (shown_part_node x)) ++ export_names (exports_of (tree_of (map shown_part_node (drop (i + 1) xs)))) ≡ whole
-  exports_step names whole h =
-      sym (exports_more names (shown_part_node x) (tree_of (map shown_part_node (drop (i + 1) xs))))
-      ∙ (sym (ap (λ ps. names ++ export_names (exports_of (tree_of ps))) (map_drop shown_part_node xs i x lt at)) ∙ h)
-
-pub imports_end : (xs : List PartNode) (i : ℕ) (names whole : List (List ℕ)) → length xs ≤ i
-    → names ++ import_names (imports_of (tree_of (map shown_part_node (drop i xs)))) ≡ whole → names ≡ whole
-imports_end xs i names whole h e =
-    sym (append_nil names) ∙ (sym (ap (λ ps. names ++ import_names (imports_of (tree_of ps))) (map_dropped shown_part_node xs i h)) ∙ e)
-
-pub exports_end : (xs : List PartNode) (i : ℕ) (names whole : List (List ℕ)) → length xs ≤ i
-    → names ++ export_names (exports_of (tree_of (map shown_part_node (drop i xs)))) ≡ whole → names ≡ whole
-exports_end xs i names whole h e =
-    sym (append_nil names) ∙ (sym (ap (λ ps. names ++ export_names (exports_of (tree_of ps))) (map_dropped shown_part_node xs i h)) ∙ e)
+pub exported_more : (p : Part) (ps : List Part) → exported (p ∷ ps) ≡ export_names (exports_in p) ++ exported ps
+exported_more p ps = map-append (λ e. e.name) (exports_in p) (exports_of (tree_of ps))
 
 -- a tree of which nothing is removed
 
@@ -95,7 +72,7 @@ joined_step w v is es xs done i x y z whole lt at none moved after new h =
     let t : Tree = tree_of (map shown_part_node (drop (i + 1) xs)) in
     let rest : List Part = parts_of (renamed (tree_edited t (after_part w p)) (is ++ import_names (imports_in q)) (es ++ export_names (exports_in q))) in
     let z_is : shown_part_node z ≡ q = new ∙ ap (part_renamed is es) moved in
-    rw (map_append shown_part_node done (z ∷ []), z_is, after)
+    rw (map-append shown_part_node done (z ∷ []), z_is, after)
     (append_assoc (map shown_part_node done) (q ∷ []) rest
     ∙ (sym (ap (λ u. map shown_part_node done ++ parts_of (renamed u is es)) (unremoved_first p t w none))
     ∙ (sym (ap (λ ps. map shown_part_node done ++ parts_of (renamed (tree_edited (tree_of ps) w) is es)) (map_drop shown_part_node xs i x lt at)) ∙ h)))
@@ -103,4 +80,4 @@ joined_step w v is es xs done i x y z whole lt at none moved after new h =
 pub joined_end : (w : Walk) (is es : List (List ℕ)) (xs : List PartNode) (i : ℕ) (left whole : List Part) → length xs ≤ i
     → left ++ parts_of (renamed (tree_edited (tree_of (map shown_part_node (drop i xs))) w) is es) ≡ whole → left ≡ whole
 joined_end w is es xs i left whole h e =
-    sym (append_nil left) ∙ (sym (ap (λ ps. left ++ parts_of (renamed (tree_edited (tree_of ps) w) is es)) (map_dropped shown_part_node xs i h)) ∙ e)
+    sym (append-nil left) ∙ (sym (ap (λ ps. left ++ parts_of (renamed (tree_edited (tree_of ps) w) is es)) (map_dropped shown_part_node xs i h)) ∙ e)

@@ -1,6 +1,8 @@
 -- Names that are known, with more.
 use Rattle.std.proofs.Common.{◌≡◌, ℕ, zero, suc, ◌+◌, ◌-◌, ◌<◌, ◌≤◌, ◌||◌, Bool, true, false, bytes_eq, cond, List, [], ◌∷◌, ◌++◌, append_assoc, length}
+use Rattle.std.proofs.Common.{append-nil}
 use Rattle.std.proofs.Common.{length-append, drop, get_or, map, refl, string_bytes, sym, ap, ◌∙◌, arith}
+use Rattle.std.proofs.lemmas.List.{map-append}
 use Rattle.std.specs.BTreeSet.{BTreeSet, UpdatesBy, contains_text}
 use Rattle.std.specs.Cmp.Lexicographic.{slice_cmp}
 use Rattle.std.specs.Ordering.{nat_cmp}
@@ -13,7 +15,7 @@ use Rattle.smith_input.proofs.NewNames.{among_more}
 use Rattle.smith_edit.specs.Edits.{all_renamed, made_new, new_name}
 use Rattle.smith_edit.specs.Names.{Knows}
 use Rattle.smith_edit.specs.declared.names.Names.{Names}
-use Rattle.smith_edit.proofs.Lists.{append_nil, map_drop, map_dropped}
+use Rattle.smith_edit.proofs.Lists.{map_drop, map_dropped}
 
 pub knows_more : (old new : Names) (names : List (List ℕ)) (name : List ℕ) → Knows old names
     → ((q : List ℕ) → contains_text new.set q ≡ (bytes_eq name q || contains_text old.set q)) → new.count ≡ old.count + 1 → Knows new (names ++ name ∷ [])
@@ -46,27 +48,14 @@ pub made_there : (n : ℕ) (names : List (List ℕ)) (digits text : List ℕ) �
 made_there zero names digits text t = refl
 made_there (suc n) names digits text t = rw t refl
 
-map_push : {A B : Type 0} (f : A → B) (xs : List A) (x : A) → map f (xs ++ x ∷ []) ≡ map f xs ++ f x ∷ []
-map_push f [] x = refl
-map_push f (y ∷ ys) x = ap (λ zs. f y ∷ zs) (map_push f ys x)
-
--- items that are added one by one
+-- items that are renamed one by one
 module _ {X A : Type 0} (shown : X → A) (name : A → List ℕ) where
-  pub added_step : (known all : List (List ℕ)) (xs : List X) (i : ℕ) (x : X) → i < length xs → x ≡ get_or xs i x
-      → known ++ map name (map shown (drop i xs)) ≡ all → known ++ name (shown x) ∷ [] ++ map name (map shown (drop (i + 1) xs)) ≡ all
-  added_step known all xs i x lt at h =
-      append_assoc known (name (shown x) ∷ []) (map name (map shown (drop (i + 1) xs)))
-      ∙ (sym (ap (λ ys. known ++ map name ys) (map_drop shown xs i x lt at)) ∙ h)
-
-  pub added_end : (known all : List (List ℕ)) (xs : List X) (i : ℕ) → length xs ≤ i → known ++ map name (map shown (drop i xs)) ≡ all → known ≡ all
-  added_end known all xs i h e = sym (append_nil known) ∙ (sym (ap (λ ys. known ++ map name ys) (map_dropped shown xs i h)) ∙ e)
-
   module _ (rename : A → List ℕ → A) (law : (x : A) (text : List ℕ) → name (rename x text) ≡ text) where
     pub renamed_names : (names : List (List ℕ)) (done : List X) (x y : X) (new : List ℕ) → shown y ≡ rename (shown x) new
         → names ++ map name (map shown (done ++ y ∷ [])) ≡ names ++ map name (map shown done) ++ new ∷ []
     renamed_names names done x y new is =
         let here : map name (map shown (done ++ y ∷ [])) ≡ map name (map shown done) ++ new ∷ [] =
-        ap (map name) (map_push shown done y) ∙ map_push name (map shown done) (shown y)
+        ap (map name) (map-append shown done (y ∷ [])) ∙ map-append name (map shown done) (shown y ∷ [])
         ∙ ap (λ n. map name (map shown done) ++ n ∷ []) (ap name is ∙ law (shown x) new) in
         ap (λ ns. names ++ ns) here ∙ sym (append_assoc names (map name (map shown done)) (new ∷ []))
 
@@ -76,11 +65,11 @@ module _ {X A : Type 0} (shown : X → A) (name : A → List ℕ) where
         → map shown (done ++ y ∷ []) ++ all_renamed name rename (names ++ map name (map shown (done ++ y ∷ []))) (map shown (drop (i + 1) xs)) ≡ whole
     renamed_step names whole xs done i x y new lt at made is h =
         let known : List (List ℕ) = names ++ map name (map shown done) in
-        rw (renamed_names names done x y new is, map_push shown done y, is, made)
+        rw (renamed_names names done x y new is, map-append shown done (y ∷ []), is, made)
         (append_assoc (map shown done) (rename (shown x) (new_name known (name (shown x))) ∷ [])
         (all_renamed name rename (known ++ new_name known (name (shown x)) ∷ []) (map shown (drop (i + 1) xs)))
         ∙ (sym (ap (λ ys. map shown done ++ all_renamed name rename known ys) (map_drop shown xs i x lt at)) ∙ h))
 
     pub renamed_end : (known : List (List ℕ)) (whole left : List A) (xs : List X) (i : ℕ) → length xs ≤ i
         → left ++ all_renamed name rename known (map shown (drop i xs)) ≡ whole → left ≡ whole
-    renamed_end known whole left xs i h e = sym (append_nil left) ∙ (sym (ap (λ ys. left ++ all_renamed name rename known ys) (map_dropped shown xs i h)) ∙ e)
+    renamed_end known whole left xs i h e = sym (append-nil left) ∙ (sym (ap (λ ys. left ++ all_renamed name rename known ys) (map_dropped shown xs i h)) ∙ e)

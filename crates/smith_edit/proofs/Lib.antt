@@ -1,8 +1,7 @@
 pub mod AfterRows
 pub mod Alike
 pub mod Beyond
-pub mod DeclaredNames
-pub mod Decls
+pub mod Editing
 pub mod Fewer
 pub mod FewerBytes
 pub mod Follows
@@ -33,4 +32,3 @@ pub mod SimplerItems
 pub mod SimplerRows
 pub mod Sublists
 pub mod Told
-pub mod Trees

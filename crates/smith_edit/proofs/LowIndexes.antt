@@ -49,14 +49,12 @@ entry_low s i l = entry_of (slice_get s.entries i) i (l.entries i)
 
 module _ (piece : ℕ → Piece) (grow : (i j : ℕ) → i ≤ j → NoLonger (piece i) (piece j)) where
   new_by : (f : Fate) (j i : ℕ) → j ≤ i → Left piece (elim f [ Kept ↦ Some j | Changed ↦ Some j | Removed ↦ None ]) (piece i)
-  new_by Kept j i h = grow j i h
-  new_by Changed j i h = grow j i h
   new_by Removed j i h = tt
+  new_by f j i h = grow j i h
 
   kept_by : (f : Fate) (j i : ℕ) → j ≤ i → Left piece (elim f [ Kept ↦ Some j | Changed ↦ None | Removed ↦ None ]) (piece i)
   kept_by Kept j i h = grow j i h
-  kept_by Changed j i h = tt
-  kept_by Removed j i h = tt
+  kept_by f j i h = tt
 
   pub new_left : (s : Renumbering) (i : ℕ) → Low s → Left piece (new_index s i) (piece i)
   new_left s i l = new_by (entry_at s i).fate (entry_at s i).index i (entry_low s i l)
@@ -84,8 +82,7 @@ get_more (y ∷ ys) x e (suc i) h = ⊎_elim (λ l. inl l) (λ r. inr (ap suc r.
 
 after_low : (n : ℕ) (f : Fate) → after n f ≤ n + 1
 after_low n Kept = omega arith
-after_low n Changed = omega arith
-after_low n Removed = omega arith
+after_low n f = omega arith
 
 entry_more : (s : Renumbering) (f : Fate) → Low s → (i : ℕ) (e : Renumbered) → slice_get (with_entry s f).entries i ≡ Some e → e.index ≤ i
 entry_more s f l i e h =
@@ -123,22 +120,20 @@ low_core_functions s f l = record {
 -- what entries add
 
 pub adds_module_decl : (s : Scope) (d : ModuleDecl) (new : Option ModuleDecl) → LowScope s → LowScope (after_module_decl s d new)
-adds_module_decl s (declares f) new l = low_core_types s _ l
 adds_module_decl s (imports m n e) new l = l
-adds_module_decl s (aliases count i) new l = low_core_types s _ l
 adds_module_decl s (exports n e) new l = l
+adds_module_decl s d new l = low_core_types s _ l
 
 adds_export : (s : Scope) (b : Bool) (f : Fate) → LowScope s → LowScope (if b then with_type s f else s)
 adds_export s true f l = low_types s f l
 adds_export s false f l = l
 
 pub adds_decl : (s : Scope) (d : Decl) (new : Option Decl) → LowScope s → LowScope (after_decl s d new)
-adds_decl s (core_type_decl t k) new l = low_core_types s _ l
 adds_decl s (type_decl e) new l = low_types s _ l
 adds_decl s (type_alias count i k) new l = low_types s _ l
-adds_decl s (core_type_alias count i k) new l = low_core_types s _ l
 adds_decl s (import_decl name n r) new l = l
 adds_decl s (export_decl name n r) new l = adds_export s (is_type_eq r) (fate_if (is_some new) Kept) l
+adds_decl s d new l = low_core_types s _ l
 
 pub adds_core : (s : Scope) (t : CoreEntry) (new : Option CoreEntry) → LowScope s → LowScope (after_core s t new)
 adds_core s t new l = low_core_types s _ l
@@ -151,11 +146,8 @@ adds_canon s (lift c t) new l = low_functions s _ l
 adds_canon s (lower f) new l = low_core_functions s _ l
 
 adds_ref : (s : Scope) (r : ComponentTypeRef) (remains : Bool) → LowScope s → LowScope (after_ref s r remains)
-adds_ref s (to.Module i) remains l = l
 adds_ref s (to.Func i) remains l = low_functions s _ l
-adds_ref s (to.TypeEq i) remains l = l
-adds_ref s (to.Component i) remains l = l
-adds_ref s (to.Instance i) remains l = l
+adds_ref s r remains l = l
 
 pub adds_import : (s : Scope) (i : ImportEntry) (new : Option ImportEntry) → LowScope s → LowScope (after_import s i new)
 adds_import s i new l = adds_ref s i.to (is_some new) l
@@ -171,8 +163,7 @@ adds_export_entry s e new l = record {
 -- scopes
 
 no_entry : (i : ℕ) (e : Renumbered) → slice_get [] i ≡ Some e → e.index ≤ i
-no_entry zero e h = absurd cc
-no_entry (suc i) e h = absurd cc
+no_entry i e h = absurd cc
 
 empty_low : Low (record { next = 0; entries = [] })
 empty_low = record { next = omega arith; entries = λ i e h. no_entry i e h }
@@ -188,5 +179,4 @@ pub low_entered : (w : Walk) → LowWalk w → LowWalk (entered w)
 low_entered w l = record { own = low_new; outer = outer_more w l }
 
 pub no_scope : (count : ℕ) (s : Scope) → slice_get [] count ≡ Some s → LowScope s
-no_scope zero s e = absurd cc
-no_scope (suc n) s e = absurd cc
+no_scope count s e = absurd cc

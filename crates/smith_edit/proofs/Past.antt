@@ -36,25 +36,5 @@ past_past a b Nothing = refl
 past_past a b (Item m) = past_by a b m
 past_past a b Everything = refl
 
--- after an item that is removed the number of items does not count
-pub past_removed : (r : Removal) (n : ℕ) → removes r ≡ true → past (n + 1) r ≡ past 1 r
-past_removed Nothing n h = refl
-past_removed (Item m) n h = let z : m ≡ 0 = grind (arith, nat_tests) in past_less (n + 1) m (omega arith) ∙ sym (past_less 1 m (omega arith))
-past_removed Everything n h = refl
-
 pub past_step : (r : Removal) (n : ℕ) → past n (past 1 r) ≡ past (n + 1) r
 past_step r n = past_past n 1 r ∙ (let c : 1 + n ≡ n + 1 = omega arith in ap (λ m. past m r) c)
-
--- whether the item is past
-
-pub item_past : (n m : ℕ) → past n (Item m) ≡ Nothing → nat_lt m n ≡ true
-item_past n m h =
-    ⊎_elim (λ lt. grind (arith, nat_tests)) (λ ge. let not : Item (m - n) ≡ Nothing = sym (past_more n m ge) ∙ h in absurd cc) (cases_lt m n)
-
-pub item_ahead : (n m k : ℕ) → past n (Item m) ≡ Item k → nat_lt m n ≡ false
-item_ahead n m k h = ⊎_elim (λ lt. let not : Nothing ≡ Item k = sym (past_less n m lt) ∙ h in absurd cc) (λ ge. grind (arith, nat_tests)) (cases_lt m n)
-
-pub not_everything : (n m : ℕ) → past n (Item m) ≡ Everything → ⊥
-not_everything n m h =
-    ⊎_elim (λ lt. let not : Nothing ≡ Everything = sym (past_less n m lt) ∙ h in cc)
-    (λ ge. let not : Item (m - n) ≡ Everything = sym (past_more n m ge) ∙ h in cc) (cases_lt m n)

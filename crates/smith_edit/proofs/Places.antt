@@ -18,7 +18,7 @@ use Rattle.smith_edit.specs.declared.renumbering.Fate.TheVariants.{Kept, Changed
 use Rattle.smith_edit.specs.declared.renumbering.Renumbered.{Renumbered}
 use Rattle.smith_edit.specs.declared.scope.Scope.{Scope as Indexes}
 use Rattle.smith_edit.proofs.Alike.{Alike, AlikeCore, Same, ScopeFollows}
-use Rattle.smith_edit.proofs.Follows.{Follows, Stays, entry_there, follows_changed, follows_kept, follows_removed, get_other, get_still, none_yet}
+use Rattle.smith_edit.proofs.Follows.{Follows, IsLeft, Stays, entry_there, follows_left, follows_removed, get_other, get_still, none_yet}
 use Rattle.smith_edit.proofs.FormedTypes.{more_core, more_core_removed, more_type, more_type_removed}
 
 abbrev pub scope : Spaces → Scope
@@ -50,9 +50,8 @@ nothing_yet = record {
 
 module _ {A : Type 0} (P Q : Fate → A → A → Type 0) (weaker : (f : Fate) (x y : A) → P f x y → Q f x y) where
   stays_weaker : (f : Fate) (i : ℕ) (x : A) (new : List A) → Stays P f i x new → Stays Q f i x new
-  stays_weaker Kept i x new h = (h.0, h.1, weaker Kept x h.0 h.2)
-  stays_weaker Changed i x new h = (h.0, h.1, weaker Changed x h.0 h.2)
   stays_weaker Removed i x new h = tt
+  stays_weaker f i x new h = (h.0, h.1, weaker f x h.0 h.2)
 
   follows_weaker : (s : Renumbering) (old new : List A) → Follows P s old new → Follows Q s old new
   follows_weaker s old new f = record { count = f.count; next = f.next; found = λ i x r at is. stays_weaker r.fate r.index x new (f.found i x r at is) }
@@ -84,21 +83,12 @@ module _ (own : Indexes) (s s2 : Spaces) (p : PlaceFollows own s s2) where
     core_functions = p.core_functions;
   }
 
-  pub type_kept : (x y : Entry) → Alike Kept x y → Same Kept x y
-      → PlaceFollows (with_type own Kept) (record s { types = s.types ++ x ∷ [] }) (record s2 { types = s2.types ++ y ∷ [] })
-  type_kept x y a b = record {
-    kinds = more_type own (scope s) (scope s2) p.kinds x y a;
-    same = follows_kept Same own.types s.types s2.types x y p.same b;
-    functions = later_functions Kept;
-    core_functions = p.core_functions;
-  }
-
-  pub type_changed : (x y : Entry) → Alike Changed x y → Same Changed x y
-      → PlaceFollows (with_type own Changed) (record s { types = s.types ++ x ∷ [] }) (record s2 { types = s2.types ++ y ∷ [] })
-  type_changed x y a b = record {
-    kinds = record { types = follows_changed Alike own.types s.types s2.types x y p.kinds.types a; core_types = p.kinds.core_types };
-    same = follows_changed Same own.types s.types s2.types x y p.same b;
-    functions = later_functions Changed;
+  pub type_left : (f : Fate) → IsLeft f → (x y : Entry) → Alike f x y → Same f x y
+      → PlaceFollows (with_type own f) (record s { types = s.types ++ x ∷ [] }) (record s2 { types = s2.types ++ y ∷ [] })
+  type_left f left x y a b = record {
+    kinds = record { types = follows_left Alike f left own.types s.types s2.types x y p.kinds.types a; core_types = p.kinds.core_types };
+    same = follows_left Same f left own.types s.types s2.types x y p.same b;
+    functions = later_functions f;
     core_functions = p.core_functions;
   }
 
@@ -129,22 +119,13 @@ module _ (own : Indexes) (s s2 : Spaces) (p : PlaceFollows own s s2) where
     core_functions = later_core_functions Removed;
   }
 
-  pub function_kept : (t u : ℕ) → OfType own.types Kept t u
-      → PlaceFollows (with_function own Kept) (record s { functions = s.functions ++ t ∷ [] }) (record s2 { functions = s2.functions ++ u ∷ [] })
-  function_kept t u h = record {
+  pub function_left : (f : Fate) → IsLeft f → (t u : ℕ) → OfType own.types f t u
+      → PlaceFollows (with_function own f) (record s { functions = s.functions ++ t ∷ [] }) (record s2 { functions = s2.functions ++ u ∷ [] })
+  function_left f left t u h = record {
     kinds = record { types = p.kinds.types; core_types = p.kinds.core_types };
     same = p.same;
-    functions = follows_kept (OfType own.types) own.functions s.functions s2.functions t u p.functions h;
-    core_functions = later_core_functions Kept;
-  }
-
-  pub function_changed : (t u : ℕ) → OfType own.types Changed t u
-      → PlaceFollows (with_function own Changed) (record s { functions = s.functions ++ t ∷ [] }) (record s2 { functions = s2.functions ++ u ∷ [] })
-  function_changed t u h = record {
-    kinds = record { types = p.kinds.types; core_types = p.kinds.core_types };
-    same = p.same;
-    functions = follows_changed (OfType own.types) own.functions s.functions s2.functions t u p.functions h;
-    core_functions = later_core_functions Changed;
+    functions = follows_left (OfType own.types) f left own.functions s.functions s2.functions t u p.functions h;
+    core_functions = later_core_functions f;
   }
 
   pub core_function_removed : (g : ℕ) → PlaceFollows (with_core_function own Removed) (record s { core_functions = s.core_functions ++ g ∷ [] }) s2
@@ -162,15 +143,14 @@ module _ (own : Indexes) (s s2 : Spaces) (p : PlaceFollows own s s2) where
     kinds = record { types = p.kinds.types; core_types = p.kinds.core_types };
     same = p.same;
     functions = p.functions;
-    core_functions = follows_kept (OfFunction own.functions) own.core_functions s.core_functions s2.core_functions g h p.core_functions e;
+    core_functions = follows_left (OfFunction own.functions) Kept tt own.core_functions s.core_functions s2.core_functions g h p.core_functions e;
   }
 
 -- entries that are kept
 
 kept_fate : (f : Fate) (i j : ℕ) → elim f [ Kept ↦ Some i | Changed ↦ None | Removed ↦ None ] ≡ Some j → (f ≡ Kept) × (i ≡ j)
 kept_fate Kept i j e = (refl, cc)
-kept_fate Changed i j e = absurd cc
-kept_fate Removed i j e = absurd cc
+kept_fate f i j e = absurd cc
 
 pub kept_entry : {A : Type 0} (s : Renumbering) (old : List A) → length s.entries ≡ length old → (i j : ℕ) (x : A) → slice_get old i ≡ Some x
     → kept_index s i ≡ Some j

@@ -7,7 +7,7 @@ use Rattle.smith_format.specs.declared.types.EntityType.{EntityType}
 use Rattle.smith_format.specs.declared.types.EntityType.TheVariants as entity
 use Rattle.smith_syntax.specs.Entries.{Case, CoreEntry, core_func, core_module, Decl, Decls, DefValType, Entry, Field, ImportEntry, ModuleDecl, Signature}
 use Rattle.smith_syntax.specs.Entries.{aliases, declares, exports, imports, defined, function, component_type, instance_type}
-use Rattle.smith_syntax.specs.Entries.{primitive_type, record_type, variant_type, list_type, tuple_type, flags_type, enum_type, option_type, result_type}
+use Rattle.smith_syntax.specs.Entries.{primitive_type, record_type, variant_type, list_type, tuple_type, option_type, result_type}
 use Rattle.smith_syntax.specs.Entries.{core_type_decl, type_decl, type_alias, core_type_alias, import_decl, export_decl, no_decls, then_decls}
 use Rattle.smith_syntax.specs.declared.deftype.ComponentTypeRef.{ComponentTypeRef}
 use Rattle.smith_syntax.specs.declared.deftype.ComponentTypeRef.TheVariants as to
@@ -136,14 +136,11 @@ defined_gives s r (list_type v) = mapped_from list_type (ValueRemains v) (Define
 defined_gives s r (tuple_type vs) =
     compound (Members ValueRemains (IsValueGone s) r vs) tuple_type (DefinedRemains s r (tuple_type vs)) vs (members (value_edited s) r vs)
     (members_left ValueRemains (IsValueGone s) (value_edited s) (value_gives s) (value_gone s) r vs) (λ z h. (z, refl, h))
-defined_gives s r (flags_type ns) =
-    compound (Members IsSame Never r ns) flags_type (DefinedRemains s r (flags_type ns)) ns (members Some r ns) (same_left r ns) (λ z h. (z, refl, h))
-defined_gives s r (enum_type ns) =
-    compound (Members IsSame Never r ns) enum_type (DefinedRemains s r (enum_type ns)) ns (members Some r ns) (same_left r ns) (λ z h. (z, refl, h))
 defined_gives s r (option_type v) = mapped_from option_type (ValueRemains v) (DefinedRemains s r (option_type v)) (value_edited s v) (value_gives s v)
     (λ w h. (w, refl, h))
 defined_gives s r (result_type ok err) =
     gives _ (_, _, refl, optional_left s r ok, optional_left s (past (length (option_to_list ok)) r) err)
+defined_gives s r t = compound (Members IsSame Never r _) _ (DefinedRemains s r t) _ _ (same_left r _) (λ z h. (z, refl, h))
 
 signature_left : (s : Renumbering) (r : Removal) (g : Signature) → SignatureRemains s r g (signature_edited s r g)
 signature_left s r g = (
@@ -158,11 +155,9 @@ function_left r f = (same_left r f.0, same_left (past (length f.0) r) f.1)
 
 entity_gives : (s : Renumbering) (e : EntityType) → Gives (EntityRemains e) (entity_edited s e)
 entity_gives s (entity.Func i) = mapped entity.Func (EntityRemains (entity.Func i)) (new_index s i) (λ j. (j, refl))
-entity_gives s (entity.Table t) = gives (entity.Table t) refl
-entity_gives s (entity.Memory m) = gives (entity.Memory m) refl
-entity_gives s (entity.Global g) = gives (entity.Global g) refl
 entity_gives s (entity.Tag t) =
     mapped (λ i. entity.Tag (record { func_type_idx = i })) (EntityRemains (entity.Tag t)) (new_index s t.func_type_idx) (λ j. (j, refl))
+entity_gives s e = gives e refl
 
 module_decl_gives : (w : Walk) (d : ModuleDecl) → Gives (ModuleDeclRemains w d) (module_decl_edited w d)
 module_decl_gives w (declares f) = gives _ (_, refl, function_left w.removal f)
@@ -185,10 +180,7 @@ core_left w (core_module ds) = (
 
 ref_gives : (own : Scope) (r : ComponentTypeRef) → Gives (RefRemains r) (ref_edited own r)
 ref_gives own (to.Module i) = mapped to.Module (RefRemains (to.Module i)) (new_index own.core_types i) (λ j. (j, refl))
-ref_gives own (to.Func i) = mapped to.Func (RefRemains (to.Func i)) (new_index own.types i) (λ j. (j, refl))
-ref_gives own (to.TypeEq i) = mapped to.TypeEq (RefRemains (to.TypeEq i)) (new_index own.types i) (λ j. (j, refl))
-ref_gives own (to.Component i) = mapped to.Component (RefRemains (to.Component i)) (new_index own.types i) (λ j. (j, refl))
-ref_gives own (to.Instance i) = mapped to.Instance (RefRemains (to.Instance i)) (new_index own.types i) (λ j. (j, refl))
+ref_gives own r = mapped _ (RefRemains r) (new_index own.types _) (λ j. (j, refl))
 
 next_decl : (w : Walk) (d : Decl) (ds : Decls) (b : Bool) → removes w.removal ≡ b → (o : Option Decl) → Gives (DeclRemains (skipped 1 w) d) o
     → (o ≡ None → DeclGoes (skipped 1 w) d) → (es : Decls) → DeclsRemain (after_one_decl w d) ds es
@@ -258,8 +250,6 @@ next_part w p t false i q here rest h = inr (q, rest, refl, here, h)
 
 mutual
   part_left : (p : Part) (w : Walk) → PartRemains w p (part_edited p w)
-  part_left (part.custom name contents) w = refl
-  part_left (part.core_module text) w = refl
   part_left (part.core_types ts) w = (_, refl, rows_left CoreRemains (λ v. Never) core_items core_row after_core core_gives core_goes w ts)
   part_left (part.component t) w = (_, refl, sections_left t (entered w))
   part_left (part.types ts) w =
@@ -270,6 +260,7 @@ mutual
       (_, refl, rows_left (λ v. ImportRemains) ImportGoes none_inside import_edited after_import import_gives import_goes w is)
   part_left (part.exports es) w =
       (_, refl, rows_left (λ v. ExportRemains) ExportGoes none_inside export_edited after_export export_gives export_goes w es)
+  part_left p w = refl
 
   sections_left : (t : Tree) (w : Walk) → TreeRemains w t (tree_edited t w)
   sections_left ends w = refl

@@ -12,7 +12,7 @@ use Rattle.smith_edit.specs.ShortNames.{shorter_name}
 use Rattle.smith_edit.specs.Simpler.{fields_simplified, renamed_at, signature_simplified}
 use Rattle.smith_edit.specs.declared.simpler.search.Search.{Search}
 use Rattle.smith_edit.specs.declared.simpler.search.Search.TheVariants.{Ahead, Over}
-use Rattle.smith_edit.proofs.Lists.{append_nil, map_drop, map_dropped}
+use Rattle.smith_edit.proofs.Lists.{map_drop, map_dropped}
 use Rattle.smith_edit.proofs.Seeking.{and_then, by_number, past_less, sought_more, sought_turn}
 
 module _ {A : Type 0} (name : A → List ℕ) (rename : A → List ℕ → A) (names : List (List ℕ)) where
@@ -48,26 +48,6 @@ module _ {A : Type 0} (name : A → List ℕ) (rename : A → List ℕ → A) (n
         let rest : map shown copies ≡ map shown xs = cc in
         let first : shown c ≡ shown z = cc in
         rw first (ap (option_map (λ ws. shown z ∷ ws)) (renamed_some k xs x copies y new (omega arith) at rest some is))
-
--- copies, one by one
-module _ {X A : Type 0} (shown : X → A) where
-  map_push : (xs : List X) (x : X) → map shown (xs ++ x ∷ []) ≡ map shown xs ++ shown x ∷ []
-  map_push [] x = refl
-  map_push (y ∷ ys) x = ap (λ zs. shown y ∷ zs) (map_push ys x)
-
-  append_one : (xs : List A) (y : A) (ys : List A) → (xs ++ y ∷ []) ++ ys ≡ xs ++ y ∷ ys
-  append_one [] y ys = refl
-  append_one (x ∷ xs) y ys = ap (λ zs. x ∷ zs) (append_one xs y ys)
-
-  pub copied_step : (whole : List A) (xs done done2 : List X) (i : ℕ) (x y : X) → i < length xs → x ≡ get_or xs i x → shown y ≡ shown x
-      → done2 ≡ done ++ y ∷ [] → map shown done ++ map shown (drop i xs) ≡ whole → map shown done2 ++ map shown (drop (i + 1) xs) ≡ whole
-  copied_step whole xs done done2 i x y lt at is more h =
-      rw (more, map_push done y, is)
-      (append_one (map shown done) (shown x) (map shown (drop (i + 1) xs))
-      ∙ (sym (ap (λ ys. map shown done ++ ys) (map_drop shown xs i x lt at)) ∙ h))
-
-  pub copied_end : (left whole : List A) (xs : List X) (i : ℕ) → length xs ≤ i → left ++ map shown (drop i xs) ≡ whole → left ≡ whole
-  copied_end left whole xs i ge h = sym (append_nil left) ∙ (sym (ap (λ ys. left ++ ys) (map_dropped shown xs i ge)) ∙ h)
 
 -- the parameters, and then the result
 abbrev pub signed : Signature → List (List ℕ × ComponentValType) → Option ComponentValType → Signature

@@ -36,13 +36,6 @@ pub past_past : (a b : ℕ) (s : Search) → past a (past b s) ≡ past (b + a) 
 past_past a b (Ahead m) = past_by a b m
 past_past a b Over = refl
 
-pub past_step : (n : ℕ) (s : Search) → past n (past 1 s) ≡ past (n + 1) s
-past_step n s = past_past n 1 s ∙ (let c : 1 + n ≡ n + 1 = omega arith in ap (λ m. past m s) c)
-
-pub past_here : (n : ℕ) (s : Search) → is_here s ≡ true → past 1 s ≡ past (n + 1) s
-past_here n (Ahead m) h = let z : m ≡ 0 = grind (arith, nat_tests) in past_less 1 m (omega arith) ∙ sym (past_less (n + 1) m (omega arith))
-past_here n Over h = refl
-
 pub ahead_one : (m : ℕ) → past 1 (Ahead (suc m)) ≡ Ahead m
 ahead_one m = past_more 1 (suc m) (omega arith) ∙ (let e : suc m - 1 ≡ m = omega arith in rw e refl)
 
@@ -71,41 +64,6 @@ module _ {A : Type 0} where
 
   pub sought_none : (s : Search) (g : ℕ → Option A) (x : A) → sought 0 s g x ≡ Some x
   sought_none s g x = ap (λ o. by_number o g x) (among_none s)
-
-  pub sought_here : (n : ℕ) (s : Search) (whole : Option A) (g : ℕ → Option A) (x : A) → is_here s ≡ true → sought (n + 1) s (itself_or whole g) x ≡ whole
-  sought_here n (Ahead m) whole g x h =
-      let z : m ≡ 0 = grind (arith, nat_tests) in
-      rw z (sought_less (n + 1) 0 (itself_or whole g) x (omega arith))
-  sought_here n Over whole g x h = absurd cc
-
-  inside_by : (n m : ℕ) (whole : Option A) (g : ℕ → Option A) (x : A)
-      → sought (n + 1) (Ahead (suc m)) (itself_or whole g) x ≡ sought n (Ahead m) g x
-  inside_by n m whole g x =
-      ⊎_elim
-      (λ lt. sought_less (n + 1) (suc m) (itself_or whole g) x (omega arith) ∙ sym (sought_less n m g x lt))
-      (λ ge. sought_more (n + 1) (suc m) (itself_or whole g) x (omega arith) ∙ sym (sought_more n m g x ge))
-      (cases_lt m n)
-
-  inside_of : (n m : ℕ) (whole : Option A) (g : ℕ → Option A) (x : A) → is_here (Ahead m) ≡ false
-      → sought (n + 1) (Ahead m) (itself_or whole g) x ≡ sought n (past 1 (Ahead m)) g x
-  inside_of n zero whole g x h = absurd (grind (arith, nat_tests))
-  inside_of n (suc m) whole g x h = inside_by n m whole g x ∙ sym (ap (λ s. sought n s g x) (ahead_one m))
-
-  pub sought_inside : (n : ℕ) (s : Search) (whole : Option A) (g : ℕ → Option A) (x : A) → is_here s ≡ false
-      → sought (n + 1) s (itself_or whole g) x ≡ sought n (past 1 s) g x
-  sought_inside n (Ahead m) whole g x h = inside_of n m whole g x h
-  sought_inside n Over whole g x h = refl
-
--- what holds what is sought
-
-module _ {A B : Type 0} (f : A → B) where
-  map_by : (o : Option ℕ) (g : ℕ → Option A) (x : A) → by_number o (λ k. option_map f (g k)) (f x) ≡ option_map f (by_number o g x)
-  map_by None g x = refl
-  map_by (Some k) g x = refl
-
-  pub sought_map : (n : ℕ) (s : Search) (g : ℕ → Option A) (x : A)
-      → sought n s (λ k. option_map f (g k)) (f x) ≡ option_map f (sought n s g x)
-  sought_map n s g x = map_by (among n s) g x
 
 -- A first that has n items, and a rest that has m.
 

@@ -14,7 +14,7 @@ use Rattle.smith_format.specs.Piece.{Piece, ◌⊕◌, byte, bytes, each, framed
 use Rattle.smith_format.proofs.Piece.{parts_are, utf8_is}
 use Rattle.smith_syntax.specs.Entries.{Case, Decl, Decls, DefValType, Entry, Field, ImportEntry, Signature, decl_count}
 use Rattle.smith_syntax.specs.Entries.{defined, function, component_type, instance_type}
-use Rattle.smith_syntax.specs.Entries.{primitive_type, record_type, variant_type, list_type, tuple_type, flags_type, enum_type, option_type, result_type}
+use Rattle.smith_syntax.specs.Entries.{primitive_type, record_type, variant_type, list_type, tuple_type, option_type, result_type}
 use Rattle.smith_syntax.specs.Entries.{core_type_decl, type_decl, type_alias, core_type_alias, import_decl, export_decl, no_decls, then_decls}
 use Rattle.smith_syntax.specs.Grammar.{case, decl, decls, defvaltype, entry, externdesc, functype, import_entry, importdecl, labelvaltype, maybe_valtype}
 use Rattle.smith_syntax.specs.Grammar.{primvaltype, resultlist, valtype}
@@ -163,20 +163,14 @@ labels_many k ns = renamed_many (λ n. n) label_renamed text label_grow (map (λ
 
 value_left : (k : ℕ) (t : DefValType) → Left defvaltype (value_simplified k t) (defvaltype t)
 value_left k (primitive_type p) = tt
-value_left k (record_type fs) =
-    mapped record_type (many labelvaltype) defvaltype (member_renamed (λ f. f.0) field_renamed k fs) (many labelvaltype fs) _
-    (λ x h. after (byte 0x72) _ _ h) (fields_many k fs)
-value_left k (variant_type cs) =
-    mapped variant_type (many case) defvaltype (member_renamed (λ c. c.0) case_renamed k cs) (many case cs) _ (λ x h. after (byte 0x71) _ _ h)
+value_left k (record_type fs) = mapped record_type (many labelvaltype) defvaltype _ (many labelvaltype fs) _ (λ x h. after (byte 0x72) _ _ h) (fields_many k fs)
+value_left k (variant_type cs) = mapped variant_type (many case) defvaltype _ (many case cs) _ (λ x h. after (byte 0x71) _ _ h)
     (renamed_many (λ c. c.0) case_renamed case case_grow (map (λ c. c.0) cs) k cs)
 value_left k (list_type v) = tt
 value_left k (tuple_type vs) = tt
-value_left k (flags_type ns) =
-    mapped flags_type (many text) defvaltype (member_renamed (λ n. n) label_renamed k ns) (many text ns) _ (λ x h. after (byte 0x6e) _ _ h) (labels_many k ns)
-value_left k (enum_type ns) =
-    mapped enum_type (many text) defvaltype (member_renamed (λ n. n) label_renamed k ns) (many text ns) _ (λ x h. after (byte 0x6d) _ _ h) (labels_many k ns)
 value_left k (option_type v) = tt
 value_left k (result_type ok err) = tt
+value_left k t = mapped _ (many text) defvaltype _ _ _ (λ x h. after _ _ _ h) (labels_many k _)
 
 signature_left : (k : ℕ) (g : Signature) → Left functype (signature_simplified k g) (functype g)
 signature_left k g =
@@ -205,22 +199,13 @@ bool_by false p = byte_same 0x7f (primvaltype p)
 
 bool_left : (t : DefValType) → Left defvaltype (simpler_value t) (defvaltype t)
 bool_left (primitive_type p) = bool_by (is_bool p) p
-bool_left (record_type fs) = byte_more 0x7f 0x72 (many labelvaltype fs)
-bool_left (variant_type cs) = byte_more 0x7f 0x71 (many case cs)
-bool_left (list_type v) = byte_more 0x7f 0x70 (valtype v)
-bool_left (tuple_type vs) = byte_more 0x7f 0x6f (many valtype vs)
-bool_left (flags_type ns) = byte_more 0x7f 0x6e (many text ns)
-bool_left (enum_type ns) = byte_more 0x7f 0x6d (many text ns)
-bool_left (option_type v) = byte_more 0x7f 0x6b (valtype v)
-bool_left (result_type ok err) = byte_more 0x7f 0x6a (maybe_valtype ok ⊕ maybe_valtype err)
+bool_left t = byte_more 0x7f _ _
 
 -- types, and what they declare
 
 entry_itself : (e : Entry) → Left entry (simpler_entry e) (entry e)
 entry_itself (defined t) = mapped defined defvaltype entry (simpler_value t) (defvaltype t) (defvaltype t) (λ x h. h) (bool_left t)
-entry_itself (function g) = tt
-entry_itself (component_type ds) = tt
-entry_itself (instance_type ds) = tt
+entry_itself e = tt
 
 import_itself : (b : Bool) (is : List (List ℕ)) (name : List ℕ) (n : Unit {0}) (r : ComponentTypeRef)
     → Left (decl b) (option_map (λ new. import_decl new n r) (shorter_name is name)) (importdecl b name r)
@@ -231,14 +216,12 @@ import_itself false is name n r =
     mapped (λ new. import_decl new n r) text (decl false) (shorter_name is name) (text name) _ (λ x h. same None) (name_left is name)
 
 decl_itself : (b : Bool) (is es : List (List ℕ)) (d : Decl) → Left (decl b) (simpler_decl is es d) (decl b d)
-decl_itself b is es (core_type_decl t k) = tt
 decl_itself b is es (type_decl e) = mapped type_decl entry (decl b) (simpler_entry e) (entry e) _ (λ x h. after (byte 0x01) _ _ h) (entry_itself e)
-decl_itself b is es (type_alias count i k) = tt
-decl_itself b is es (core_type_alias count i k) = tt
 decl_itself b is es (import_decl name n r) = import_itself b is name n r
 decl_itself b is es (export_decl name n r) =
     mapped (λ new. export_decl new n r) text (decl b) (shorter_name es name) (text name) _
     (λ x h. after (byte 0x04) _ _ (after (byte 0x00) _ _ (before _ _ (externdesc r) h))) (name_left es name)
+decl_itself b is es d = tt
 
 decls_count : (is es : List (List ℕ)) (k : ℕ) (ds : Decls) → Counts decl_count (decls_simplified is es k ds) (decl_count ds)
 decls_count is es k no_decls = tt
@@ -268,12 +251,8 @@ mutual
       (decls_left false (names (decl_imports ds)) (names (decl_exports ds)) k ds))
 
   decl_left : (b : Bool) (k : ℕ) (d : Decl) → Left (decl b) (decl_simplified k d) (decl b d)
-  decl_left b k (core_type_decl t n) = tt
   decl_left b k (type_decl e) = mapped type_decl entry (decl b) (entry_simplified k e) (entry e) _ (λ x h. after (byte 0x01) _ _ h) (entry_left k e)
-  decl_left b k (type_alias count i n) = tt
-  decl_left b k (core_type_alias count i n) = tt
-  decl_left b k (import_decl name n r) = tt
-  decl_left b k (export_decl name n r) = tt
+  decl_left b k d = tt
 
   decls_left : (b : Bool) (is es : List (List ℕ)) (k : ℕ) (ds : Decls) → Left (decls b) (decls_simplified is es k ds) (decls b ds)
   decls_left b is es k no_decls = tt
@@ -367,30 +346,22 @@ module_itself false bs = sized_grow 1 _ _ (module_less bs)
 part_itself : (p : Part) → Left part (simpler_part p) (part p)
 part_itself (section.custom name contents) = custom_itself name contents
 part_itself (section.core_module bs) = module_itself (bytes_eq bs core_preamble) bs
-part_itself (section.core_types ts) = tt
-part_itself (section.component t) = tt
-part_itself (section.types ts) = tt
-part_itself (section.canons fs) = tt
-part_itself (section.imports is) = tt
-part_itself (section.exports es) = tt
+part_itself p = tt
 
 mutual
   part_left : (is es : List (List ℕ)) (k : ℕ) (p : Part) → Left part (part_simplified is es k p) (part p)
-  part_left is es k (section.custom name contents) = tt
-  part_left is es k (section.core_module bs) = tt
-  part_left is es k (section.core_types ts) = tt
   part_left is es k (section.component t) =
       mapped section.component parts part (sections_simplified (import_names (imports_of t)) (export_names (exports_of t)) k t) (parts t) _
       (λ x h. sized_grow 4 _ _ (after (bytes preamble) _ _ h)) (sections_left (import_names (imports_of t)) (export_names (exports_of t)) k t)
   part_left is es k (section.types ts) =
       mapped section.types (many entry) part (types_simplified k ts) (many entry ts) _ (λ x h. sized_grow 7 _ _ h) (types_many k ts)
-  part_left is es k (section.canons fs) = tt
   part_left is es k (section.imports js) =
       mapped section.imports (many import_entry) part (renamed_at (λ i. i.name) import_renamed is k js) (many import_entry js) _ (λ x h. sized_grow 10 _ _ h)
       (renamed_many (λ i. i.name) import_renamed import_entry import_grow is k js)
   part_left is es k (section.exports fs) =
       mapped section.exports (many export_entry) part (renamed_at (λ e. e.name) export_renamed es k fs) (many export_entry fs) _ (λ x h. sized_grow 11 _ _ h)
       (renamed_many (λ e. e.name) export_renamed export_entry export_grow es k fs)
+  part_left is es k p = tt
 
   sections_left : (is es : List (List ℕ)) (k : ℕ) (t : Tree) → Left parts (sections_simplified is es k t) (parts t)
   sections_left is es k ends = tt
@@ -438,17 +409,11 @@ mutual
       (dropped (part p) (parts t) (parts t) (same (parts t))))
 
   inside_left : (k : ℕ) (p : Part) → Left component_text (component_in k p) (part p)
-  inside_left k (section.custom name contents) = tt
-  inside_left k (section.core_module bs) = tt
-  inside_left k (section.core_types ts) = tt
   inside_left k (section.component t) =
       itself component_text (Some t) (λ j. component_at j t) (part (section.component t)) k (in_section 4 (component_text t))
       (λ j. left_through component_text (component_at j t) (parts t) _ (nested_left j t)
       (through (parts t) (component_text t) _ (dropped (bytes preamble) (parts t) (parts t) (same (parts t))) (in_section 4 (component_text t))))
-  inside_left k (section.types ts) = tt
-  inside_left k (section.canons fs) = tt
-  inside_left k (section.imports is) = tt
-  inside_left k (section.exports es) = tt
+  inside_left k p = tt
 
 whole_by : (o p : Option Tree) (q : Piece) → Left component_text o q → Left component_text p q → Left component_text (elim o [ None ↦ p | Some u ↦ Some u ]) q
 whole_by None p q l m = m

@@ -5,7 +5,7 @@ use Rattle.std.specs.Option.{option_map}
 use Rattle.smith_core.specs.Preamble.{core_preamble}
 use Rattle.smith_syntax.specs.Entries.{Decl, Decls, DefValType, Entry, Signature}
 use Rattle.smith_syntax.specs.Entries.{defined, function, component_type, instance_type}
-use Rattle.smith_syntax.specs.Entries.{primitive_type, record_type, variant_type, list_type, tuple_type, flags_type, enum_type, option_type, result_type}
+use Rattle.smith_syntax.specs.Entries.{primitive_type, list_type, tuple_type, option_type, result_type}
 use Rattle.smith_syntax.specs.Entries.{core_type_decl, type_decl, type_alias, core_type_alias, import_decl, export_decl, no_decls, then_decls}
 use Rattle.smith_syntax.specs.WellFormed.{decl_exports, decl_imports, names}
 use Rattle.smith_tree.specs.Tree.{Tree, Part, ends, first, exports_of, imports_of}
@@ -57,22 +57,11 @@ renamed_most name rename ns (suc k) (x ∷ xs) =
 
 value_most : (k : ℕ) (t : DefValType) → Most value_items (value_simplified k t) (value_items t)
 value_most k (primitive_type p) = tt
-value_most k (record_type fs) =
-    most_map record_type length value_items (member_renamed (λ f. f.0) field_renamed k fs) (length fs) (length fs) (λ x h. h)
-    (renamed_most (λ f. f.0) field_renamed (map (λ f. f.0) fs) k fs)
-value_most k (variant_type cs) =
-    most_map variant_type length value_items (member_renamed (λ c. c.0) case_renamed k cs) (length cs) (length cs) (λ x h. h)
-    (renamed_most (λ c. c.0) case_renamed (map (λ c. c.0) cs) k cs)
 value_most k (list_type v) = tt
 value_most k (tuple_type vs) = tt
-value_most k (flags_type ns) =
-    most_map flags_type length value_items (member_renamed (λ n. n) label_renamed k ns) (length ns) (length ns) (λ x h. h)
-    (renamed_most (λ n. n) label_renamed (map (λ n. n) ns) k ns)
-value_most k (enum_type ns) =
-    most_map enum_type length value_items (member_renamed (λ n. n) label_renamed k ns) (length ns) (length ns) (λ x h. h)
-    (renamed_most (λ n. n) label_renamed (map (λ n. n) ns) k ns)
 value_most k (option_type v) = tt
 value_most k (result_type ok err) = tt
+value_most k t = most_map _ length value_items _ _ _ (λ x h. h) (renamed_most _ _ _ k _)
 
 signature_most : (k : ℕ) (g : Signature) → Most signature_items (signature_simplified k g) (signature_items g)
 signature_most k g =
@@ -85,50 +74,30 @@ bool_by false n = omega arith
 
 bool_most : (t : DefValType) → Most value_items (simpler_value t) (value_items t)
 bool_most (primitive_type p) = bool_by (is_bool p) 0
-bool_most (record_type fs) = omega arith
-bool_most (variant_type cs) = omega arith
-bool_most (list_type v) = omega arith
-bool_most (tuple_type vs) = omega arith
-bool_most (flags_type ns) = omega arith
-bool_most (enum_type ns) = omega arith
-bool_most (option_type v) = omega arith
-bool_most (result_type ok err) = omega arith
+bool_most t = omega arith
 
 -- types, and what they declare
 
 entry_itself : (e : Entry) → Most entry_items (simpler_entry e) (entry_items e)
 entry_itself (defined t) = most_map defined value_items entry_items (simpler_value t) (value_items t) (value_items t) (λ x h. h) (bool_most t)
-entry_itself (function g) = tt
-entry_itself (component_type ds) = tt
-entry_itself (instance_type ds) = tt
+entry_itself e = tt
 
 decl_itself : (is es : List (List ℕ)) (d : Decl) → Most decl_items (simpler_decl is es d) (decl_items d)
-decl_itself is es (core_type_decl t k) = tt
 decl_itself is es (type_decl e) = most_map type_decl entry_items decl_items (simpler_entry e) (entry_items e) (entry_items e) (λ x h. h) (entry_itself e)
-decl_itself is es (type_alias count i k) = tt
-decl_itself is es (core_type_alias count i k) = tt
 decl_itself is es (import_decl name n r) = most_any (λ new. import_decl new n r) decl_items (shorter_name is name) 0 (λ new. omega arith)
 decl_itself is es (export_decl name n r) = most_any (λ new. export_decl new n r) decl_items (shorter_name es name) 0 (λ new. omega arith)
+decl_itself is es d = tt
 
 mutual
   entry_most : (k : ℕ) (e : Entry) → Most entry_items (entry_simplified k e) (entry_items e)
-  entry_most k (defined t) = most_map defined value_items entry_items (value_simplified k t) (value_items t) (value_items t) (λ x h. h) (value_most k t)
-  entry_most k (function g) =
-      most_map function signature_items entry_items (signature_simplified k g) (signature_items g) (signature_items g) (λ x h. h) (signature_most k g)
-  entry_most k (component_type ds) =
-      most_map component_type decls_items entry_items (decls_simplified (names (decl_imports ds)) (names (decl_exports ds)) k ds) (decls_items ds)
-      (decls_items ds) (λ x h. h) (decls_most (names (decl_imports ds)) (names (decl_exports ds)) k ds)
-  entry_most k (instance_type ds) =
-      most_map instance_type decls_items entry_items (decls_simplified (names (decl_imports ds)) (names (decl_exports ds)) k ds) (decls_items ds)
-      (decls_items ds) (λ x h. h) (decls_most (names (decl_imports ds)) (names (decl_exports ds)) k ds)
+  entry_most k (defined t) = most_map defined value_items entry_items _ _ _ (λ x h. h) (value_most k t)
+  entry_most k (function g) = most_map function signature_items entry_items _ _ _ (λ x h. h) (signature_most k g)
+  entry_most k (component_type ds) = most_map component_type decls_items entry_items _ _ _ (λ x h. h) (decls_most _ _ k ds)
+  entry_most k (instance_type ds) = most_map instance_type decls_items entry_items _ _ _ (λ x h. h) (decls_most _ _ k ds)
 
   decl_most : (k : ℕ) (d : Decl) → Most decl_items (decl_simplified k d) (decl_items d)
-  decl_most k (core_type_decl t n) = tt
   decl_most k (type_decl e) = most_map type_decl entry_items decl_items (entry_simplified k e) (entry_items e) (entry_items e) (λ x h. h) (entry_most k e)
-  decl_most k (type_alias count i n) = tt
-  decl_most k (core_type_alias count i n) = tt
-  decl_most k (import_decl name n r) = tt
-  decl_most k (export_decl name n r) = tt
+  decl_most k d = tt
 
   decls_most : (is es : List (List ℕ)) (k : ℕ) (ds : Decls) → Most decls_items (decls_simplified is es k ds) (decls_items ds)
   decls_most is es k no_decls = tt
@@ -163,31 +132,15 @@ module_by false = omega arith
 part_itself : (p : Part) → Most part_items (simpler_part p) (part_items p)
 part_itself (section.custom name contents) = custom_itself name contents
 part_itself (section.core_module bs) = module_by (bytes_eq bs core_preamble)
-part_itself (section.core_types ts) = tt
-part_itself (section.component t) = tt
-part_itself (section.types ts) = tt
-part_itself (section.canons fs) = tt
-part_itself (section.imports is) = tt
-part_itself (section.exports es) = tt
+part_itself p = tt
 
 mutual
   part_most : (is es : List (List ℕ)) (k : ℕ) (p : Part) → Most part_items (part_simplified is es k p) (part_items p)
-  part_most is es k (section.custom name contents) = tt
-  part_most is es k (section.core_module bs) = tt
-  part_most is es k (section.core_types ts) = tt
-  part_most is es k (section.component t) =
-      most_map section.component tree_items part_items (sections_simplified (import_names (imports_of t)) (export_names (exports_of t)) k t) (tree_items t)
-      (tree_items t) (λ x h. h) (sections_most (import_names (imports_of t)) (export_names (exports_of t)) k t)
-  part_most is es k (section.types ts) =
-      most_map section.types (row_items entry_items) part_items (types_simplified k ts) (row_items entry_items ts) (row_items entry_items ts) (λ x h. h)
-      (types_most k ts)
-  part_most is es k (section.canons fs) = tt
-  part_most is es k (section.imports js) =
-      most_map section.imports length part_items (renamed_at (λ i. i.name) import_renamed is k js) (length js) (length js) (λ x h. h)
-      (renamed_most (λ i. i.name) import_renamed is k js)
-  part_most is es k (section.exports fs) =
-      most_map section.exports length part_items (renamed_at (λ e. e.name) export_renamed es k fs) (length fs) (length fs) (λ x h. h)
-      (renamed_most (λ e. e.name) export_renamed es k fs)
+  part_most is es k (section.component t) = most_map section.component tree_items part_items _ _ _ (λ x h. h) (sections_most _ _ k t)
+  part_most is es k (section.types ts) = most_map section.types (row_items entry_items) part_items _ _ _ (λ x h. h) (types_most k ts)
+  part_most is es k (section.imports js) = most_map section.imports length part_items _ _ _ (λ x h. h) (renamed_most _ _ is k js)
+  part_most is es k (section.exports fs) = most_map section.exports length part_items _ _ _ (λ x h. h) (renamed_most _ _ es k fs)
+  part_most is es k p = tt
 
   sections_most : (is es : List (List ℕ)) (k : ℕ) (t : Tree) → Most tree_items (sections_simplified is es k t) (tree_items t)
   sections_most is es k ends = tt
@@ -209,15 +162,9 @@ mutual
       (nested_most (k - (part_items p + 1)) t))
 
   inside_most : (k : ℕ) (p : Part) → Most tree_items (component_in k p) (part_items p)
-  inside_most k (section.custom name contents) = tt
-  inside_most k (section.core_module bs) = tt
-  inside_most k (section.core_types ts) = tt
   inside_most k (section.component t) =
       most_itself tree_items (Some t) (λ j. component_at j t) (tree_items t) k (omega arith) (λ j. nested_most j t)
-  inside_most k (section.types ts) = tt
-  inside_most k (section.canons fs) = tt
-  inside_most k (section.imports is) = tt
-  inside_most k (section.exports es) = tt
+  inside_most k p = tt
 
 most_whole : (o p : Option Tree) (n : ℕ) → Most tree_items o n → Most tree_items p n → Most tree_items (elim o [ None ↦ p | Some u ↦ Some u ]) n
 most_whole None p n c d = d

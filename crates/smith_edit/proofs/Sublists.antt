@@ -14,6 +14,10 @@ module _ {A : Type 0} where
   sub_same [] = none
   sub_same (x ∷ xs) = keep x xs xs (sub_same xs)
 
+  pub nothing_of : (xs : List A) → Sub [] xs
+  nothing_of [] = none
+  nothing_of (x ∷ xs) = skip x [] xs (nothing_of xs)
+
   pub sub_append : (ps qs cs ds : List A) → Sub ps qs → Sub cs ds → Sub (ps ++ cs) (qs ++ ds)
   sub_append _ _ cs ds none t = t
   sub_append _ _ cs ds (skip x ys xs s) t = skip x (ys ++ cs) (xs ++ ds) (sub_append ys xs cs ds s t)

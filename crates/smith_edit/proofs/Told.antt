@@ -1,6 +1,7 @@
 -- What is left is not gone for what refers to it.
 use Rattle.std.proofs.Common.{◌≡◌, ℕ, zero, suc, ◌<◌, Bool, true, false, cond, nat_eq, List, [], ◌∷◌, ◌++◌, Option, Some, None, length, refl, sym, ap, ◌∙◌}
 use Rattle.std.proofs.Common.{arith}
+use Rattle.std.proofs.lemmas.Option.{slice_get_past}
 use Rattle.std.specs.Prelude.{slice_get}
 use Rattle.smith_syntax.specs.Entries.{CoreEntry, Decl, Entry, ImportEntry, ModuleDecl}
 use Rattle.smith_syntax.specs.Entries.{aliases, declares, exports, imports}
@@ -30,10 +31,6 @@ get_before [] ys i h = absurd (omega (arith, h))
 get_before (x ∷ xs) ys zero h = refl
 get_before (x ∷ xs) ys (suc i) h = get_before xs ys i (omega (arith, h))
 
-get_beyond : {A : Type 0} (xs : List A) → slice_get xs (length xs) ≡ None
-get_beyond [] = refl
-get_beyond (x ∷ xs) = get_beyond xs
-
 -- what is told of the entries before stays
 pub told_before : (s : Renumbering) (f : Fate) (i : ℕ) → i < length s.entries → entry_at (with_entry s f) i ≡ entry_at s i
 told_before s f i h = ap (λ (o : Option Renumbered). entry_or o i) (get_before s.entries (record { index = s.next; fate = f } ∷ []) i h)
@@ -54,7 +51,7 @@ kept_not_gone s = not_gone s Kept (kept_remains Kept refl)
 -- none more
 pub none_gone : (s : Renumbering) → ¬ (IsGone s (length s.entries))
 none_gone s g = kept_remains (entry_at s (length s.entries)).fate
-    (ap (λ (o : Option Renumbered). (entry_or o (length s.entries)).fate) (get_beyond s.entries)) g
+    (ap (λ (o : Option Renumbered). (entry_or o (length s.entries)).fate) (slice_get_past s.entries (length s.entries) (omega arith))) g
 
 -- entries
 
@@ -75,10 +72,8 @@ canon_told s (lower f) new = (none_gone s.functions, kept_not_gone s.core_functi
 
 pub decl_told : (s : Scope) (d new : Decl) → (¬ (IsGone (after_decl s d (Some new)).types (length s.types.entries)))
     × (¬ (IsGone (after_decl s d (Some new)).core_types (length s.core_types.entries)))
-decl_told s (core_type_decl t k) new = (none_gone s.types, kept_not_gone s.core_types)
 decl_told s (type_decl e) new = (kept_not_gone s.types, none_gone s.core_types)
 decl_told s (type_alias count i k) new = (kept_not_gone s.types, none_gone s.core_types)
-decl_told s (core_type_alias count i k) new = (none_gone s.types, kept_not_gone s.core_types)
 decl_told s (import_decl name n r) new = (none_gone s.types, none_gone s.core_types)
 decl_told s (export_decl name n r) new = go (is_type_eq r)
   where
@@ -86,12 +81,12 @@ decl_told s (export_decl name n r) new = go (is_type_eq r)
         × (¬ (IsGone (cond b (with_type s Kept) s).core_types (length s.core_types.entries)))
     go true = (kept_not_gone s.types, none_gone s.core_types)
     go false = (none_gone s.types, none_gone s.core_types)
+decl_told s d new = (none_gone s.types, kept_not_gone s.core_types)
 
 pub module_decl_told : (s : Scope) (d new : ModuleDecl) → ¬ (IsGone (after_module_decl s d (Some new)).core_types (length s.core_types.entries))
-module_decl_told s (declares f) new = kept_not_gone s.core_types
 module_decl_told s (imports m n e) new = none_gone s.core_types
-module_decl_told s (aliases count i) new = kept_not_gone s.core_types
 module_decl_told s (exports n e) new = none_gone s.core_types
+module_decl_told s d new = kept_not_gone s.core_types
 
 -- what has a new index is not gone
 remains : (s : Renumbering) (i j : ℕ) → new_index s i ≡ Some j → ¬ (IsGone s i)
@@ -100,18 +95,14 @@ remains s i j e g = go (entry_at s i).fate e g
     go : (f : Fate) → ◌≡◌ {A = Option ℕ} (elim f [ Kept ↦ Some (entry_at s i).index | Changed ↦ Some (entry_at s i).index | Removed ↦ None ]) (Some j)
         → ¬ (f ≡ Removed)
     go Kept e g = absurd cc
-    go Changed e g = absurd cc
-    go Removed e g = absurd cc
+    go f e g = absurd cc
 
 ref_told : (own : Scope) (r q : ComponentTypeRef) → ref_edited own r ≡ Some q
     → ¬ (IsGone (after_ref own r true).functions (length own.functions.entries))
-ref_told own (to.Module i) q e = none_gone own.functions
 ref_told own (to.Func i) q e =
     let (j, at, is) = from_map to.Func (new_index own.types i) q e in
     not_gone own.functions (entry_at own.types i).fate (remains own.types i j at)
-ref_told own (to.TypeEq i) q e = none_gone own.functions
-ref_told own (to.Component i) q e = none_gone own.functions
-ref_told own (to.Instance i) q e = none_gone own.functions
+ref_told own r q e = none_gone own.functions
 
 pub import_told : (w : Walk) (i new : ImportEntry) → import_edited w i ≡ Some new
     → ¬ (IsGone (after_import w.own i (Some new)).functions (length w.own.functions.entries))

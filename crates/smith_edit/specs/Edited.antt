@@ -6,7 +6,6 @@ use Rattle.smith_format.specs.declared.types.EntityType.{EntityType}
 use Rattle.smith_format.specs.declared.types.EntityType.TheVariants as entity
 use Rattle.smith_syntax.specs.Entries.{Case, CoreEntry, core_func, core_module, Decl, Decls, DefValType, Entry, Field, ImportEntry, ModuleDecl, Signature}
 use Rattle.smith_syntax.specs.Entries.{aliases, declares, exports, imports, defined, function, component_type, instance_type}
-use Rattle.smith_syntax.specs.Entries.{primitive_type, record_type, variant_type, list_type, tuple_type, flags_type, enum_type, option_type, result_type}
 use Rattle.smith_syntax.specs.Entries.{core_type_decl, type_decl, type_alias, core_type_alias, import_decl, export_decl, no_decls, then_decls}
 use Rattle.smith_syntax.specs.WellFormed.{is_type_eq}
 use Rattle.smith_syntax.specs.declared.deftype.ComponentTypeRef.{ComponentTypeRef}
@@ -18,6 +17,7 @@ use Rattle.smith_tree.specs.Tree as part
 use Rattle.smith_edit.specs.Items.{core_items, decl_items, entry_items, function_members, module_decl_items, none_inside, part_items}
 use Rattle.smith_edit.specs.Removal.{inside, past, removes}
 use Rattle.smith_edit.specs.Renumbering.{Renumbering, entry_at, fate_if, kept_index, new_index, with_like}
+use Rattle.smith_edit.specs.Shapes.{Shape, alone, cases, fields, labels, pair, shape, single, values}
 use Rattle.smith_edit.specs.Walk.{Walk, aliased_core_type, aliased_type, entered, skipped}
 use Rattle.smith_edit.specs.Walk.{with_core_function, with_core_type, with_function, with_type}
 use Rattle.smith_edit.specs.declared.renumbering.Fate.{Fate}
@@ -53,16 +53,17 @@ abbrev pub optional_edited : Renumbering → Removal → Option ComponentValType
 optional_edited s r None = None
 optional_edited s r (Some v) = if removes r then None else value_edited s v
 
+abbrev pub shape_edited : Renumbering → Removal → Shape → Option DefValType
+shape_edited s r (alone t) = Some t
+shape_edited s r (single type v) = option_map type (value_edited s v)
+shape_edited s r (fields type fs) = option_map type (left_of fs (members (field_edited s) r fs))
+shape_edited s r (cases type cs) = option_map type (left_of cs (members (case_edited s) r cs))
+shape_edited s r (values type vs) = option_map type (left_of vs (members (value_edited s) r vs))
+shape_edited s r (labels type ns) = option_map type (left_of ns (members Some r ns))
+shape_edited s r (pair type ok err) = Some (type (optional_edited s r ok) (optional_edited s (past (length (option_to_list ok)) r) err))
+
 abbrev pub defined_edited : Renumbering → Removal → DefValType → Option DefValType
-defined_edited s r (primitive_type p) = Some (primitive_type p)
-defined_edited s r (record_type fs) = option_map record_type (left_of fs (members (field_edited s) r fs))
-defined_edited s r (variant_type cs) = option_map variant_type (left_of cs (members (case_edited s) r cs))
-defined_edited s r (list_type v) = option_map list_type (value_edited s v)
-defined_edited s r (tuple_type vs) = option_map tuple_type (left_of vs (members (value_edited s) r vs))
-defined_edited s r (flags_type ns) = option_map flags_type (left_of ns (members Some r ns))
-defined_edited s r (enum_type ns) = option_map enum_type (left_of ns (members Some r ns))
-defined_edited s r (option_type v) = option_map option_type (value_edited s v)
-defined_edited s r (result_type ok err) = Some (result_type (optional_edited s r ok) (optional_edited s (past (length (option_to_list ok)) r) err))
+defined_edited s r t = shape_edited s r (shape t)
 
 abbrev pub signature_edited : Renumbering → Removal → Signature → Signature
 signature_edited s r g = record { params = members (field_edited s) r g.params; result = optional_edited s (past (length g.params) r) g.result }
@@ -94,10 +95,8 @@ function_edited r f = (members Some r f.0, members Some (past (length f.0) r) f.
 
 abbrev pub entity_edited : Renumbering → EntityType → Option EntityType
 entity_edited s (entity.Func i) = option_map entity.Func (new_index s i)
-entity_edited s (entity.Table t) = Some (entity.Table t)
-entity_edited s (entity.Memory m) = Some (entity.Memory m)
-entity_edited s (entity.Global g) = Some (entity.Global g)
 entity_edited s (entity.Tag t) = option_map (λ i. entity.Tag (record { func_type_idx = i })) (new_index s t.func_type_idx)
+entity_edited s e = Some e
 
 -- a declaration of a module type, the own types of which are the core types of a scope
 abbrev pub module_decl_edited : Walk → ModuleDecl → Option ModuleDecl
@@ -108,9 +107,8 @@ module_decl_edited w (exports n e) = option_map (exports n) (entity_edited w.own
 
 abbrev pub after_module_decl : Scope → ModuleDecl → Option ModuleDecl → Scope
 after_module_decl s (declares f) new = with_core_type s (fate_if (is_some new) Kept)
-after_module_decl s (imports m n e) new = s
 after_module_decl s (aliases count i) new = with_core_type s (fate_if (is_some new) Kept)
-after_module_decl s (exports n e) new = s
+after_module_decl s d new = s
 
 abbrev pub core_edited : Walk → CoreEntry → CoreEntry
 core_edited w (core_func f) = core_func (function_edited w.removal f)
@@ -193,11 +191,8 @@ import_edited w i = option_map (λ r. record i { to = r }) (ref_edited w.own i.t
 
 -- A function is changed if its type is.
 abbrev pub after_ref : Scope → ComponentTypeRef → Bool → Scope
-after_ref s (to.Module i) remains = s
 after_ref s (to.Func i) remains = with_function s (fate_if remains (entry_at s.types i).fate)
-after_ref s (to.TypeEq i) remains = s
-after_ref s (to.Component i) remains = s
-after_ref s (to.Instance i) remains = s
+after_ref s r remains = s
 
 abbrev pub after_import : Scope → ImportEntry → Option ImportEntry → Scope
 after_import s i new = after_ref s i.to (is_some new)
@@ -211,14 +206,13 @@ after_export s e new = record s { functions = with_like s.functions e.func (is_s
 
 -- what became of the entries after a section
 abbrev pub after_part : Walk → Part → Walk
-after_part w (part.custom name contents) = w
-after_part w (part.core_module text) = w
 after_part w (part.core_types ts) = after_rows core_items core_row after_core w ts
 after_part w (part.component t) = skipped (part_items (part.component t)) w
 after_part w (part.types ts) = after_rows entry_items type_row after_type w ts
 after_part w (part.canons fs) = after_rows none_inside canon_edited after_canon w fs
 after_part w (part.imports is) = after_rows none_inside import_edited after_import w is
 after_part w (part.exports es) = after_rows none_inside export_edited after_export w es
+after_part w p = w
 
 abbrev pub and_part : Bool → Part → Tree → Tree
 and_part removed p t = if removed then t else first p t
@@ -237,8 +231,6 @@ abbrev mutual
   tree_edited (first p t) w = and_part (removes w.removal) (part_edited p (within w)) (tree_edited t (after_section w p))
 
   pub part_edited : Part → Walk → Part
-  part_edited (part.custom name contents) w = part.custom name contents
-  part_edited (part.core_module text) w = part.core_module text
   part_edited (part.core_types ts) w =
       part.core_types (rows core_items core_row after_core w ts)
   part_edited (part.component t) w = part.component (tree_edited t (entered w))
@@ -246,3 +238,4 @@ abbrev mutual
   part_edited (part.canons fs) w = part.canons (rows none_inside canon_edited after_canon w fs)
   part_edited (part.imports is) w = part.imports (rows none_inside import_edited after_import w is)
   part_edited (part.exports es) w = part.exports (rows none_inside export_edited after_export w es)
+  part_edited p w = p

@@ -55,14 +55,9 @@ export_renamed e name = record e { name = name }
 
 -- the section with names that are new to the imports and to the exports before it
 abbrev pub part_renamed : List (List ℕ) → List (List ℕ) → Part → Part
-part_renamed is es (part.custom name contents) = part.custom name contents
-part_renamed is es (part.core_module text) = part.core_module text
-part_renamed is es (part.core_types ts) = part.core_types ts
-part_renamed is es (part.component t) = part.component t
-part_renamed is es (part.types ts) = part.types ts
-part_renamed is es (part.canons fs) = part.canons fs
 part_renamed is es (part.imports js) = part.imports (all_renamed (λ i. i.name) import_renamed is js)
 part_renamed is es (part.exports fs) = part.exports (all_renamed (λ e. e.name) export_renamed es fs)
+part_renamed is es p = p
 
 abbrev pub renamed : Tree → List (List ℕ) → List (List ℕ) → Tree
 renamed ends is es = ends

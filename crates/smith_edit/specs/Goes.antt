@@ -4,7 +4,6 @@ use Rattle.smith_format.specs.declared.types.EntityType.{EntityType}
 use Rattle.smith_format.specs.declared.types.EntityType.TheVariants as entity
 use Rattle.smith_syntax.specs.Entries.{Case, Decl, DefValType, Entry, Field, ModuleDecl}
 use Rattle.smith_syntax.specs.Entries.{aliases, declares, exports, imports, defined, function, component_type, instance_type}
-use Rattle.smith_syntax.specs.Entries.{primitive_type, record_type, variant_type, list_type, tuple_type, flags_type, enum_type, option_type, result_type}
 use Rattle.smith_syntax.specs.Entries.{core_type_decl, type_decl, type_alias, core_type_alias, import_decl, export_decl}
 use Rattle.smith_syntax.specs.declared.deftype.ComponentTypeRef.{ComponentTypeRef}
 use Rattle.smith_syntax.specs.declared.deftype.ComponentTypeRef.TheVariants as to
@@ -13,6 +12,7 @@ use Rattle.smith_syntax.specs.declared.types.ComponentValType.TheVariants.{Primi
 use Rattle.smith_tree.specs.Tree.{Canon, lift, lower}
 use Rattle.smith_edit.specs.Removal.{past, removes}
 use Rattle.smith_edit.specs.Renumbering.{Renumbering, entry_at}
+use Rattle.smith_edit.specs.Shapes.{Shape, cases, fields, labels, shape, single, values}
 use Rattle.smith_edit.specs.Walk.{Walk}
 use Rattle.smith_edit.specs.declared.removal.Removal.{Removal}
 use Rattle.smith_edit.specs.declared.renumbering.Fate.TheVariants.{Kept, Removed}
@@ -59,23 +59,21 @@ NoneLeft Goes r [] = ⊥
 NoneLeft Goes r (x ∷ xs) = AllGo Goes r (x ∷ xs)
 
 -- a type of values
+abbrev pub ShapeGoes : Renumbering → Removal → Shape → Type 0
+ShapeGoes s r (single type v) = IsValueGone s v
+ShapeGoes s r (fields type fs) = NoneLeft (λ (f : Field). IsValueGone s f.1) r fs
+ShapeGoes s r (cases type cs) = NoneLeft (IsCaseGone s) r cs
+ShapeGoes s r (values type vs) = NoneLeft (IsValueGone s) r vs
+ShapeGoes s r (labels type ns) = NoneLeft (λ (n : List ℕ). ⊥) r ns
+ShapeGoes s r x = ⊥
+
 abbrev pub DefinedGoes : Renumbering → Removal → DefValType → Type 0
-DefinedGoes s r (primitive_type p) = ⊥
-DefinedGoes s r (record_type fs) = NoneLeft (λ (f : Field). IsValueGone s f.1) r fs
-DefinedGoes s r (variant_type cs) = NoneLeft (IsCaseGone s) r cs
-DefinedGoes s r (list_type v) = IsValueGone s v
-DefinedGoes s r (tuple_type vs) = NoneLeft (IsValueGone s) r vs
-DefinedGoes s r (flags_type ns) = NoneLeft (λ (n : List ℕ). ⊥) r ns
-DefinedGoes s r (enum_type ns) = NoneLeft (λ (n : List ℕ). ⊥) r ns
-DefinedGoes s r (option_type v) = IsValueGone s v
-DefinedGoes s r (result_type ok err) = ⊥
+DefinedGoes s r t = ShapeGoes s r (shape t)
 
 -- A type of functions, components or instances never goes by itself.
 abbrev pub EntryGoes : Walk → Entry → Type 0
 EntryGoes w (defined t) = DefinedGoes w.own.types w.removal t
-EntryGoes w (function g) = ⊥
-EntryGoes w (component_type ds) = ⊥
-EntryGoes w (instance_type ds) = ⊥
+EntryGoes w e = ⊥
 
 -- a declaration of a type
 abbrev pub DeclGoes : Walk → Decl → Type 0
@@ -89,10 +87,8 @@ DeclGoes w (export_decl name n r) = IsRefGone w.own r
 -- a declaration of a module type
 abbrev pub IsEntityGone : Renumbering → EntityType → Type 0
 IsEntityGone s (entity.Func i) = IsGone s i
-IsEntityGone s (entity.Table t) = ⊥
-IsEntityGone s (entity.Memory m) = ⊥
-IsEntityGone s (entity.Global g) = ⊥
 IsEntityGone s (entity.Tag t) = IsGone s t.func_type_idx
+IsEntityGone s e = ⊥
 
 abbrev pub ModuleDeclGoes : Walk → ModuleDecl → Type 0
 ModuleDeclGoes w (declares f) = ⊥

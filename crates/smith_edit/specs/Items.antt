@@ -5,10 +5,10 @@ use Rattle.std.specs.Option.{option_to_list}
 use Rattle.smith_format.specs.CoreTypes.{Function}
 use Rattle.smith_syntax.specs.Entries.{CoreEntry, core_func, core_module, Decl, Decls, DefValType, Entry, ModuleDecl, Signature}
 use Rattle.smith_syntax.specs.Entries.{aliases, declares, exports, imports, defined, function, component_type, instance_type}
-use Rattle.smith_syntax.specs.Entries.{primitive_type, record_type, variant_type, list_type, tuple_type, flags_type, enum_type, option_type, result_type}
 use Rattle.smith_syntax.specs.Entries.{core_type_decl, type_decl, type_alias, core_type_alias, import_decl, export_decl, no_decls, then_decls}
 use Rattle.smith_tree.specs.Tree.{Tree, Part, ends, first}
 use Rattle.smith_tree.specs.Tree as part
+use Rattle.smith_edit.specs.Shapes.{Shape, cases, fields, labels, pair, shape, values}
 
 -- entries, each with what is inside it
 abbrev pub row_items : {A : Type 0} → (A → ℕ) → List A → ℕ
@@ -18,35 +18,31 @@ row_items inside (x ∷ xs) = inside x + 1 + row_items inside xs
 abbrev pub none_inside : {A : Type 0} → A → ℕ
 none_inside x = 0
 
+abbrev pub shape_items : Shape → ℕ
+shape_items (fields type fs) = length fs
+shape_items (cases type cs) = length cs
+shape_items (values type vs) = length vs
+shape_items (labels type ns) = length ns
+shape_items (pair type ok err) = length (option_to_list ok) + length (option_to_list err)
+shape_items x = 0
+
 abbrev pub value_items : DefValType → ℕ
-value_items (primitive_type p) = 0
-value_items (record_type fs) = length fs
-value_items (variant_type cs) = length cs
-value_items (list_type v) = 0
-value_items (tuple_type vs) = length vs
-value_items (flags_type ns) = length ns
-value_items (enum_type ns) = length ns
-value_items (option_type v) = 0
-value_items (result_type ok err) = length (option_to_list ok) + length (option_to_list err)
+value_items t = shape_items (shape t)
 
 abbrev pub signature_items : Signature → ℕ
 signature_items s = length s.params + length (option_to_list s.result)
 
 -- the members of a type that are the parameters and the result of a function
 abbrev pub function_members : Entry → ℕ
-function_members (defined t) = 0
 function_members (function s) = signature_items s
-function_members (component_type ds) = 0
-function_members (instance_type ds) = 0
+function_members e = 0
 
 abbrev pub function_items : Function → ℕ
 function_items f = length f.0 + length f.1
 
 abbrev pub module_decl_items : ModuleDecl → ℕ
 module_decl_items (declares f) = function_items f
-module_decl_items (imports m n e) = 0
-module_decl_items (aliases count i) = 0
-module_decl_items (exports n e) = 0
+module_decl_items d = 0
 
 abbrev pub core_items : CoreEntry → ℕ
 core_items (core_func f) = function_items f
@@ -62,10 +58,7 @@ abbrev mutual
   pub decl_items : Decl → ℕ
   decl_items (core_type_decl t k) = core_items t
   decl_items (type_decl e) = entry_items e
-  decl_items (type_alias count i k) = 0
-  decl_items (core_type_alias count i k) = 0
-  decl_items (import_decl name n r) = 0
-  decl_items (export_decl name n r) = 0
+  decl_items d = 0
 
   pub decls_items : Decls → ℕ
   decls_items no_decls = 0
@@ -73,14 +66,13 @@ abbrev mutual
 
 abbrev mutual
   pub part_items : Part → ℕ
-  part_items (part.custom name contents) = 0
-  part_items (part.core_module text) = 0
   part_items (part.core_types ts) = row_items core_items ts
   part_items (part.component t) = tree_items t
   part_items (part.types ts) = row_items entry_items ts
   part_items (part.canons fs) = length fs
   part_items (part.imports is) = length is
   part_items (part.exports es) = length es
+  part_items p = 0
 
   pub tree_items : Tree → ℕ
   tree_items ends = 0

@@ -4,6 +4,7 @@ pub mod Renumbering
 pub mod Walk
 pub mod Edited
 pub mod Edits
+pub mod Shapes
 pub mod ShortNames
 pub mod Simpler
 pub mod Search

@@ -7,7 +7,6 @@ use Rattle.smith_format.specs.declared.types.EntityType.{EntityType}
 use Rattle.smith_format.specs.declared.types.EntityType.TheVariants as entity
 use Rattle.smith_syntax.specs.Entries.{Case, CoreEntry, core_func, core_module, Decl, Decls, DefValType, Entry, Field, ImportEntry, ModuleDecl, Signature}
 use Rattle.smith_syntax.specs.Entries.{aliases, declares, exports, imports, defined, function, component_type, instance_type}
-use Rattle.smith_syntax.specs.Entries.{primitive_type, record_type, variant_type, list_type, tuple_type, flags_type, enum_type, option_type, result_type}
 use Rattle.smith_syntax.specs.Entries.{core_type_decl, type_decl, type_alias, core_type_alias, import_decl, export_decl, no_decls, then_decls}
 use Rattle.smith_syntax.specs.declared.deftype.ComponentTypeRef.{ComponentTypeRef}
 use Rattle.smith_syntax.specs.declared.deftype.ComponentTypeRef.TheVariants as to
@@ -21,6 +20,7 @@ use Rattle.smith_edit.specs.Goes.{CanonGoes, DeclGoes, EntryGoes, IsCaseGone, Is
 use Rattle.smith_edit.specs.Items.{core_items, decl_items, entry_items, module_decl_items, none_inside}
 use Rattle.smith_edit.specs.Removal.{past, removes}
 use Rattle.smith_edit.specs.Renumbering.{Renumbering}
+use Rattle.smith_edit.specs.Shapes.{Shape, alone, cases, fields, labels, pair, shape, single, values}
 use Rattle.smith_edit.specs.Walk.{Walk, entered, new_scope, skipped}
 use Rattle.smith_edit.specs.declared.removal.Removal.{Removal}
 use Rattle.smith_edit.specs.declared.removal.Removal.TheVariants.{Item}
@@ -71,17 +71,18 @@ TypeRemains (Some v) o = (w : ComponentValType) × (o ≡ Some w) × ValueRemain
 abbrev pub CaseRemains : Case → Case → Type 0
 CaseRemains c d = (o : Option ComponentValType) × (d ≡ (c.0, o)) × TypeRemains c.1 o
 
-abbrev pub DefinedRemains : Renumbering → Removal → DefValType → DefValType → Type 0
-DefinedRemains s r (primitive_type p) u = u ≡ primitive_type p
-DefinedRemains s r (record_type fs) u = (left : List Field) × (u ≡ record_type left) × Members FieldRemains (IsFieldGone s) r fs left
-DefinedRemains s r (variant_type cs) u = (left : List Case) × (u ≡ variant_type left) × Members CaseRemains (IsCaseGone s) r cs left
-DefinedRemains s r (list_type v) u = (w : ComponentValType) × (u ≡ list_type w) × ValueRemains v w
-DefinedRemains s r (tuple_type vs) u = (left : List ComponentValType) × (u ≡ tuple_type left) × Members ValueRemains (IsValueGone s) r vs left
-DefinedRemains s r (flags_type ns) u = (left : List (List ℕ)) × (u ≡ flags_type left) × Members IsSame Never r ns left
-DefinedRemains s r (enum_type ns) u = (left : List (List ℕ)) × (u ≡ enum_type left) × Members IsSame Never r ns left
-DefinedRemains s r (option_type v) u = (w : ComponentValType) × (u ≡ option_type w) × ValueRemains v w
-DefinedRemains s r (result_type ok err) u = (left : Option ComponentValType) × (other : Option ComponentValType) × (u ≡ result_type left other)
+abbrev pub ShapeRemains : Renumbering → Removal → Shape → DefValType → Type 0
+ShapeRemains s r (alone t) u = u ≡ t
+ShapeRemains s r (single type v) u = (w : ComponentValType) × (u ≡ type w) × ValueRemains v w
+ShapeRemains s r (fields type fs) u = (left : List Field) × (u ≡ type left) × Members FieldRemains (IsFieldGone s) r fs left
+ShapeRemains s r (cases type cs) u = (left : List Case) × (u ≡ type left) × Members CaseRemains (IsCaseGone s) r cs left
+ShapeRemains s r (values type vs) u = (left : List ComponentValType) × (u ≡ type left) × Members ValueRemains (IsValueGone s) r vs left
+ShapeRemains s r (labels type ns) u = (left : List (List ℕ)) × (u ≡ type left) × Members IsSame Never r ns left
+ShapeRemains s r (pair type ok err) u = (left : Option ComponentValType) × (other : Option ComponentValType) × (u ≡ type left other)
     × OptionalRemains s r ok left × OptionalRemains s (past (length (option_to_list ok)) r) err other
+
+abbrev pub DefinedRemains : Renumbering → Removal → DefValType → DefValType → Type 0
+DefinedRemains s r t u = ShapeRemains s r (shape t) u
 
 abbrev pub SignatureRemains : Renumbering → Removal → Signature → Signature → Type 0
 SignatureRemains s r g h = Members FieldRemains (IsFieldGone s) r g.params h.params × OptionalRemains s (past (length g.params) r) g.result h.result

@@ -4,7 +4,7 @@ use Rattle.std.specs.Option.{option_map}
 use Rattle.smith_core.specs.Preamble.{core_preamble}
 use Rattle.smith_syntax.specs.Entries.{Case, Decl, Decls, DefValType, Entry, Field, Signature}
 use Rattle.smith_syntax.specs.Entries.{defined, function, component_type, instance_type}
-use Rattle.smith_syntax.specs.Entries.{primitive_type, record_type, variant_type, list_type, tuple_type, flags_type, enum_type, option_type, result_type}
+use Rattle.smith_syntax.specs.Entries.{primitive_type}
 use Rattle.smith_syntax.specs.Entries.{core_type_decl, type_decl, type_alias, core_type_alias, import_decl, export_decl, no_decls, then_decls}
 use Rattle.smith_syntax.specs.WellFormed.{decl_exports, decl_imports, names}
 use Rattle.smith_syntax.specs.declared.types.PrimitiveValType.{PrimitiveValType}
@@ -14,6 +14,7 @@ use Rattle.smith_tree.specs.Tree as part
 use Rattle.smith_tree.specs.WellFormed.{export_names, import_names}
 use Rattle.smith_edit.specs.Edits.{export_renamed, import_renamed}
 use Rattle.smith_edit.specs.Items.{decl_items, entry_items, part_items}
+use Rattle.smith_edit.specs.Shapes.{Shape, cases, fields, labels, shape}
 use Rattle.smith_edit.specs.ShortNames.{shorter_name}
 
 -- The item itself, or one inside it.
@@ -58,43 +59,23 @@ labels_simplified k ns = member_renamed (λ n. n) label_renamed k ns
 
 abbrev pub is_bool : PrimitiveValType → Bool
 is_bool prim.Bool = true
-is_bool prim.S8 = false
-is_bool prim.U8 = false
-is_bool prim.S16 = false
-is_bool prim.U16 = false
-is_bool prim.S32 = false
-is_bool prim.U32 = false
-is_bool prim.S64 = false
-is_bool prim.U64 = false
-is_bool prim.F32 = false
-is_bool prim.F64 = false
-is_bool prim.Char = false
-is_bool prim.String = false
+is_bool p = false
 
 abbrev pub bool : DefValType
 bool = primitive_type prim.Bool
 
 abbrev pub simpler_value : DefValType → Option DefValType
 simpler_value (primitive_type p) = if is_bool p then None else Some bool
-simpler_value (record_type fs) = Some bool
-simpler_value (variant_type cs) = Some bool
-simpler_value (list_type v) = Some bool
-simpler_value (tuple_type vs) = Some bool
-simpler_value (flags_type ns) = Some bool
-simpler_value (enum_type ns) = Some bool
-simpler_value (option_type v) = Some bool
-simpler_value (result_type ok err) = Some bool
+simpler_value t = Some bool
+
+abbrev pub shape_simplified : ℕ → Shape → Option DefValType
+shape_simplified k (fields type fs) = option_map type (fields_simplified k fs)
+shape_simplified k (cases type cs) = option_map type (cases_simplified k cs)
+shape_simplified k (labels type ns) = option_map type (labels_simplified k ns)
+shape_simplified k x = None
 
 abbrev pub value_simplified : ℕ → DefValType → Option DefValType
-value_simplified k (primitive_type p) = None
-value_simplified k (record_type fs) = option_map record_type (fields_simplified k fs)
-value_simplified k (variant_type cs) = option_map variant_type (cases_simplified k cs)
-value_simplified k (list_type v) = None
-value_simplified k (tuple_type vs) = None
-value_simplified k (flags_type ns) = option_map flags_type (labels_simplified k ns)
-value_simplified k (enum_type ns) = option_map enum_type (labels_simplified k ns)
-value_simplified k (option_type v) = None
-value_simplified k (result_type ok err) = None
+value_simplified k t = shape_simplified k (shape t)
 
 -- a parameter; a result has no name
 abbrev pub signature_simplified : ℕ → Signature → Option Signature
@@ -104,18 +85,14 @@ signature_simplified k g = option_map (λ ps. record g { params = ps }) (fields_
 
 abbrev pub simpler_entry : Entry → Option Entry
 simpler_entry (defined t) = option_map defined (simpler_value t)
-simpler_entry (function g) = None
-simpler_entry (component_type ds) = None
-simpler_entry (instance_type ds) = None
+simpler_entry e = None
 
 -- a declaration, when these names are imported and these are exported
 abbrev pub simpler_decl : List (List ℕ) → List (List ℕ) → Decl → Option Decl
-simpler_decl is es (core_type_decl t k) = None
 simpler_decl is es (type_decl e) = option_map type_decl (simpler_entry e)
-simpler_decl is es (type_alias count i k) = None
-simpler_decl is es (core_type_alias count i k) = None
 simpler_decl is es (import_decl name n r) = option_map (λ new. import_decl new n r) (shorter_name is name)
 simpler_decl is es (export_decl name n r) = option_map (λ new. export_decl new n r) (shorter_name es name)
+simpler_decl is es d = None
 
 abbrev mutual
   pub entry_simplified : ℕ → Entry → Option Entry
@@ -125,12 +102,8 @@ abbrev mutual
   entry_simplified k (instance_type ds) = option_map instance_type (decls_simplified (names (decl_imports ds)) (names (decl_exports ds)) k ds)
 
   pub decl_simplified : ℕ → Decl → Option Decl
-  decl_simplified k (core_type_decl t n) = None
   decl_simplified k (type_decl e) = option_map type_decl (entry_simplified k e)
-  decl_simplified k (type_alias count i n) = None
-  decl_simplified k (core_type_alias count i n) = None
-  decl_simplified k (import_decl name n r) = None
-  decl_simplified k (export_decl name n r) = None
+  decl_simplified k d = None
 
   pub decls_simplified : List (List ℕ) → List (List ℕ) → ℕ → Decls → Option Decls
   decls_simplified is es k no_decls = None
@@ -155,25 +128,17 @@ simpler_custom name (b ∷ bs) = Some (part.custom name [])
 abbrev pub simpler_part : Part → Option Part
 simpler_part (part.custom name contents) = simpler_custom name contents
 simpler_part (part.core_module text) = if bytes_eq text core_preamble then None else Some (part.core_module core_preamble)
-simpler_part (part.core_types ts) = None
-simpler_part (part.component t) = None
-simpler_part (part.types ts) = None
-simpler_part (part.canons fs) = None
-simpler_part (part.imports is) = None
-simpler_part (part.exports es) = None
+simpler_part p = None
 
 -- the sections of a component that imports and exports these names
 abbrev mutual
   pub part_simplified : List (List ℕ) → List (List ℕ) → ℕ → Part → Option Part
-  part_simplified is es k (part.custom name contents) = None
-  part_simplified is es k (part.core_module text) = None
-  part_simplified is es k (part.core_types ts) = None
   part_simplified is es k (part.component t) =
       option_map part.component (sections_simplified (import_names (imports_of t)) (export_names (exports_of t)) k t)
   part_simplified is es k (part.types ts) = option_map part.types (types_simplified k ts)
-  part_simplified is es k (part.canons fs) = None
   part_simplified is es k (part.imports js) = option_map part.imports (renamed_at (λ i. i.name) import_renamed is k js)
   part_simplified is es k (part.exports fs) = option_map part.exports (renamed_at (λ e. e.name) export_renamed es k fs)
+  part_simplified is es k p = None
 
   pub sections_simplified : List (List ℕ) → List (List ℕ) → ℕ → Tree → Option Tree
   sections_simplified is es k ends = None
@@ -188,14 +153,8 @@ abbrev mutual
   component_at k (first p t) = if nat_lt k (part_items p + 1) then component_in k p else component_at (k - (part_items p + 1)) t
 
   pub component_in : ℕ → Part → Option Tree
-  component_in k (part.custom name contents) = None
-  component_in k (part.core_module text) = None
-  component_in k (part.core_types ts) = None
   component_in k (part.component t) = itself_or (Some t) (λ j. component_at j t) k
-  component_in k (part.types ts) = None
-  component_in k (part.canons fs) = None
-  component_in k (part.imports is) = None
-  component_in k (part.exports es) = None
+  component_in k p = None
 
 abbrev pub sections_of : ℕ → Tree → Option Tree
 sections_of k t = sections_simplified (import_names (imports_of t)) (export_names (exports_of t)) k t

@@ -15,7 +15,7 @@ pub record Walk : Type 0 where
 
 -- what a walk of the program shows
 abbrev pub shown_walk : Inside → Walk
-shown_walk w = record { removal = w.removal; own = w.own; outer = reverse w.outer.items }
+shown_walk w = record { removal = w.removal; own = w.scopes.own; outer = reverse w.scopes.outer.items }
 
 abbrev pub new_scope : Scope
 new_scope = record { types = from 0; core_types = from 0; functions = from 0; core_functions = from 0 }

@@ -10,54 +10,49 @@ ghost use Rattle.smith_edit.specs.Edited.{module_decl_edited, rows};
 ghost use Rattle.smith_edit.specs.Items.{core_items, function_items, module_decl_items};
 ghost use Rattle.smith_edit.specs.Walk.{shown_walk, skipped};
 
-use crate::members::members;
+use crate::members::edit_members;
 use crate::renumbering::{Fate, Renumbering};
-use crate::rows::{Row, rows};
+use crate::rows::{Row, edit_rows};
 use crate::scope::Scope;
 use crate::walk::Walk;
 use smith_format::{EntityType, FuncType, TagType};
 use smith_read::{CoreNode, ModuleNode};
 use std::alloc::AllocError;
 
-fn function(walk: &mut Walk, ty: &FuncType) -> Result<FuncType, AllocError>
+fn edit_function(walk: &mut Walk, ty: &FuncType) -> Result<FuncType, AllocError>
     ensures edited { IfOk result (λ f. shown_func f ≡ function_edited walk.old.removal (shown_func ty.now)) }
     ensures walk { OnOk result (shown_walk walk.new
         ≡ skipped (function_items (shown_func ty.now)) (shown_walk walk.old)) }
 {
-    let params = members(walk, &ty.params)?;
-    let results = members(walk, &ty.results)?;
+    let params = edit_members(walk, &ty.params)?;
+    let results = edit_members(walk, &ty.results)?;
     Ok(FuncType { params, results })
 }
 
-fn entity(types: &Renumbering, to: EntityType) -> Option<EntityType>
+fn edit_entity(types: &Renumbering, to: EntityType) -> Option<EntityType>
     ensures { result ≡ entity_edited types.now to }
 {
     match to {
-        EntityType::Func(index) => match types.new_index(index) {
-            Some(index) => Some(EntityType::Func(index)),
-            None => None,
-        },
-        EntityType::Table(ty) => Some(EntityType::Table(ty)),
-        EntityType::Memory(ty) => Some(EntityType::Memory(ty)),
-        EntityType::Global(ty) => Some(EntityType::Global(ty)),
-        EntityType::Tag(ty) => match types.new_index(ty.func_type_idx) {
-            Some(func_type_idx) => Some(EntityType::Tag(TagType { func_type_idx })),
-            None => None,
-        },
+        EntityType::Func(index) => Some(EntityType::Func(types.new_index(index)?)),
+        EntityType::Tag(ty) => {
+            let func_type_idx = types.new_index(ty.func_type_idx)?;
+            Some(EntityType::Tag(TagType { func_type_idx }))
+        }
+        EntityType::Table(_) | EntityType::Memory(_) | EntityType::Global(_) => Some(to),
     }
 }
 
 // What is imported by two names; none if it refers to what is removed.
-fn import(
+fn edit_import(
     walk: &Walk,
     module_name: &str,
     name: &str,
     to: EntityType,
 ) -> Result<Option<ModuleNode>, AllocError>
     ensures { IfOk result (λ r. option_map shown_module_node r
-        ≡ option_map (imports module_name.now name.now) (entity_edited walk.now.own.core_types to)) }
+        ≡ option_map (imports module_name.now name.now) (entity_edited walk.now.scopes.own.core_types to)) }
 {
-    let Some(entity) = entity(&walk.own.core_types, to) else {
+    let Some(entity) = edit_entity(&walk.scopes.own.core_types, to) else {
         return Ok(None);
     };
     let module = String::from_str(walk.alloc, module_name)?;
@@ -70,11 +65,11 @@ fn import(
 }
 
 // What is exported by a name; none if it refers to what is removed.
-fn export(walk: &Walk, name: &str, to: EntityType) -> Result<Option<ModuleNode>, AllocError>
+fn edit_export(walk: &Walk, name: &str, to: EntityType) -> Result<Option<ModuleNode>, AllocError>
     ensures { IfOk result (λ r. option_map shown_module_node r
-        ≡ option_map (exports name.now) (entity_edited walk.now.own.core_types to)) }
+        ≡ option_map (exports name.now) (entity_edited walk.now.scopes.own.core_types to)) }
 {
-    let Some(entity) = entity(&walk.own.core_types, to) else {
+    let Some(entity) = edit_entity(&walk.scopes.own.core_types, to) else {
         return Ok(None);
     };
     let name = String::from_str(walk.alloc, name)?;
@@ -94,12 +89,12 @@ impl Row for ModuleNode {
 
     fn edited(&self, walk: &mut Walk) -> Result<Option<ModuleNode>, AllocError> {
         match self {
-            ModuleNode::Func(ty) => Ok(Some(ModuleNode::Func(function(walk, ty)?))),
+            ModuleNode::Func(ty) => Ok(Some(ModuleNode::Func(edit_function(walk, ty)?))),
             ModuleNode::Import {
                 module,
                 name,
                 entity,
-            } => import(walk, module.as_str(), name.as_str(), *entity),
+            } => edit_import(walk, module.as_str(), name.as_str(), *entity),
             ModuleNode::OuterAlias { count, index } => {
                 match walk.aliased_core_type(*count, *index) {
                     Some(index) => Ok(Some(ModuleNode::OuterAlias {
@@ -109,7 +104,7 @@ impl Row for ModuleNode {
                     None => Ok(None),
                 }
             }
-            ModuleNode::Export { name, entity } => export(walk, name.as_str(), *entity),
+            ModuleNode::Export { name, entity } => edit_export(walk, name.as_str(), *entity),
         }
     }
 
@@ -124,17 +119,17 @@ impl Row for ModuleNode {
 }
 
 /// A core type, which remains.
-pub(crate) fn core_type(walk: &mut Walk, node: &CoreNode) -> Result<CoreNode, AllocError>
+pub(crate) fn edit_core_type(walk: &mut Walk, node: &CoreNode) -> Result<CoreNode, AllocError>
     ensures edited { IfOk result (λ t. shown_core_node t
         ≡ core_edited (shown_walk walk.old) (shown_core_node node.now)) }
     ensures walk { OnOk result (shown_walk walk.new
         ≡ skipped (core_items (shown_core_node node.now)) (shown_walk walk.old)) }
 {
     match node {
-        CoreNode::Func(ty) => Ok(CoreNode::Func(function(walk, ty)?)),
+        CoreNode::Func(ty) => Ok(CoreNode::Func(edit_function(walk, ty)?)),
         CoreNode::Module(nodes) => {
             walk.enter()?;
-            let nodes = rows(walk, nodes)?;
+            let nodes = edit_rows(walk, nodes)?;
             walk.leave();
             Ok(CoreNode::Module(nodes))
         }

@@ -12,7 +12,7 @@ ghost use Rattle.smith_edit.specs.Names.{KnowsBoth};
 
 use crate::counts::Counts;
 use crate::names::Taken;
-use crate::parts::{part, parts};
+use crate::parts::{edit_part, edit_parts};
 use crate::removal::Removal;
 use crate::scope::Scope;
 use crate::walk::Walk;
@@ -38,7 +38,7 @@ pub fn without(
     ensures { IfOk result (λ r. option_map shown_tree r ≡ without k (shown_tree tree.now)) }
 {
     let mut walk = Walk::new(alloc, Removal::Item(k), Scope::new(alloc));
-    let parts = parts(&mut walk, &tree.parts)?;
+    let parts = edit_parts(&mut walk, &tree.parts)?;
     match walk.removal {
         Removal::Nothing => Ok(Some(ComponentTree { parts })),
         Removal::Item(_) | Removal::Everything => Ok(None),
@@ -46,7 +46,7 @@ pub fn without(
 }
 
 // How many entries there are in each index space.
-fn counts(parts: &[PartNode]) -> Result<Counts, AllocError>
+fn count_entries(parts: &[PartNode]) -> Result<Counts, AllocError>
     ensures { IfOk result (λ c. c ≡ counts_of (spaces_of (tree_of (map shown_part_node parts.now)))) }
 {
     let mut counts = Counts::new();
@@ -57,7 +57,7 @@ fn counts(parts: &[PartNode]) -> Result<Counts, AllocError>
 }
 
 /// The names of imports and exports.
-pub(crate) fn names(alloc: Global, parts: &[PartNode]) -> Result<Taken, AllocError>
+pub(crate) fn take_names(alloc: Global, parts: &[PartNode]) -> Result<Taken, AllocError>
     ensures { let tree = tree_of (map shown_part_node parts.now) in
         IfOk result (λ t. KnowsBoth t (import_names (imports_of tree)) (export_names (exports_of tree))) }
 {
@@ -81,12 +81,12 @@ pub fn joined(
 ) -> Result<ComponentTree, AllocError>
     ensures { IfOk result (λ t. shown_tree t ≡ joined (shown_tree left) (shown_tree right.now)) }
 {
-    let own = counts(&left.parts)?.following(alloc)?;
+    let own = count_entries(&left.parts)?.following(alloc)?;
     let mut walk = Walk::new(alloc, Removal::Nothing, own);
-    let mut taken = names(alloc, &left.parts)?;
+    let mut taken = take_names(alloc, &left.parts)?;
     let mut parts = left.parts;
     for node in &right.parts {
-        let moved = part(&mut walk, node)?;
+        let moved = edit_part(&mut walk, node)?;
         parts.push(taken.renamed(alloc, moved)?)?;
     }
     Ok(ComponentTree { parts })

@@ -3,19 +3,17 @@
 ghost use Rattle.std.specs.Prelude.{◌≡◌, ℕ, map, IfOk};
 ghost use Rattle.smith_format.specs.Shown.{shown_func};
 ghost use Rattle.smith_syntax.specs.Entries.{CoreEntry, Entry, ModuleDecl, in_order};
-ghost use Rattle.smith_syntax.specs.Shown.{shown_defined};
 ghost use Rattle.smith_tree.specs.Tree.{tree_of};
 ghost use Rattle.smith_read.specs.Nodes.{shown_core_node, shown_module_node};
 ghost use Rattle.smith_read.specs.TypeNodes.{shown_decl_node, shown_type_node};
 ghost use Rattle.smith_read.specs.PartNodes.{shown_part_node, shown_tree};
 ghost use Rattle.smith_edit.specs.Items.{core_items, decl_items, decls_items, entry_items, function_items};
-ghost use Rattle.smith_edit.specs.Items.{module_decl_items, part_items, row_items, signature_items, tree_items};
-ghost use Rattle.smith_edit.specs.Items.{value_items};
+ghost use Rattle.smith_edit.specs.Items.{module_decl_items, part_items, row_items, tree_items};
 
 use crate::counts::sum;
-use smith_format::FuncType as CoreFuncType;
+use crate::members::{signature_items, value_items};
+use smith_format::FuncType;
 use smith_read::{ComponentTree, CoreNode, DeclNode, ModuleNode, PartNode, TypeNode};
-use smith_syntax::{DefinedType, FuncType};
 use std::alloc::AllocError;
 
 /// What is an entry of a section, or a declaration of a module type.
@@ -83,7 +81,7 @@ pub(crate) fn row_items<T: HasItems>(items: &[T]) -> Result<usize, AllocError>
     Ok(count)
 }
 
-fn function_items(ty: &CoreFuncType) -> Result<usize, AllocError>
+fn function_items(ty: &FuncType) -> Result<usize, AllocError>
     ensures { IfOk result (λ n. n ≡ function_items (shown_func ty.now)) }
 {
     sum(ty.params.len(), ty.results.len())
@@ -97,28 +95,6 @@ pub(crate) fn core_items(node: &CoreNode) -> Result<usize, AllocError>
         CoreNode::Func(ty) => function_items(ty),
         CoreNode::Module(nodes) => row_items(nodes),
     }
-}
-
-fn value_items(ty: &DefinedType) -> usize
-    ensures { result ≡ value_items (shown_defined ty.now) }
-{
-    match ty {
-        DefinedType::Record(ty) => ty.fields.len(),
-        DefinedType::Variant(ty) => ty.cases.len(),
-        DefinedType::Tuple(ty) => ty.fields.len(),
-        DefinedType::Flags(ty) => ty.fields.len(),
-        DefinedType::Enum(ty) => ty.variants.len(),
-        DefinedType::Result(ty) => {
-            usize::from(ty.ok_ty.is_some()) + usize::from(ty.err_ty.is_some())
-        }
-        DefinedType::Primitive(_) | DefinedType::List(_) | DefinedType::Option(_) => 0,
-    }
-}
-
-fn signature_items(ty: &FuncType) -> usize
-    ensures { result ≡ signature_items ty.now }
-{
-    ty.params.len() + usize::from(ty.result.is_some())
 }
 
 /// The items of a type.

@@ -44,14 +44,18 @@ pub fn one_item_is_removed()
     ensures after { (n : ℕ) (r : Removal) → past n r ≡ Everything → r ≡ Everything }
 {}
 
-/// An entry or a declaration that is not removed goes only with what it refers to, or, if it is a type of values, with
-/// its last member. A core type never goes so.
+/// An entry of a section that is not removed goes only with what it refers to, or, if it is a type of values, with its
+/// last member. A core type never goes so.
 pub fn entries_go_with_what_they_refer_to()
     ensures core_types { (w : Walk) (t : CoreEntry) → ¬ (core_row w t ≡ None) }
     ensures types { (e : Entry) (w : Walk) → entry_edited e w ≡ None → EntryGoes w e }
     ensures imports { (w : Walk) (i : ImportEntry) → import_edited w i ≡ None → IsRefGone w.own i.to }
     ensures exports { (w : Walk) (e : ExportEntry) → export_edited w e ≡ None → IsGone w.own.functions e.func }
     ensures canons { (w : Walk) (f : Canon) → canon_edited w f ≡ None → CanonGoes w f }
+{}
+
+/// So does a declaration.
+pub fn declarations_go_with_what_they_refer_to()
     ensures declarations { (d : Decl) (w : Walk) → decl_edited d w ≡ None → DeclGoes w d }
     ensures module_declarations { (d : ModuleDecl) (w : Walk) → module_decl_edited w d ≡ None → ModuleDeclGoes w d }
 {}
@@ -65,7 +69,7 @@ pub fn members_go_with_their_types()
         → (removes r ≡ true) ⊎ IsValueGone s v }
 {}
 
-/// An entry that is left is not gone for what refers to it, and stays so.
+/// An entry of a section that is left is not gone for what refers to it, and stays so.
 pub fn what_is_left_is_not_gone()
     ensures types { (s : Scope) (e new : Entry)
         → ¬ IsGone (after_type s e (Some new)).types (length s.types.entries) }
@@ -78,13 +82,17 @@ pub fn what_is_left_is_not_gone()
     ensures canons { (s : Scope) (f new : Canon) → let after = after_canon s f (Some new) in
         (¬ IsGone after.functions (length s.functions.entries))
         × (¬ IsGone after.core_functions (length s.core_functions.entries)) }
+    ensures before { (s : Renumbering) (f : Fate) (i : ℕ) → i < length s.entries
+        → entry_at (with_entry s f) i ≡ entry_at s i }
+{}
+
+/// Nor is a declaration that is left.
+pub fn declarations_left_are_not_gone()
     ensures declarations { (s : Scope) (d new : Decl) → let after = after_decl s d (Some new) in
         (¬ IsGone after.types (length s.types.entries))
         × (¬ IsGone after.core_types (length s.core_types.entries)) }
     ensures module_declarations { (s : Scope) (d new : ModuleDecl)
         → ¬ IsGone (after_module_decl s d (Some new)).core_types (length s.core_types.entries) }
-    ensures before { (s : Renumbering) (f : Fate) (i : ℕ) → i < length s.entries
-        → entry_at (with_entry s f) i ≡ entry_at s i }
 {}
 
 /// A component without an item has no more bytes, if the component has an encoding.

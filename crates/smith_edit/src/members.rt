@@ -36,15 +36,14 @@ pub(crate) trait Member: Drop {
         ensures { IfOk result (λ r. option_map shown r ≡ edits types.now (shown self.now)) };
 }
 
-fn value(types: &Renumbering, ty: ComponentValType) -> Option<ComponentValType>
+fn edit_value(types: &Renumbering, ty: ComponentValType) -> Option<ComponentValType>
     ensures { result ≡ value_edited types.now ty }
 {
     match ty {
         ComponentValType::Primitive(ty) => Some(ComponentValType::Primitive(ty)),
-        ComponentValType::Indexed(index) => match types.new_index(index) {
-            Some(index) => Some(ComponentValType::Indexed(index)),
-            None => None,
-        },
+        ComponentValType::Indexed(index) => {
+            Some(ComponentValType::Indexed(types.new_index(index)?))
+        }
     }
 }
 
@@ -72,7 +71,7 @@ impl Member for ComponentValType {
         _alloc: Global,
         types: &Renumbering,
     ) -> Result<Option<ComponentValType>, AllocError> {
-        Ok(value(types, *self))
+        Ok(edit_value(types, *self))
     }
 }
 
@@ -100,7 +99,7 @@ impl Member for (String, ComponentValType) {
         alloc: Global,
         types: &Renumbering,
     ) -> Result<Option<(String, ComponentValType)>, AllocError> {
-        match value(types, self.1) {
+        match edit_value(types, self.1) {
             Some(ty) => Ok(Some((String::from_str(alloc, self.0.as_str())?, ty))),
             None => Ok(None),
         }
@@ -122,23 +121,47 @@ impl Member for (String, Option<ComponentValType>) {
         let Some(ty) = self.1 else {
             return Ok(Some((String::from_str(alloc, self.0.as_str())?, None)));
         };
-        match value(types, ty) {
+        match edit_value(types, ty) {
             Some(ty) => Ok(Some((String::from_str(alloc, self.0.as_str())?, Some(ty)))),
             None => Ok(None),
         }
     }
 }
 
+/// How many members a type of values has.
+pub(crate) fn value_items(ty: &DefinedType) -> usize
+    ensures { result ≡ value_items (shown_defined ty.now) }
+{
+    match ty {
+        DefinedType::Record(ty) => ty.fields.len(),
+        DefinedType::Variant(ty) => ty.cases.len(),
+        DefinedType::Tuple(ty) => ty.fields.len(),
+        DefinedType::Flags(ty) => ty.fields.len(),
+        DefinedType::Enum(ty) => ty.variants.len(),
+        DefinedType::Result(ty) => {
+            usize::from(ty.ok_ty.is_some()) + usize::from(ty.err_ty.is_some())
+        }
+        DefinedType::Primitive(_) | DefinedType::List(_) | DefinedType::Option(_) => 0,
+    }
+}
+
+/// How many parameters and results a type of functions has.
+pub(crate) fn signature_items(ty: &FuncType) -> usize
+    ensures { result ≡ signature_items ty.now }
+{
+    ty.params.len() + usize::from(ty.result.is_some())
+}
+
 /// The members that are left.
-pub(crate) fn members<T: Member>(walk: &mut Walk, items: &[T]) -> Result<Vec<T>, AllocError>
+pub(crate) fn edit_members<T: Member>(walk: &mut Walk, items: &[T]) -> Result<Vec<T>, AllocError>
     ensures left { IfOk result (λ v. map T.shown v.items
-        ≡ members (T.edits walk.old.own.types) walk.old.removal (map T.shown items.now)) }
+        ≡ members (T.edits walk.old.scopes.own.types) walk.old.removal (map T.shown items.now)) }
     ensures walk { OnOk result (shown_walk walk.new ≡ skipped (length items.now) (shown_walk walk.old)) }
 {
     let mut left = Vec::new(walk.alloc);
     for item in items {
         if !walk.step() {
-            if let Some(item) = item.edited(walk.alloc, &walk.own.types)? {
+            if let Some(item) = item.edited(walk.alloc, &walk.scopes.own.types)? {
                 left.push(item)?;
             }
         }
@@ -147,12 +170,12 @@ pub(crate) fn members<T: Member>(walk: &mut Walk, items: &[T]) -> Result<Vec<T>,
 }
 
 // The members that are left of a compound type; none if it had some and none is left.
-fn left_of<T: Member>(walk: &mut Walk, items: &[T]) -> Result<Option<Vec<T>>, AllocError>
+fn edit_compound<T: Member>(walk: &mut Walk, items: &[T]) -> Result<Option<Vec<T>>, AllocError>
     ensures left { IfOk result (λ r. option_map (λ v. map T.shown v.items) r ≡ left_of (map T.shown items.now)
-        (members (T.edits walk.old.own.types) walk.old.removal (map T.shown items.now))) }
+        (members (T.edits walk.old.scopes.own.types) walk.old.removal (map T.shown items.now))) }
     ensures walk { OnOk result (shown_walk walk.new ≡ skipped (length items.now) (shown_walk walk.old)) }
 {
-    let left = members(walk, items)?;
+    let left = edit_members(walk, items)?;
     if left.is_empty() && !items.is_empty() {
         return Ok(None);
     }
@@ -160,8 +183,8 @@ fn left_of<T: Member>(walk: &mut Walk, items: &[T]) -> Result<Option<Vec<T>>, Al
 }
 
 // A member that need not be there.
-fn optional(walk: &mut Walk, ty: Option<ComponentValType>) -> Option<ComponentValType>
-    ensures left { result ≡ optional_edited walk.old.own.types walk.old.removal ty }
+fn edit_optional(walk: &mut Walk, ty: Option<ComponentValType>) -> Option<ComponentValType>
+    ensures left { result ≡ optional_edited walk.old.scopes.own.types walk.old.removal ty }
     ensures walk { shown_walk walk.new ≡ skipped (length (option_to_list ty)) (shown_walk walk.old) }
 {
     match ty {
@@ -170,36 +193,30 @@ fn optional(walk: &mut Walk, ty: Option<ComponentValType>) -> Option<ComponentVa
             if walk.step() {
                 return None;
             }
-            value(&walk.own.types, ty)
+            edit_value(&walk.scopes.own.types, ty)
         }
     }
 }
 
-fn list(types: &Renumbering, ty: &ListType) -> Option<DefinedType>
+fn edit_list(types: &Renumbering, ty: &ListType) -> Option<DefinedType>
     ensures { option_map shown_defined result ≡ option_map list_type (value_edited types.now ty.now.elem_ty) }
 {
-    match value(types, ty.elem_ty) {
-        Some(elem_ty) => Some(DefinedType::List(ListType { elem_ty })),
-        None => None,
-    }
+    let elem_ty = edit_value(types, ty.elem_ty)?;
+    Some(DefinedType::List(ListType { elem_ty }))
 }
 
-fn option(types: &Renumbering, ty: &OptionType) -> Option<DefinedType>
+fn edit_option(types: &Renumbering, ty: &OptionType) -> Option<DefinedType>
     ensures { option_map shown_defined result ≡ option_map option_type (value_edited types.now ty.now.inner_ty) }
 {
-    match value(types, ty.inner_ty) {
-        Some(inner_ty) => Some(DefinedType::Option(OptionType { inner_ty })),
-        None => None,
-    }
+    let inner_ty = edit_value(types, ty.inner_ty)?;
+    Some(DefinedType::Option(OptionType { inner_ty }))
 }
 
 pub(crate) fn record_of(fields: Option<Vec<(String, ComponentValType)>>) -> Option<DefinedType>
     ensures { option_map shown_defined result ≡ option_map record_type (option_map (λ v. map named v.items) fields) }
 {
-    match fields {
-        Some(fields) => Some(DefinedType::Record(RecordType { fields })),
-        None => None,
-    }
+    let fields = fields?;
+    Some(DefinedType::Record(RecordType { fields }))
 }
 
 pub(crate) fn variant_of(
@@ -207,71 +224,66 @@ pub(crate) fn variant_of(
 ) -> Option<DefinedType>
     ensures { option_map shown_defined result ≡ option_map variant_type (option_map (λ v. map named v.items) cases) }
 {
-    match cases {
-        Some(cases) => Some(DefinedType::Variant(VariantType { cases })),
-        None => None,
-    }
+    let cases = cases?;
+    Some(DefinedType::Variant(VariantType { cases }))
 }
 
 pub(crate) fn tuple_of(fields: Option<Vec<ComponentValType>>) -> Option<DefinedType>
     ensures { option_map shown_defined result ≡ option_map tuple_type (option_map (λ v. v.items) fields) }
 {
-    match fields {
-        Some(fields) => Some(DefinedType::Tuple(TupleType { fields })),
-        None => None,
-    }
+    let fields = fields?;
+    Some(DefinedType::Tuple(TupleType { fields }))
 }
 
 pub(crate) fn flags_of(fields: Option<Vec<String>>) -> Option<DefinedType>
     ensures { option_map shown_defined result
         ≡ option_map flags_type (option_map (λ v. map string_bytes v.items) fields) }
 {
-    match fields {
-        Some(fields) => Some(DefinedType::Flags(FlagsType { fields })),
-        None => None,
-    }
+    let fields = fields?;
+    Some(DefinedType::Flags(FlagsType { fields }))
 }
 
 pub(crate) fn enum_of(variants: Option<Vec<String>>) -> Option<DefinedType>
     ensures { option_map shown_defined result
         ≡ option_map enum_type (option_map (λ v. map string_bytes v.items) variants) }
 {
-    match variants {
-        Some(variants) => Some(DefinedType::Enum(EnumType { variants })),
-        None => None,
-    }
+    let variants = variants?;
+    Some(DefinedType::Enum(EnumType { variants }))
 }
 
 /// A type of values; none if it refers to what is removed, or has no members left.
-pub(crate) fn defined(walk: &mut Walk, ty: &DefinedType) -> Result<Option<DefinedType>, AllocError>
+pub(crate) fn edit_defined(
+    walk: &mut Walk,
+    ty: &DefinedType,
+) -> Result<Option<DefinedType>, AllocError>
     ensures edited { IfOk result (λ r. option_map shown_defined r
-        ≡ defined_edited walk.old.own.types walk.old.removal (shown_defined ty.now)) }
+        ≡ defined_edited walk.old.scopes.own.types walk.old.removal (shown_defined ty.now)) }
     ensures walk { OnOk result (shown_walk walk.new
         ≡ skipped (value_items (shown_defined ty.now)) (shown_walk walk.old)) }
 {
     match ty {
         DefinedType::Primitive(ty) => Ok(Some(DefinedType::Primitive(*ty))),
-        DefinedType::Record(ty) => Ok(record_of(left_of(walk, &ty.fields)?)),
-        DefinedType::Variant(ty) => Ok(variant_of(left_of(walk, &ty.cases)?)),
-        DefinedType::List(ty) => Ok(list(&walk.own.types, ty)),
-        DefinedType::Tuple(ty) => Ok(tuple_of(left_of(walk, &ty.fields)?)),
-        DefinedType::Flags(ty) => Ok(flags_of(left_of(walk, &ty.fields)?)),
-        DefinedType::Enum(ty) => Ok(enum_of(left_of(walk, &ty.variants)?)),
-        DefinedType::Option(ty) => Ok(option(&walk.own.types, ty)),
+        DefinedType::Record(ty) => Ok(record_of(edit_compound(walk, &ty.fields)?)),
+        DefinedType::Variant(ty) => Ok(variant_of(edit_compound(walk, &ty.cases)?)),
+        DefinedType::List(ty) => Ok(edit_list(&walk.scopes.own.types, ty)),
+        DefinedType::Tuple(ty) => Ok(tuple_of(edit_compound(walk, &ty.fields)?)),
+        DefinedType::Flags(ty) => Ok(flags_of(edit_compound(walk, &ty.fields)?)),
+        DefinedType::Enum(ty) => Ok(enum_of(edit_compound(walk, &ty.variants)?)),
+        DefinedType::Option(ty) => Ok(edit_option(&walk.scopes.own.types, ty)),
         DefinedType::Result(ty) => {
-            let ok_ty = optional(walk, ty.ok_ty);
-            let err_ty = optional(walk, ty.err_ty);
+            let ok_ty = edit_optional(walk, ty.ok_ty);
+            let err_ty = edit_optional(walk, ty.err_ty);
             Ok(Some(DefinedType::Result(ResultType { ok_ty, err_ty })))
         }
     }
 }
 
 /// A type of functions.
-pub(crate) fn function(walk: &mut Walk, ty: &FuncType) -> Result<FuncType, AllocError>
-    ensures edited { IfOk result (λ f. f ≡ signature_edited walk.old.own.types walk.old.removal ty.now) }
+pub(crate) fn edit_signature(walk: &mut Walk, ty: &FuncType) -> Result<FuncType, AllocError>
+    ensures edited { IfOk result (λ f. f ≡ signature_edited walk.old.scopes.own.types walk.old.removal ty.now) }
     ensures walk { OnOk result (shown_walk walk.new ≡ skipped (signature_items ty.now) (shown_walk walk.old)) }
 {
-    let params = members(walk, &ty.params)?;
-    let result = optional(walk, ty.result);
+    let params = edit_members(walk, &ty.params)?;
+    let result = edit_optional(walk, ty.result);
     Ok(FuncType { params, result })
 }

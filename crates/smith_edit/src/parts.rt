@@ -15,12 +15,13 @@ ghost use Rattle.smith_edit.specs.Items.{core_items, entry_items, function_membe
 ghost use Rattle.smith_edit.specs.Removal.{past, removes};
 ghost use Rattle.smith_edit.specs.Walk.{shown_walk};
 
-use crate::core_types::core_type;
+use crate::core_types::edit_core_type;
+use crate::members::signature_items;
 use crate::removal::Removal;
 use crate::renumbering::Fate;
-use crate::rows::{Row, push_some, rows};
+use crate::rows::{Row, edit_rows, push_some};
 use crate::scope::Scope;
-use crate::types::{reference, type_edited};
+use crate::types::{edit_reference, edit_type};
 use crate::walk::Walk;
 use smith_read::{CoreNode, CustomSection, Export, Func, ImportNode, PartNode, TypeNode};
 use smith_syntax::ComponentTypeRef;
@@ -38,7 +39,7 @@ impl Row for CoreNode {
     ghost adds = { after_core };
 
     fn edited(&self, walk: &mut Walk) -> Result<Option<CoreNode>, AllocError> {
-        Ok(Some(core_type(walk, self)?))
+        Ok(Some(edit_core_type(walk, self)?))
     }
 
     fn add(&self, new: &Option<CoreNode>, own: &mut Scope) -> Result<(), AllocError> {
@@ -52,7 +53,7 @@ fn function_members(node: &TypeNode) -> usize
     ensures { result ≡ function_members (shown_type_node node.now) }
 {
     match node {
-        TypeNode::Func(ty) => ty.params.len() + usize::from(ty.result.is_some()),
+        TypeNode::Func(ty) => signature_items(ty),
         TypeNode::Defined(_) | TypeNode::Component(_) | TypeNode::Instance(_) => 0,
     }
 }
@@ -69,7 +70,7 @@ impl Row for TypeNode {
     ghost adds = { after_type };
 
     fn edited(&self, walk: &mut Walk) -> Result<Option<TypeNode>, AllocError> {
-        type_edited(walk, self)
+        edit_type(walk, self)
     }
 
     fn add(&self, new: &Option<TypeNode>, own: &mut Scope) -> Result<(), AllocError> {
@@ -99,8 +100,8 @@ impl Row for Func {
                 func_ty,
                 core_func_index,
             } => {
-                let core_func = walk.own.core_functions.kept_index(*core_func_index);
-                match (core_func, walk.own.types.kept_index(*func_ty)) {
+                let core_func = walk.scopes.own.core_functions.kept_index(*core_func_index);
+                match (core_func, walk.scopes.own.types.kept_index(*func_ty)) {
                     (Some(core_func_index), Some(func_ty)) => Ok(Some(Func::CanonLift {
                         func_ty,
                         core_func_index,
@@ -108,7 +109,12 @@ impl Row for Func {
                     _ => Ok(None),
                 }
             }
-            Func::CanonLower { func_index } => match walk.own.functions.kept_index(*func_index) {
+            Func::CanonLower { func_index } => match walk
+                .scopes
+                .own
+                .functions
+                .kept_index(*func_index)
+            {
                 Some(func_index) => Ok(Some(Func::CanonLower { func_index })),
                 None => Ok(None),
             },
@@ -136,7 +142,7 @@ impl Row for ImportNode {
     ghost adds = { after_import };
 
     fn edited(&self, walk: &mut Walk) -> Result<Option<ImportNode>, AllocError> {
-        match reference(&walk.own, self.to) {
+        match edit_reference(&walk.scopes.own, self.to) {
             Some(to) => {
                 let name = String::from_str(walk.alloc, self.name.as_str())?;
                 Ok(Some(ImportNode { name, to }))
@@ -171,7 +177,7 @@ impl Row for Export {
     ghost adds = { after_export };
 
     fn edited(&self, walk: &mut Walk) -> Result<Option<Export>, AllocError> {
-        match walk.own.functions.new_index(self.func_index) {
+        match walk.scopes.own.functions.new_index(self.func_index) {
             Some(func_index) => {
                 let name = String::from_str(walk.alloc, self.name.as_str())?;
                 Ok(Some(Export { name, func_index }))
@@ -188,7 +194,7 @@ impl Row for Export {
 /// A section, with the entries that are left.
 #[cycle(parts)]
 #[tactic(auto, using(crate::proofs::PartNodes::part_nodes))]
-pub(crate) fn part(walk: &mut Walk, node: &PartNode) -> Result<PartNode, AllocError>
+pub(crate) fn edit_part(walk: &mut Walk, node: &PartNode) -> Result<PartNode, AllocError>
     ensures edited { IfOk result (λ p. shown_part_node p
         ≡ part_edited (shown_part_node node.now) (shown_walk walk.old)) }
     ensures walk { OnOk result (shown_walk walk.new ≡ after_part (shown_walk walk.old) (shown_part_node node.now)) }
@@ -202,23 +208,23 @@ pub(crate) fn part(walk: &mut Walk, node: &PartNode) -> Result<PartNode, AllocEr
         PartNode::CoreModule(text) => {
             Ok(PartNode::CoreModule(Vec::from_slice(walk.alloc, text)?))
         }
-        PartNode::CoreTypes(entries) => Ok(PartNode::CoreTypes(rows(walk, entries)?)),
+        PartNode::CoreTypes(entries) => Ok(PartNode::CoreTypes(edit_rows(walk, entries)?)),
         PartNode::Component(nodes) => {
             walk.enter()?;
-            let nodes = parts(walk, nodes)?;
+            let nodes = edit_parts(walk, nodes)?;
             walk.leave();
             Ok(PartNode::Component(nodes))
         }
-        PartNode::Types(entries) => Ok(PartNode::Types(rows(walk, entries)?)),
-        PartNode::Canons(entries) => Ok(PartNode::Canons(rows(walk, entries)?)),
-        PartNode::Imports(entries) => Ok(PartNode::Imports(rows(walk, entries)?)),
-        PartNode::Exports(entries) => Ok(PartNode::Exports(rows(walk, entries)?)),
+        PartNode::Types(entries) => Ok(PartNode::Types(edit_rows(walk, entries)?)),
+        PartNode::Canons(entries) => Ok(PartNode::Canons(edit_rows(walk, entries)?)),
+        PartNode::Imports(entries) => Ok(PartNode::Imports(edit_rows(walk, entries)?)),
+        PartNode::Exports(entries) => Ok(PartNode::Exports(edit_rows(walk, entries)?)),
     }
 }
 
 // A section, if it is not removed; its entries are removed with it.
 #[cycle(parts)]
-fn one(walk: &mut Walk, node: &PartNode) -> Result<Option<PartNode>, AllocError>
+fn edit_one(walk: &mut Walk, node: &PartNode) -> Result<Option<PartNode>, AllocError>
     ensures edited { IfOk result (λ r. option_map shown_part_node r ≡ (if removes walk.old.removal then None
         else Some (part_edited (shown_part_node node.now) (within (shown_walk walk.old))))) }
     ensures walk { OnOk result (shown_walk walk.new
@@ -227,7 +233,7 @@ fn one(walk: &mut Walk, node: &PartNode) -> Result<Option<PartNode>, AllocError>
     let removed = walk.removal.removes();
     let after = walk.removal.next();
     walk.removal = walk.removal.inside();
-    let new = part(walk, node)?;
+    let new = edit_part(walk, node)?;
     if removed {
         walk.removal = after;
         return Ok(None);
@@ -237,7 +243,7 @@ fn one(walk: &mut Walk, node: &PartNode) -> Result<Option<PartNode>, AllocError>
 
 /// The sections that are left.
 #[cycle(parts)]
-pub(crate) fn parts(walk: &mut Walk, nodes: &[PartNode]) -> Result<Vec<PartNode>, AllocError>
+pub(crate) fn edit_parts(walk: &mut Walk, nodes: &[PartNode]) -> Result<Vec<PartNode>, AllocError>
     ensures left { IfOk result (λ v. tree_of (map shown_part_node v.items)
         ≡ tree_edited (tree_of (map shown_part_node nodes.now)) (shown_walk walk.old)) }
     ensures removal { OnOk result (walk.new.removal
@@ -246,7 +252,7 @@ pub(crate) fn parts(walk: &mut Walk, nodes: &[PartNode]) -> Result<Vec<PartNode>
 {
     let mut left = Vec::new(walk.alloc);
     for node in nodes {
-        let new = one(walk, node)?;
+        let new = edit_one(walk, node)?;
         push_some(&mut left, new)?;
     }
     Ok(left)

@@ -43,7 +43,7 @@ pub(crate) fn push_some<T: Drop>(items: &mut Vec<T>, new: Option<T>) -> Result<(
 }
 
 // The entry, if it is neither removed nor refers to what is.
-fn one<T: Row>(walk: &mut Walk, row: &T) -> Result<Option<T>, AllocError>
+fn edit_one<T: Row>(walk: &mut Walk, row: &T) -> Result<Option<T>, AllocError>
     ensures edited { IfOk result (λ r. option_map T.shown r
         ≡ one T.items T.edits T.adds (shown_walk walk.old) (T.shown row.now)) }
     ensures walk { OnOk result (shown_walk walk.new ≡ skipped (T.items (T.shown row.now) + 1) (shown_walk walk.old)) }
@@ -55,7 +55,7 @@ fn one<T: Row>(walk: &mut Walk, row: &T) -> Result<Option<T>, AllocError>
 }
 
 /// The entries that are left.
-pub(crate) fn rows<T: Row>(walk: &mut Walk, items: &[T]) -> Result<Vec<T>, AllocError>
+pub(crate) fn edit_rows<T: Row>(walk: &mut Walk, items: &[T]) -> Result<Vec<T>, AllocError>
     ensures left { IfOk result (λ v. map T.shown v.items
         ≡ rows T.items T.edits T.adds (shown_walk walk.old) (map T.shown items.now)) }
     ensures walk { OnOk result (shown_walk walk.new
@@ -63,8 +63,8 @@ pub(crate) fn rows<T: Row>(walk: &mut Walk, items: &[T]) -> Result<Vec<T>, Alloc
 {
     let mut left = Vec::new(walk.alloc);
     for item in items {
-        let new = one(walk, item)?;
-        item.add(&new, &mut walk.own)?;
+        let new = edit_one(walk, item)?;
+        item.add(&new, &mut walk.scopes.own)?;
         push_some(&mut left, new)?;
     }
     Ok(left)

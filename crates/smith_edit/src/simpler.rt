@@ -16,17 +16,17 @@ ghost use Rattle.smith_read.specs.PartNodes.{shown_part_node, shown_tree};
 ghost use Rattle.smith_edit.specs.Simpler.{simplified};
 
 use self::nested::component_at;
-use self::parts::parts;
+use self::parts::simplify_parts;
 use self::search::Search;
 use smith_read::{ComponentTree, PartNode};
 use std::alloc::{AllocError, Global};
 
 // A copy of the component.
-fn copied(alloc: Global, nodes: &[PartNode]) -> Result<Option<ComponentTree>, AllocError>
+fn copy_component(alloc: Global, nodes: &[PartNode]) -> Result<Option<ComponentTree>, AllocError>
     ensures { IfOk result (λ r. option_map shown_tree r ≡ Some (tree_of (map shown_part_node nodes.now))) }
 {
     let mut search = Search::Over;
-    match parts(alloc, &mut search, nodes)? {
+    match simplify_parts(alloc, &mut search, nodes)? {
         Some(parts) => Ok(Some(ComponentTree { parts })),
         None => Ok(None),
     }
@@ -58,10 +58,10 @@ pub fn simplified(
 {
     let mut search = Search::Ahead(k);
     if let Some(nodes) = component_at(&mut search, &tree.parts)? {
-        return copied(alloc, nodes);
+        return copy_component(alloc, nodes);
     }
     let mut search = Search::Ahead(k);
-    let Some(parts) = parts(alloc, &mut search, &tree.parts)? else {
+    let Some(parts) = simplify_parts(alloc, &mut search, &tree.parts)? else {
         return Ok(None);
     };
     match search {

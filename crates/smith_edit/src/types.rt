@@ -10,8 +10,8 @@ ghost use Rattle.smith_edit.specs.Items.{decl_items, decls_items, entry_items};
 ghost use Rattle.smith_edit.specs.Removal.{past, removes};
 ghost use Rattle.smith_edit.specs.Walk.{shown_walk, skipped};
 
-use crate::core_types::core_type;
-use crate::members::{defined, function};
+use crate::core_types::edit_core_type;
+use crate::members::{edit_defined, edit_signature};
 use crate::renumbering::Fate;
 use crate::rows::push_some;
 use crate::scope::Scope;
@@ -21,57 +21,50 @@ use smith_syntax::ComponentTypeRef;
 use std::alloc::AllocError;
 
 /// What an import or an export is of; none if that is removed.
-pub(crate) fn reference(own: &Scope, to: ComponentTypeRef) -> Option<ComponentTypeRef>
+pub(crate) fn edit_reference(own: &Scope, to: ComponentTypeRef) -> Option<ComponentTypeRef>
     ensures { result ≡ ref_edited own.now to }
 {
     match to {
-        ComponentTypeRef::Module(index) => match own.core_types.new_index(index) {
-            Some(index) => Some(ComponentTypeRef::Module(index)),
-            None => None,
-        },
-        ComponentTypeRef::Func(index) => match own.types.new_index(index) {
-            Some(index) => Some(ComponentTypeRef::Func(index)),
-            None => None,
-        },
-        ComponentTypeRef::TypeEq(index) => match own.types.new_index(index) {
-            Some(index) => Some(ComponentTypeRef::TypeEq(index)),
-            None => None,
-        },
-        ComponentTypeRef::Component(index) => match own.types.new_index(index) {
-            Some(index) => Some(ComponentTypeRef::Component(index)),
-            None => None,
-        },
-        ComponentTypeRef::Instance(index) => match own.types.new_index(index) {
-            Some(index) => Some(ComponentTypeRef::Instance(index)),
-            None => None,
-        },
+        ComponentTypeRef::Module(index) => {
+            Some(ComponentTypeRef::Module(own.core_types.new_index(index)?))
+        }
+        ComponentTypeRef::Func(index) => Some(ComponentTypeRef::Func(own.types.new_index(index)?)),
+        ComponentTypeRef::TypeEq(index) => {
+            Some(ComponentTypeRef::TypeEq(own.types.new_index(index)?))
+        }
+        ComponentTypeRef::Component(index) => {
+            Some(ComponentTypeRef::Component(own.types.new_index(index)?))
+        }
+        ComponentTypeRef::Instance(index) => {
+            Some(ComponentTypeRef::Instance(own.types.new_index(index)?))
+        }
     }
 }
 
 /// A type; none if it refers to what is removed, or has no members left.
 #[cycle(editing)]
 #[tactic(auto, using(smith_read::proofs::ShownNodes::shown_nodes))]
-pub(crate) fn type_edited(walk: &mut Walk, node: &TypeNode) -> Result<Option<TypeNode>, AllocError>
+pub(crate) fn edit_type(walk: &mut Walk, node: &TypeNode) -> Result<Option<TypeNode>, AllocError>
     ensures edited { IfOk result (λ r. option_map shown_type_node r
         ≡ entry_edited (shown_type_node node.now) (shown_walk walk.old)) }
     ensures walk { OnOk result (shown_walk walk.new
         ≡ skipped (entry_items (shown_type_node node.now)) (shown_walk walk.old)) }
 {
     match node {
-        TypeNode::Defined(ty) => match defined(walk, ty)? {
+        TypeNode::Defined(ty) => match edit_defined(walk, ty)? {
             Some(ty) => Ok(Some(TypeNode::Defined(ty))),
             None => Ok(None),
         },
-        TypeNode::Func(ty) => Ok(Some(TypeNode::Func(function(walk, ty)?))),
+        TypeNode::Func(ty) => Ok(Some(TypeNode::Func(edit_signature(walk, ty)?))),
         TypeNode::Component(nodes) => {
             walk.enter()?;
-            let nodes = declarations(walk, nodes)?;
+            let nodes = edit_declarations(walk, nodes)?;
             walk.leave();
             Ok(Some(TypeNode::Component(nodes)))
         }
         TypeNode::Instance(nodes) => {
             walk.enter()?;
-            let nodes = declarations(walk, nodes)?;
+            let nodes = edit_declarations(walk, nodes)?;
             walk.leave();
             Ok(Some(TypeNode::Instance(nodes)))
         }
@@ -79,14 +72,15 @@ pub(crate) fn type_edited(walk: &mut Walk, node: &TypeNode) -> Result<Option<Typ
 }
 
 // The name and what it is of; none if that is removed.
-fn named(
+fn edit_named(
     walk: &Walk,
     name: &str,
     to: ComponentTypeRef,
 ) -> Result<Option<(String, ComponentTypeRef)>, AllocError>
-    ensures { IfOk result (λ r. option_map named r ≡ option_map (λ t. (name.now, t)) (ref_edited walk.now.own to)) }
+    ensures { IfOk result (λ r. option_map named r
+        ≡ option_map (λ t. (name.now, t)) (ref_edited walk.now.scopes.own to)) }
 {
-    match reference(&walk.own, to) {
+    match edit_reference(&walk.scopes.own, to) {
         Some(to) => Ok(Some((String::from_str(walk.alloc, name)?, to))),
         None => Ok(None),
     }
@@ -95,15 +89,15 @@ fn named(
 // A declaration; none if it refers to what is removed.
 #[cycle(editing)]
 #[tactic(auto, using(smith_read::proofs::ShownNodes::shown_nodes))]
-fn declaration(walk: &mut Walk, node: &DeclNode) -> Result<Option<DeclNode>, AllocError>
+fn edit_declaration(walk: &mut Walk, node: &DeclNode) -> Result<Option<DeclNode>, AllocError>
     ensures edited { IfOk result (λ r. option_map shown_decl_node r
         ≡ decl_edited (shown_decl_node node.now) (shown_walk walk.old)) }
     ensures walk { OnOk result (shown_walk walk.new
         ≡ skipped (decl_items (shown_decl_node node.now)) (shown_walk walk.old)) }
 {
     match node {
-        DeclNode::Core(ty) => Ok(Some(DeclNode::Core(core_type(walk, ty)?))),
-        DeclNode::Type(ty) => match type_edited(walk, ty)? {
+        DeclNode::Core(ty) => Ok(Some(DeclNode::Core(edit_core_type(walk, ty)?))),
+        DeclNode::Type(ty) => match edit_type(walk, ty)? {
             Some(ty) => Ok(Some(DeclNode::Type(ty))),
             None => Ok(None),
         },
@@ -121,11 +115,11 @@ fn declaration(walk: &mut Walk, node: &DeclNode) -> Result<Option<DeclNode>, All
             })),
             None => Ok(None),
         },
-        DeclNode::Import { name, to } => match named(walk, name.as_str(), *to)? {
+        DeclNode::Import { name, to } => match edit_named(walk, name.as_str(), *to)? {
             Some((name, to)) => Ok(Some(DeclNode::Import { name, to })),
             None => Ok(None),
         },
-        DeclNode::Export { name, to } => match named(walk, name.as_str(), *to)? {
+        DeclNode::Export { name, to } => match edit_named(walk, name.as_str(), *to)? {
             Some((name, to)) => Ok(Some(DeclNode::Export { name, to })),
             None => Ok(None),
         },
@@ -134,7 +128,11 @@ fn declaration(walk: &mut Walk, node: &DeclNode) -> Result<Option<DeclNode>, All
 
 // Adds a declaration to its index space, after it was edited.
 #[tactic(auto, using(smith_read::proofs::ShownNodes::shown_nodes))]
-fn add(node: &DeclNode, new: &Option<DeclNode>, own: &mut Scope) -> Result<(), AllocError>
+fn add_declaration(
+    node: &DeclNode,
+    new: &Option<DeclNode>,
+    own: &mut Scope,
+) -> Result<(), AllocError>
     ensures { OnOk result (own.new
         ≡ after_decl own.old (shown_decl_node node.now) (option_map shown_decl_node new.now)) }
 {
@@ -153,7 +151,7 @@ fn add(node: &DeclNode, new: &Option<DeclNode>, own: &mut Scope) -> Result<(), A
 
 // The declaration, if it is neither removed nor refers to what is.
 #[cycle(editing)]
-fn one(walk: &mut Walk, node: &DeclNode) -> Result<Option<DeclNode>, AllocError>
+fn edit_one(walk: &mut Walk, node: &DeclNode) -> Result<Option<DeclNode>, AllocError>
     ensures edited { IfOk result (λ r. option_map shown_decl_node r ≡ (if removes walk.old.removal then None
         else decl_edited (shown_decl_node node.now) (skipped 1 (shown_walk walk.old)))) }
     ensures walk { OnOk result (shown_walk walk.new
@@ -162,12 +160,12 @@ fn one(walk: &mut Walk, node: &DeclNode) -> Result<Option<DeclNode>, AllocError>
     if walk.step() {
         return Ok(None);
     }
-    declaration(walk, node)
+    edit_declaration(walk, node)
 }
 
 // The declarations that are left.
 #[cycle(editing)]
-fn declarations(walk: &mut Walk, nodes: &[DeclNode]) -> Result<Vec<DeclNode>, AllocError>
+fn edit_declarations(walk: &mut Walk, nodes: &[DeclNode]) -> Result<Vec<DeclNode>, AllocError>
     ensures left { IfOk result (λ v. in_order (map shown_decl_node v.items)
         ≡ decls_edited (in_order (map shown_decl_node nodes.now)) (shown_walk walk.old)) }
     ensures removal { OnOk result (walk.new.removal
@@ -176,8 +174,8 @@ fn declarations(walk: &mut Walk, nodes: &[DeclNode]) -> Result<Vec<DeclNode>, Al
 {
     let mut left = Vec::new(walk.alloc);
     for node in nodes {
-        let new = one(walk, node)?;
-        add(node, &new, &mut walk.own)?;
+        let new = edit_one(walk, node)?;
+        add_declaration(node, &new, &mut walk.scopes.own)?;
         push_some(&mut left, new)?;
     }
     Ok(left)

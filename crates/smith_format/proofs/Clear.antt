@@ -274,14 +274,6 @@ pub section_head : (id : ℕ) (c p : Piece) (b : List ℕ) → sized id c ⊕ p 
 section_head id c p b e = then_head id [] (framed c) p b e
 
 module _ {A : Type 0} (f : A → Piece) (x : IsExact f) where
-  pub clear_framed : IsClear (λ a. framed (f a))
-  clear_framed =
-      record {
-        law = λ a c p q b e h.
-            let t = same_framed (f a) (f c) p q b e h in
-            record { same = x.law a c t.contents t.first t.second; rests = t.rests };
-      }
-
   pub clear_sized : (id : ℕ) → IsClear (λ a. sized id (f a))
   clear_sized id =
       record {

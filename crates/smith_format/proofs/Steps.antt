@@ -28,9 +28,6 @@ begins_bytes {old} {new} bs e h = record {
   capacity = h;
 }
 
-pub begins_same : {a : Vec ℕ Global} → Begins a a
-begins_same {a} = begins_bytes [] (sym (append-nil a.items)) (omega arith)
-
 pub keeps_same : {a : Vec ℕ Global} → Keeps a a
 keeps_same {a} = record { is = refl; capacity = omega arith }
 

@@ -1,6 +1,7 @@
 //! Core types from the input.
 
-ghost use Rattle.std.specs.Prelude.{◌≡◌, ◌<◌, ◌≤◌, ◌^◌, ◌++◌, ℕ, List, length, IfOk, IfErr};
+ghost use Rattle.std.specs.Prelude.{◌≡◌, ◌<◌, ◌≤◌, ◌^◌, ◌++◌, ℕ, List, length, IfOk};
+ghost use Rattle.smith_input.specs.Consumes.{Consumes};
 ghost use Rattle.smith_input.specs.Reading.{IsTail};
 ghost use Rattle.smith_format.specs.CoreFormed.{FormedMemory, FormedTable, FormedFunction};
 ghost use Rattle.smith_format.specs.CoreReading.{ReadsLimits, ReadsMemory, ReadsElement, ReadsTable, ReadsTag};
@@ -95,8 +96,7 @@ fn values(
 ) -> Result<Vec<ValType>, Error>
     requires { 0 < length valtypes.now }
     ensures reads { IfOk result (λ v. ReadsValues valtypes.now max u.old v.items u.new) }
-    ensures memory { IfErr result (λ e. e ≡ Error.OutOfMemory) }
-    ensures tail { IsTail u.new u.old }
+    ensures input { Consumes result u.old u.new }
 {
     let mut types = Vec::new(alloc);
     for done in 0..max {
@@ -124,8 +124,7 @@ pub fn arbitrary_func_type(
     ensures script { (f : Function) (rest : List ℕ) → FormedFunction valtypes.now max_results f
         → length valtypes.now ≤ 2 ^ 64 → u.old ≡ script_function valtypes.now max_results f ++ rest
         → IfOk result (λ t. (shown_func t ≡ f) × (u.new ≡ rest)) }
-    ensures memory { IfErr result (λ e. e ≡ Error.OutOfMemory) }
-    ensures tail { IsTail u.new u.old }
+    ensures input { Consumes result u.old u.new }
 {
     let params = values(alloc, u, valtypes, 20)?;
     let results = values(alloc, u, valtypes, max_results)?;
@@ -144,8 +143,7 @@ pub fn configured_func_type(
     requires { valtypes.now ≡ configured config.now }
     ensures reads { IfOk result (λ t. ReadsFunction (configured config.now) (max_results config.now) u.old
         (shown_func t) u.new) }
-    ensures memory { IfErr result (λ e. e ≡ Error.OutOfMemory) }
-    ensures tail { IsTail u.new u.old }
+    ensures input { Consumes result u.old u.new }
 {
     let max_results = if config.multi_value_enabled { 20 } else { 1 };
     arbitrary_func_type(alloc, u, valtypes, max_results)

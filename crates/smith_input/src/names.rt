@@ -3,7 +3,7 @@
 ghost use Rattle.std.specs.Prelude.{◌≡◌, ◌%◌, ◌<◌, ◌≤◌, ◌++◌, ℕ, List, false, length, map};
 ghost use Rattle.std.specs.Prelude.{bytes_eq, string_bytes, IfOk, IfErr, OnErr};
 ghost use Rattle.std.specs.BTreeSet.{contains_text};
-ghost use Rattle.smith_input.specs.Reading.{IsTail};
+ghost use Rattle.smith_input.specs.Consumes.{Consumes};
 ghost use Rattle.smith_input.specs.Texts.{ReadsNewText, ReadsText};
 ghost use Rattle.smith_input.specs.Kebab.{Kebab};
 ghost use Rattle.smith_input.specs.Names.{character, ReadsKebab, ReadsNew, ReadsUnique, ReadsUrl};
@@ -47,8 +47,7 @@ fn kebab_character(byte: u8, begins: bool) -> u8
 #[inline(never)]
 fn kebab_string(alloc: Global, max: usize, u: &mut Unstructured) -> Result<String, Error>
     ensures read { IfOk result (λ name. ReadsKebab max u.old (string_bytes name) u.new) }
-    ensures memory { IfErr result (λ e. e ≡ Error.OutOfMemory) }
-    ensures tail { IsTail u.new u.old }
+    ensures input { Consumes result u.old u.new }
 {
     let count = u.int_in_range(0, max as u64);
     let mut name = Vec::with_capacity(alloc, (count as usize).saturating_add(1))?;
@@ -173,8 +172,7 @@ pub fn new_string<N: TakenNames>(
     u: &mut Unstructured,
 ) -> Result<String, Error>
     ensures read { IfOk result (λ name. ReadsNewText max (N.texts names.now) u.old (string_bytes name) u.new) }
-    ensures memory { IfErr result (λ e. e ≡ Error.OutOfMemory) }
-    ensures tail { IsTail u.new u.old }
+    ensures input { Consumes result u.old u.new }
 {
     made_unique(alloc, limited_string(alloc, max, u)?, names)
 }
@@ -190,8 +188,7 @@ pub fn new_kebab_string<N: TakenNames>(
 ) -> Result<String, Error>
     ensures read { IfOk result (λ name. ReadsNew max (N.texts names.now) u.old (string_bytes name) u.new) }
     ensures kebab { IfOk result (λ name. Kebab (string_bytes name)) }
-    ensures memory { IfErr result (λ e. e ≡ Error.OutOfMemory) }
-    ensures tail { IsTail u.new u.old }
+    ensures input { Consumes result u.old u.new }
 {
     made_unique(alloc, kebab_string(alloc, max, u)?, names)
 }
@@ -208,8 +205,7 @@ pub fn unique_string(
     ensures read { IfOk result (λ name. ReadsUnique (ReadsText max) names.old u.old (string_bytes name) u.new) }
     ensures gained { IfOk result (λ name. GainsName names.old names.new (string_bytes name)) }
     ensures refused { OnErr result (names.new.keys ≡ names.old.keys) }
-    ensures memory { IfErr result (λ e. e ≡ Error.OutOfMemory) }
-    ensures tail { IsTail u.new u.old }
+    ensures input { Consumes result u.old u.new }
 {
     let name = new_string(alloc, max, &*names, u)?;
     names.insert(name.clone()?)?;
@@ -234,8 +230,7 @@ pub fn unique_kebab_string(
     ensures script { (name rest : List ℕ) → Kebab name → length name ≤ max → contains_text names.old name ≡ false
         → u.old ≡ script_name max name ++ rest → IfOk result (λ text. (string_bytes text ≡ name) × (u.new ≡ rest)) }
     ensures refused { OnErr result (names.new.keys ≡ names.old.keys) }
-    ensures memory { IfErr result (λ e. e ≡ Error.OutOfMemory) }
-    ensures tail { IsTail u.new u.old }
+    ensures input { Consumes result u.old u.new }
 {
     let name = new_kebab_string(alloc, max, &*names, u)?;
     names.insert(name.clone()?)?;
@@ -253,8 +248,7 @@ pub fn unique_url(
 ) -> Result<String, Error>
     ensures read { IfOk result (λ url. ReadsUrl max names.old names.new u.old (string_bytes url) u.new) }
     ensures refused { OnErr result (names.new.keys ≡ names.old.keys) }
-    ensures memory { IfErr result (λ e. e ≡ Error.OutOfMemory) }
-    ensures tail { IsTail u.new u.old }
+    ensures input { Consumes result u.old u.new }
 {
     let path = new_kebab_string(alloc, max, &*names, u)?;
     let mut url = String::with_capacity(alloc, HOST.len() + path.len())?;

@@ -1,7 +1,7 @@
 //! Bytes and texts that are read.
 
-ghost use Rattle.std.specs.Prelude.{◌≡◌, string_bytes, IfOk, IfErr};
-ghost use Rattle.smith_input.specs.Reading.{IsTail};
+ghost use Rattle.std.specs.Prelude.{string_bytes, IfOk};
+ghost use Rattle.smith_input.specs.Consumes.{Consumes};
 ghost use Rattle.smith_input.specs.Texts.{ReadsBytes, IsLongestText, ReadsText};
 
 use crate::{Error, Unstructured};
@@ -11,8 +11,7 @@ use std::str;
 /// Bytes of any length: while a boolean is true, one byte follows. The only error is `OutOfMemory`.
 pub fn arbitrary_bytes(alloc: Global, u: &mut Unstructured) -> Result<Vec<u8>, Error>
     ensures read { IfOk result (λ bytes. ReadsBytes u.old bytes.items u.new) }
-    ensures memory { IfErr result (λ e. e ≡ Error.OutOfMemory) }
-    ensures tail { IsTail u.new u.old }
+    ensures input { Consumes result u.old u.new }
 {
     let mut bytes = Vec::new(alloc);
     while u.arbitrary_bool() {
@@ -40,8 +39,7 @@ fn longest_text(bytes: &[u8]) -> &str
 #[inline(always)]
 pub fn limited_string(alloc: Global, max: usize, u: &mut Unstructured) -> Result<String, Error>
     ensures read { IfOk result (λ text. ReadsText max u.old (string_bytes text) u.new) }
-    ensures memory { IfErr result (λ e. e ≡ Error.OutOfMemory) }
-    ensures tail { IsTail u.new u.old }
+    ensures input { Consumes result u.old u.new }
 {
     let count = u.int_in_range(0, max as u64) as usize;
     let left = u.left();

@@ -30,13 +30,6 @@ module _ (l : ℕ) (inner : List ℕ → Option Tree) where
   one_more n [] h = absurd (omega arith)
   one_more n (b ∷ bs) h = refl
 
-  pub parts_start : (bs : List ℕ) → with_parts [] (parts_at l inner (length bs - 0) bs) ≡ parts_at l inner (length bs) bs
-  parts_start bs = by_case (parts_at l inner (length bs) bs) (ap (λ n. parts_at l inner n bs) (omega arith))
-    where
-      by_case : (r : Option (List Part)) → parts_at l inner (length bs - 0) bs ≡ r → with_parts [] (parts_at l inner (length bs - 0) bs) ≡ r
-      by_case None e = ap (with_parts []) e
-      by_case (Some ps) e = ap (with_parts []) e
-
   regroup : (front : List Part) (p : Part) (r : Option (List Part)) → with_parts front (r >>= λ ps. Some (p ∷ ps)) ≡ with_parts (front ++ p ∷ []) r
   regroup front p None = refl
   regroup front p (Some ps) = ap Some (sym (append_assoc front (p ∷ []) ps))

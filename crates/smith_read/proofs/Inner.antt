@@ -89,7 +89,7 @@ each_under n (t ∷ ts) = under_then (entry_in n t) (entry t) (each (entry_in n)
 pub many_under : (n : ℕ) (ts : List Entry) → Under (many (entry_in n) ts) (many entry ts)
 many_under n ts = under_then (u (length ts)) (u (length ts)) _ _ (inr refl) (each_under n ts)
 
-each_same : (n : ℕ) (ts : List Entry) → NestWithin n ts → each (entry_in n) ts ≡ each entry ts
+pub each_same : (n : ℕ) (ts : List Entry) → NestWithin n ts → each (entry_in n) ts ≡ each entry ts
 each_same n [] h = refl
 each_same n (t ∷ ts) h = ap (λ p. p ⊕ each (entry_in n) ts) (entry_same n t h.0) ∙ ap (λ p. entry t ⊕ p) (each_same n ts h.1)
 

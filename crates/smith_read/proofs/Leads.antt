@@ -142,8 +142,8 @@ module _ {A : Type 0} (f : A → Piece) where
   put_all xs i a b p h = let n : i ≡ 0 = omega arith in subst (λ (k : ℕ). Leads a b (each f (drop k xs))) n p.is
 
   -- one that cannot be put
-  pub put_due : (xs : List A) (i j : ℕ) (x : A) (e : Error) (a b : Vec ℕ Global) → Put xs j a b → j ≡ suc i → i < length xs → x ≡ get_or xs i x → IsDue e b (f x)
-      → IsDue e a (each f xs)
+  pub put_due : (xs : List A) (i j : ℕ) (x : A) (e : Error) (a b : Vec ℕ Global) → Put xs j a b → j ≡ suc i → i < length xs → x ≡ get_or xs i x
+      → IsDue e b (f x) → IsDue e a (each f xs)
   put_due xs i j x e a b p n h is d =
       subst (λ (q : Piece). IsDue e a q) (sym (each_at f xs i x h is))
       (due_behind (each f (take i xs)) (due_front (subst (λ (k : ℕ). Leads a b (each f (drop k xs))) n p.is) d))

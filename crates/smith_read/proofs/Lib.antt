@@ -1,5 +1,7 @@
 pub mod Depth
 pub mod TellingParts
+pub mod Places
+pub mod Finding
 pub mod Shallow
 pub mod Answering
 pub mod PartNodes

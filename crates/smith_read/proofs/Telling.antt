@@ -273,7 +273,7 @@ tells_seen {A} {B} {f} {F} {r} of back same is c = record {
 }
 
 module _ {A : Type 0} {f : A → Piece} {r : List ℕ → Found A} (c : Tells f r) where
-  times_sound : (n : ℕ) (b : List ℕ) (x : List A × List ℕ) → times_at r n b ≡ Some x → (each f x.0 ⊕ Some x.1 ≡ Some b) × (length x.0 ≡ n)
+  pub times_sound : (n : ℕ) (b : List ℕ) (x : List A × List ℕ) → times_at r n b ≡ Some x → (each f x.0 ⊕ Some x.1 ≡ Some b) × (length x.0 ≡ n)
   unfolding times_at
   times_sound zero b x e = subst (λ (p : List A × List ℕ). (each f p.0 ⊕ Some p.1 ≡ Some b) × (length p.0 ≡ 0)) (same_Some ([], b) x e)
       (left_nil (Some b), refl)
@@ -284,7 +284,7 @@ module _ {A : Type 0} {f : A → Piece} {r : List ℕ → Found A} (c : Tells f 
       subst (λ (p : List A × List ℕ). (each f p.0 ⊕ Some p.1 ≡ Some b) × (length p.0 ≡ suc n)) (same_Some (m.0.0 ∷ k.0.0, k.0.1) x k.2)
       (both_begin (f m.0.0) (each f k.0.0) b m.0.1 k.0.1 (c.sound b m.0 m.1) i.0, ap suc i.1)
 
-  times_whole : (xs : List A) (b rest : List ℕ) → each f xs ⊕ Some rest ≡ Some b → times_at r (length xs) b ≡ Some (xs, rest)
+  pub times_whole : (xs : List A) (b rest : List ℕ) → each f xs ⊕ Some rest ≡ Some b → times_at r (length xs) b ≡ Some (xs, rest)
   unfolding times_at
   times_whole [] b rest e = ap (λ t. Some ([], t)) (same_Some _ _ (sym e ∙ left_nil (Some rest)))
   times_whole (x ∷ xs) b rest e =

@@ -36,7 +36,7 @@ frame_sound b f e =
         (both_begin (u (length (take n.0 n.1))) (Some (take n.0 n.1)) b n.1 (drop n.0 n.1) (ap (λ m. u m ⊕ Some n.1) l ∙ g)
         (joined _ _ ∙ ap Some (take-append-drop n.0 n.1)))
 
-frame_whole : (b c rest : List ℕ) → (u (length c) ⊕ Some c) ⊕ Some rest ≡ Some b → frame_at b ≡ Some (c, rest)
+pub frame_whole : (b c rest : List ℕ) → (u (length c) ⊕ Some c) ⊕ Some rest ≡ Some b → frame_at b ≡ Some (c, rest)
 unfolding frame_at
 frame_whole b c rest e =
     let p = parted (u (length c)) (Some c) b rest e in
@@ -50,7 +50,7 @@ unfolding framed
 framed_some p c e = ap framed e
 
 -- what is framed has an encoding
-framed_cases : (p : Piece) (b rest : List ℕ) → framed p ⊕ Some rest ≡ Some b → (c : List ℕ) × (p ≡ Some c) × ((u (length c) ⊕ Some c) ⊕ Some rest ≡ Some b)
+pub framed_cases : (p : Piece) (b rest : List ℕ) → framed p ⊕ Some rest ≡ Some b → (c : List ℕ) × (p ≡ Some c) × ((u (length c) ⊕ Some c) ⊕ Some rest ≡ Some b)
 unfolding framed
 framed_cases None b rest e = let z : None ≡ Some b = sym (left_none (Some rest)) ∙ e in absurd cc
 framed_cases (Some c) b rest e = (c, refl, e)

@@ -34,7 +34,7 @@ use Rattle.std.specs.Prelude.{option_map}
 
 -- ---- imports
 
-tells_import : Tells import_entry import_at
+pub tells_import : Tells import_entry import_at
 unfolding import_at
 tells_import = tells_seen import_of (λ i. (i.name, i.to)) (λ i. refl) (λ x. refl) tells_named
 
@@ -84,7 +84,7 @@ preamble_sound b rest e = by_test (starts_with nat_eq b preamble) refl e
     by_test true f g = (starts_is Decides-eqb b preamble (starts_with nat_eq b preamble) refl).0 f ∙ ap (λ l. preamble ++ l) (same_Some _ _ g)
     by_test false f g = absurd cc
 
-preamble_whole : (rest : List ℕ) → preamble_at (preamble ++ rest) ≡ Some rest
+pub preamble_whole : (rest : List ℕ) → preamble_at (preamble ++ rest) ≡ Some rest
 unfolding preamble_at
 preamble_whole rest = refl
 

@@ -15,7 +15,7 @@ use Rattle.smith_syntax.specs.declared.types.PrimitiveValType.TheVariants as pri
 use Rattle.smith_read.specs.Reading.{◌>>=◌, byte_at, index_at, text_at, both_at, skip_at}
 use Rattle.smith_read.specs.Tells.{Begins, Tells}
 use Rattle.smith_read.specs.Types.{primitive_of, val_at, valtype_at, maybe_valtype_at, field_at, case_at, result_at, primitive_at, defined_after}
-use Rattle.smith_read.specs.Types.{defined_at, signature_of, function_at}
+use Rattle.smith_read.specs.Types.{signature_of, function_at}
 use Rattle.smith_read.proofs.Digits.{byte_is}
 use Rattle.smith_read.proofs.Telling.{bind_some, chain, nothing, byte_begins, byte_read, skip_begins, skip_read, both_begin, parted, tells_index}
 use Rattle.smith_read.proofs.Telling.{tells_text, tells_both, tells_seen, tells_many, row_sound, row_whole, seen_is, first_byte, index_byte}
@@ -215,13 +215,6 @@ defined_read b (enum_type ns) rest e = let r = row_whole enum_type 0x6d (lit< tt
 defined_read b (option_type v) rest e = let r = row_whole option_type 0x6b (lit< tt) tells_val b v rest e in ((0x6b, r.after), r.front, r.is)
 defined_read b (result_type ok err) rest e = let r = row_whole (λ y. result_type y.0 y.1) 0x6a (lit< tt) tells_outcome b (ok, err) rest e in
     ((0x6a, r.after), r.front, r.is)
-
-pub tells_defined : Tells defvaltype defined_at
-unfolding defined_at
-tells_defined = record {
-  sound = λ b x e. let t = bind_some (byte_at b) (λ t. defined_after t.0 t.1) x e in defined_begins b t.0 x t.1 t.2;
-  whole = λ b x e. let r = defined_read b x.0 x.1 e in rw r.1 r.2;
-}
 
 -- ---- types of functions, after their byte
 

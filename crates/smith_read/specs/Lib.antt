@@ -1,6 +1,8 @@
 pub mod Parts
 pub mod PartNodes
 pub mod Reads
+pub mod Places
+pub mod Finding
 pub mod Reading
 pub mod Tells
 pub mod Types

@@ -160,7 +160,7 @@ fn type_of(alloc: Global, levels: u32, bytes: &[u8]) -> Result<(TypeNode, &[u8])
     entry_of(alloc, levels, tag, rest)
 }
 
-fn types_of(
+pub(crate) fn types_of(
     alloc: Global,
     levels: u32,
     count: u32,

@@ -1,11 +1,13 @@
-//! A law of what is read. Its function does nothing: its contract is the law.
+//! Laws of what is read. Each function does nothing: its contract is the law.
 
-ghost use Rattle.std.specs.Prelude.{◌≡◌, ℕ, List, Result, IfOk, IfErr};
+ghost use Rattle.std.specs.Prelude.{◌≡◌, ℕ, List, Result, Some, IfOk, IfErr, drop};
 ghost use Rattle.smith_tree.specs.Generates.{Generates};
+ghost use Rattle.smith_tree.specs.Grammar.{Spells};
 ghost use Rattle.smith_tree.specs.Tree.{Tree};
 ghost use Rattle.smith_format.specs.Consistency.{IsConsistent};
 ghost use Rattle.smith_format.specs.declared.config.Config.{Config};
 ghost use Rattle.smith_read.specs.PartNodes.{shown_tree};
+ghost use Rattle.smith_read.specs.Places.{IsAtFront, offset_in, place_text};
 ghost use Rattle.smith_read.specs.Reads.{Reads};
 ghost use Rattle.smith_read.specs.declared.error.ReadError.{ReadError};
 ghost use Rattle.smith_read.specs.declared.error.ReadError.TheVariants.{OutOfMemory};
@@ -16,4 +18,11 @@ pub fn answers_are_read_back()
     ensures { (config : Config) (component : Tree) (bytes : List ℕ) (result : Result ComponentTree ReadError)
         → IsConsistent config → Generates config component bytes → Reads result bytes
         → IfOk result (λ t. shown_tree t ≡ component) × IfErr result (λ e. e ≡ OutOfMemory) }
+{}
+
+/// What begins at the offset of an entry is that entry.
+pub fn entries_are_at_their_offsets()
+    ensures { (component : Tree) (bytes path : List ℕ) (index offset : ℕ) → Spells component bytes
+        → offset_in path index component ≡ Some offset
+        → IsAtFront (place_text path index component) (drop offset bytes) }
 {}

@@ -76,7 +76,11 @@ impl Readable for String {
     }
 }
 
-fn times_of<T: Readable>(alloc: Global, count: u32, bytes: &[u8]) -> Result<(Vec<T>, &[u8]), Unread>
+pub(crate) fn times_of<T: Readable>(
+    alloc: Global,
+    count: u32,
+    bytes: &[u8],
+) -> Result<(Vec<T>, &[u8]), Unread>
     ensures { Gives (λ x. (map T.shown x.0.items, x.1.now)) result (times_at T.reading count bytes.now) }
 {
     let mut items = Vec::new(alloc);

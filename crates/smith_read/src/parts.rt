@@ -81,7 +81,7 @@ fn list_of<T: Readable>(alloc: Global, bytes: &[u8]) -> Result<Vec<T>, Unread>
 
 // What follows the preamble.
 #[tactic(auto, unfolding(crate::specs::Parts::preamble_at))]
-fn preamble_of(bytes: &[u8]) -> Result<&[u8], Unread>
+pub(crate) fn preamble_of(bytes: &[u8]) -> Result<&[u8], Unread>
     ensures { Gives (λ x. x.now) result (preamble_at bytes.now) }
 {
     if !bytes.starts_with(&COMPONENT_PREAMBLE) {

@@ -1,6 +1,9 @@
 -- What a run takes from its reader, and what it passes to its writer. `Some` bytes are what a reader has left, or a writer holds; `None` says nothing.
 use Rattle.std.specs.Prelude.{◌≢◌, ℕ, ◌≡◌, ◌+◌, ◌≤◌, ◌++◌, List, length, ⊤, Option, Result, Ok, Err}
 use Rattle.std.specs.Io.KnownBytes.{Appends, Consumes, IsAtEnd}
+use Rattle.std.specs.Vec.{vec_len}
+use Rattle.std.specs.declared.alloc.Global.{Global}
+use Rattle.std.specs.declared.vec.Vec.{Vec}
 use Rattle.smith_input.specs.Reading.{IsTail}
 use Rattle.smith_input.specs.declared.error.Error.TheVariants.{OutOfMemory}
 use Rattle.smith_component.specs.declared.Config.{Config}
@@ -19,6 +22,11 @@ use Rattle.smith_run.specs.Page.{page}
 -- how many bytes an input may have
 abbrev pub longest_input : ℕ
 longest_input = 1048576
+
+-- A read puts that many bytes after the input, and none only at the reader's end.
+pub record TakesSome (old new : Vec ℕ Global) (after : Option (List ℕ)) (count : ℕ) : Type 0 where
+  pub grows : vec_len new ≡ vec_len old + count
+  pub end : count ≡ 0 → (new.items ≡ old.items) × IsAtEnd after
 
 -- The reader returned this input, is at its end, and the input is not too long.
 pub record GivesAll (before after : Option (List ℕ)) (input : List ℕ) : Type 0 where

@@ -3,11 +3,11 @@
 ghost use Rattle.std.specs.Prelude.{◌≡◌, ◌≢◌, ℕ, ◌+◌, ◌<◌, ◌≤◌, ◌⊎◌, List, Option};
 ghost use Rattle.std.specs.Prelude.{length};
 ghost use Rattle.std.specs.Prelude.{IfOk, OnOk, IfErr, OnErr, IsErrOf, vec_len};
-ghost use Rattle.std.specs.Io.KnownBytes.{Appends, Consumes, IsAtEnd};
+ghost use Rattle.std.specs.Io.KnownBytes.{Appends, Consumes};
 ghost use Rattle.smith_input.specs.declared.error.Error.TheVariants.{OutOfMemory};
 ghost use Rattle.smith_format.specs.Consistency.{IsConsistent};
-ghost use Rattle.smith_run.specs.Running.{ComesAfterReading, GivesAll, GivesTooMuch, IsRefusedOn, Writes};
-ghost use Rattle.smith_run.specs.Running.{longest_input, status_of, written_text};
+ghost use Rattle.smith_run.specs.Running.{ComesAfterReading, GivesAll, GivesTooMuch, IsRefusedOn, TakesSome};
+ghost use Rattle.smith_run.specs.Running.{Writes, longest_input, status_of, written_text};
 ghost use Rattle.smith_run.specs.declared.running.Form.TheVariants.{Page};
 ghost use Rattle.smith_swarm.specs.Swarm.{after_front, swarmed};
 
@@ -86,10 +86,8 @@ fn read_some<R: Read>(
     ensures given { OnOk result ((before : Option (List ℕ))
         → Consumes before (R.remaining reader.old) input.old.items
         → Consumes before (R.remaining reader.new) input.new.items) }
-    ensures grows { IfOk result (λ count. vec_len input.new ≡ vec_len input.old + count) }
+    ensures takes { IfOk result (TakesSome input.old input.new (R.remaining reader.new)) }
     ensures bound { OnOk result (vec_len input.new ≤ longest_input + 1) }
-    ensures end { IfOk result (λ count. count ≡ 0
-        → (input.new.items ≡ input.old.items) × IsAtEnd (R.remaining reader.new)) }
     ensures fault { IfErr result (λ e. (e ≡ RunError.Refused OutOfMemory) ⊎ (e ≡ RunError.ReadFault)) }
 {
     let room = chunk.len().min(LONGEST_INPUT + 1 - input.len());

@@ -3,7 +3,7 @@ use Rattle.std.proofs.Common.{◌≡◌, ℕ, zero, suc, ◌+◌, ◌-◌, ◌<�
 use Rattle.std.specs.Borrow.{Bor}
 use Rattle.std.specs.Prelude.{MatchOption, option_map, slice_get}
 use Rattle.std.proofs.lemmas.List.{get_or-map, get_or-reverse, length-map, length-reverse}
-use Rattle.std.proofs.lemmas.Option.{slice_get-get_or, slice_get-map, slice_get_past}
+use Rattle.std.proofs.lemmas.Option.{slice_get-get_or, slice_get-map}
 use Rattle.smith_scopes.specs.Nest.{inward_of}
 use Rattle.smith_scopes.specs.declared.nest.Nest.{Nest}
 use Rattle.smith_scopes.proofs.Stack.{map-reverse}
@@ -18,10 +18,6 @@ module _ {A B : Type 0} (f : A → B) (own : B) (xs : List A) where
       slice_get-get_or (reverse (map f xs)) k (f x) within
       ∙ ap (λ (y : B). Some y)
       (get_or-reverse (map f xs) k (f x) inside ∙ ap (λ n. get_or (map f xs) n (f x)) at ∙ get_or-map f xs i x (f x) (omega (arith, e)) ∙ ap f (sym is))
-
-  pub scope_missing : (count : ℕ) → length xs < count → slice_get (own ∷ reverse (map f xs)) count ≡ None
-  scope_missing zero h = absurd (omega arith)
-  scope_missing (suc k) h = slice_get_past (reverse (map f xs)) k (omega (arith, length-reverse (map f xs), length-map xs f, h))
 
 pub found_at : {A : Type 0} (xs : List A) (i : ℕ) (x : A) → i < length xs → x ≡ get_or xs i x → slice_get xs i ≡ Some x
 found_at xs i x h is = slice_get-get_or xs i x h ∙ ap (λ y. Some y) (sym is)

@@ -1,20 +1,17 @@
 -- The declarations of a module type one by one.
-use Rattle.std.proofs.Common.{◌≡◌, ℕ, ◌+◌, ◌<◌, ◌≤◌, List, [], ◌∷◌, ◌++◌, map, length, get_or, sym, ap, ◌∙◌, subst, arith, append-nil, Option, Some, None}
+use Rattle.std.proofs.Common.{◌≡◌, ℕ, ◌+◌, ◌<◌, ◌≤◌, List, [], ◌∷◌, ◌++◌, map, length, get_or, sym, ap, ◌∙◌, subst, arith, Some}
 use Rattle.std.proofs.Math.ListN.{drop}
-use Rattle.std.proofs.lemmas.List.{map-append}
 use Rattle.std.proofs.lemmas.Option.{slice_get-map}
-use Rattle.std.specs.Option.{option_map, option_to_list}
+use Rattle.std.specs.Option.{option_map}
 use Rattle.std.specs.Prelude.{slice_get}
 use Rattle.smith_format.specs.CoreTypes.{Function}
 use Rattle.smith_input.proofs.Rests.{drop_past, rest_at}
 use Rattle.smith_syntax.specs.Entries.{CoreEntry, ModuleDecl, core_module}
 use Rattle.smith_syntax.specs.ModuleTypes.{adds, func_in}
-use Rattle.smith_syntax.specs.Sizes.{capped, core_size, function_size, module_size}
-use Rattle.smith_scopes.specs.ModuleSizes.{added_size, sizes_in}
+use Rattle.smith_syntax.specs.Sizes.{capped, core_size, module_size}
+use Rattle.smith_syntax.specs.OwnSizes.{added_size, sizes_in}
+use Rattle.smith_syntax.proofs.AliasSizes.{kept_size}
 use Rattle.smith_scopes.specs.declared.module_sizes.ModuleSize.{ModuleSize}
-
-abbrev pub kept_size : Option Function → Option ℕ
-kept_size o = option_map (λ f. capped (function_size f)) o
 
 -- the function type that a core type shows
 module _ {A C : Type 0} (tree : A → C) (shown : C → CoreEntry) (around : List A) (i : ℕ) (t : A) (is : slice_get around i ≡ Some t) where
@@ -24,10 +21,6 @@ module _ {A C : Type 0} (tree : A → C) (shown : C → CoreEntry) (around : Lis
       (slice_get-map shown (map tree around) i
       ∙ (ap (λ o. option_map shown o) (slice_get-map tree around i ∙ ap (λ o. option_map tree o) is)
       ∙ ap (λ u. Some u) shows))
-
-pub alias_added : (fs : List Function) (o : Option Function) → sizes_in fs ++ option_to_list (kept_size o) ≡ sizes_in (fs ++ option_to_list o)
-alias_added fs None = append-nil (sizes_in fs) ∙ ap sizes_in (sym (append-nil fs))
-alias_added fs (Some f) = sym (map-append (λ g. capped (function_size g)) fs (f ∷ []))
 
 -- What was read and the rest are the whole.
 pub record Left (around : List CoreEntry) (all : List ModuleDecl) (m : ModuleSize) (rest : List ModuleDecl) : Type 0 where

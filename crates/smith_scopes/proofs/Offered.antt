@@ -10,12 +10,11 @@ use Rattle.smith_syntax.specs.Marks.{no_mark}
 use Rattle.smith_syntax.specs.Places.{places}
 use Rattle.smith_syntax.specs.Scope.{Scope, is_component, is_defined, is_func, is_instance}
 use Rattle.smith_syntax.specs.declared.marks.Mark.{Mark}
-use Rattle.smith_scopes.specs.Kept.{AreOffers, is_offered, kind_for, offered_places, row_for}
+use Rattle.smith_scopes.specs.Kept.{is_offered, kind_for, offered_places}
 use Rattle.smith_scopes.specs.Positions.{kind_places, plain_marked, plain_scope}
 use Rattle.smith_scopes.specs.declared.kinds.Kind.{Kind}
 use Rattle.smith_scopes.specs.declared.offers.Offer.{Offer}
 use Rattle.smith_scopes.specs.declared.offers.Offer.TheVariants as offer
-use Rattle.smith_scopes.specs.declared.offers.Offers.{Offers}
 use Rattle.smith_scopes.proofs.Stack.{longer}
 
 module _ {T : Type 0} (p : T → Mark → Bool) where
@@ -67,15 +66,6 @@ unmarked offer.Export s = sym (unmarked_places (is_offered offer.Export) is_func
 unmarked offer.Equal s = tt
 unmarked offer.Component s = sym (unmarked_places (is_offered offer.Component) is_component (λ t. and_true (is_component t)) 0 s.types)
 unmarked offer.Instance s = sym (unmarked_places (is_offered offer.Instance) is_instance (λ t. and_true (is_instance t)) 0 s.types)
-
-pub row_offered : (o : Offer) {rows : Offers} {types : List Entry} {marks : List Mark} → AreOffers rows types marks
-    → row_for o rows ≡ marked_places (is_offered o) 0 types marks
-row_offered offer.Value a = a.values
-row_offered offer.Import a = a.imports
-row_offered offer.Export a = a.exports
-row_offered offer.Equal a = a.equals
-row_offered offer.Component a = a.components
-row_offered offer.Instance a = a.instances
 
 -- of a scope, given what types and core types show
 module _ {T C : Type 0} (shown : T → Entry) (core_shown : C → CoreEntry) (s : MarkedOf T C) where

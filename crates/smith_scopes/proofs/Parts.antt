@@ -19,11 +19,6 @@ use Rattle.smith_syntax.specs.declared.types.ComponentValType.{ComponentValType}
 
 -- The narrower of several.
 
-pub narrower_end : (r : Reach) → narrower r Everywhere ≡ r
-narrower_end Everywhere = refl
-narrower_end Here = refl
-narrower_end Nowhere = refl
-
 narrower_assoc : (r s t : Reach) → narrower r (narrower s t) ≡ narrower (narrower r s) t
 narrower_assoc Everywhere s t = refl
 narrower_assoc Here Everywhere t = refl

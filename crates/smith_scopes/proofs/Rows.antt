@@ -3,7 +3,7 @@ use Rattle.std.proofs.Common.{◌≡◌, ◌⊎◌, inl, inr, ℕ, ◌+◌, ◌<
 use Rattle.std.proofs.Common.{◌-◌, drop, Option, None, Some, refl, slice_get, suc, zero}
 use Rattle.std.proofs.Common.{sym, ap, ◌∙◌, subst, arith, add-one, append-nil, unwrap_or, length-append}
 use Rattle.std.proofs.Math.Seq.{take-suc}
-use Rattle.std.proofs.lemmas.List.{drop_more, length-map, length-take, length-take-le, take-append-drop, take-append-le, take_all}
+use Rattle.std.proofs.lemmas.List.{drop_more, length-map, length-take, length-take-le, take-append-drop, take_all}
 use Rattle.std.proofs.Math.ListN.{drop_of_length-le, get_or-map}
 use Rattle.std.specs.HashMap.{HashMap, get}
 use Rattle.std.specs.declared.alloc.Global.{Global}
@@ -96,18 +96,6 @@ more_rows old new types ty count notes a = record {
 
 noted_within : (e : Equals) (types : List DefType) → AreFirst e types → e.noted ≤ length types
 noted_within e types a = let l = length-take e.noted types in omega (arith, l, a.count)
-
-first_of_more : (e : Equals) (types more : List DefType) {all : List DefType} → all ≡ types ++ more → AreFirst e types → AreFirst e all
-first_of_more e types more to a =
-    subst (AreRows e) (sym (ap (take e.noted) to ∙ take-append-le e.noted types more (noted_within e types a))) a
-
-pub noted_of_more : {old new : Option (Box Equals Global)} (types more : List DefType) {all : List DefType} → new ≡ old → all ≡ types ++ more
-    → AreNoted old types → AreNoted new all
-noted_of_more {old} types more {all} is to a = subst (λ o. AreNoted o all) (sym is) (stays old a)
-  where
-    stays : (o : Option (Box Equals Global)) → AreNoted o types → AreNoted o all
-    stays None a = tt
-    stays (Some e) a = first_of_more e.value types more to a
 
 -- The rest of the types is noted one by one.
 module _ (types : List (Rc DefType Global)) where

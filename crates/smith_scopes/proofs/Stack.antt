@@ -2,11 +2,10 @@
 use Rattle.std.proofs.Common.{◌≡◌, ℕ, ◌+◌, ◌<◌, ◌≤◌, Bool, true, false, cond, List, [], ◌∷◌, ◌++◌, get_or, length, map, reverse, refl, sym, ap, ◌∙◌, arith}
 use Rattle.std.proofs.Common.{append-nil, Some}
 use Rattle.std.proofs.lemmas.List.{reverse-append, map-append, length-map, length-reverse}
-use Rattle.std.proofs.lemmas.Option.{same_Some, slice_get-get_or, slice_get-map, slice_get_within}
+use Rattle.std.proofs.lemmas.Option.{slice_get-get_or, slice_get-map}
 use Rattle.std.specs.Prelude.{drop, option_map, slice_get}
-use Rattle.smith_syntax.specs.Scope.{Scope, empty_scope, with_type, with_types, with_core_type, with_core_types}
+use Rattle.smith_syntax.specs.Scope.{Scope, empty_scope, with_type, with_types}
 use Rattle.smith_syntax.specs.Marked.{Marked, empty_marked, first_marked, more_kept, scope_in, with_marked, with_sized}
-use Rattle.smith_syntax.specs.Marks.{no_mark}
 use Rattle.smith_syntax.specs.declared.marks.Mark.{Mark}
 use Rattle.smith_syntax.specs.Places.{own_of, outer_of, places}
 use Rattle.smith_scopes.specs.Scopes.{Contents, shown_scope, inward, last_of, lists_at, scope_at, Changes, AddsMarked, AddsSized}
@@ -61,9 +60,6 @@ module _ {A : Type 0} (p : A → Bool) where
   length-places i [] = omega arith
   length-places i (x ∷ xs) = let h = longer (p x) i (places p (i + 1) xs) (length xs) (length-places (i + 1) xs) in omega arith
 
-pub length-inward : (scopes : List Contents) → length (inward scopes) ≡ length scopes
-length-inward scopes = length-reverse (map shown_scope scopes) ∙ length-map scopes shown_scope
-
 pub map-reverse : {A B : Type 0} (f : A → B) (xs : List A) → reverse (map f xs) ≡ map f (reverse xs)
 map-reverse f [] = refl
 map-reverse f (x ∷ xs) =
@@ -109,29 +105,10 @@ grown old new ty {m = m} a =
     changed (λ d. with_marked d ty m) (λ s. with_type s (shown_type ty))
     (λ d. ap (λ ts. record { types = ts; core_types = map shown_core d.core_types }) (map-append shown_type d.types (ty ∷ []))) old new a
 
-pub grown_core : (old new : List Contents) (ty : CoreType) {n : ℕ} → AddsSized old ty n new → Grown (λ s. with_core_type s (shown_core ty)) old new
-grown_core old new ty {n = n} a =
-    changed (λ d. with_sized d ty n) (λ s. with_core_type s (shown_core ty))
-    (λ d. ap (λ ts. record { types = map shown_type d.types; core_types = ts }) (map-append shown_core d.core_types (ty ∷ []))) old new a
-
 -- A scope is opened, and closed.
-
-pub opened_scope : (old new : List Contents) (keeps : Bool) → new ≡ old ++ empty_marked keeps ∷ [] → inward new ≡ empty_scope ∷ inward old
-opened_scope old new keeps e = ap inward e ∙ inward-snoc old (empty_marked keeps)
-
-pub closed_scope : (old new : List Contents) (last : Contents) → old ≡ new ++ last ∷ [] → inward old ≡ shown_scope last ∷ inward new
-closed_scope old new last e = ap inward e ∙ inward-snoc new last
 
 pub with_none : (s : Scope) → with_types s [] ≡ s
 with_none s = ap (λ ts. record { types = ts; core_types = s.core_types }) (append-nil s.types)
-
-pub with_core_none : (s : Scope) → with_core_types s [] ≡ s
-with_core_none s = ap (λ ts. record { types = s.types; core_types = ts }) (append-nil s.core_types)
-
--- Scopes of which there is one.
-pub split_scopes : (ss : List Scope) → 0 < length ss → ss ≡ own_of ss ∷ outer_of ss
-split_scopes [] h = absurd (omega arith)
-split_scopes (s ∷ ss) h = refl
 
 -- The same with what is kept.
 
@@ -195,21 +172,6 @@ marked_at scopes count h =
     ∙ (slice_get-map shown_marked (reverse scopes) count
     ∙ ap (λ r. option_map shown_marked r) (slice_get-get_or (reverse scopes) count (empty_marked false) (omega (arith, l, h))))
 
-pub marked_at_is : (scopes : List Contents) (count : ℕ) (s : Marked) → slice_get (inward_marked scopes) count ≡ Some s
-    → shown_marked (scope_at scopes count) ≡ s
-marked_at_is scopes count s is =
-    let within = slice_get_within (inward_marked scopes) count s is in
-    let l = length-inward_marked scopes in
-    same_Some (shown_marked (scope_at scopes count)) s (sym (marked_at scopes count (omega (arith, within, l))) ∙ is)
-
-pub mark_in : (scopes : List Contents) (count i : ℕ) (s : Marked) → slice_get (inward_marked scopes) count ≡ Some s
-    → get_or (scope_at scopes count).marks i no_mark ≡ get_or s.marks i no_mark
-mark_in scopes count i s is = ap (λ d. get_or d.marks i no_mark) (marked_at_is scopes count s is)
-
-pub core_size_in : (scopes : List Contents) (count i : ℕ) (s : Marked) → slice_get (inward_marked scopes) count ≡ Some s
-    → get_or (scope_at scopes count).core_sizes i 0 ≡ get_or s.core_sizes i 0
-core_size_in scopes count i s is = ap (λ d. get_or d.core_sizes i 0) (marked_at_is scopes count s is)
-
 -- what a change of the last scope makes of the scopes, innermost first
 pub record GrownMarked (f : Marked → Marked) (old new : List Contents) : Type 0 where
   pub own : own_marked new ≡ f (own_marked old)
@@ -254,6 +216,3 @@ opened_outer old new keeps e = ap (drop 1) (opened_marked old new keeps e)
 
 pub closed_marked : (old new : List Contents) (last : Contents) → old ≡ new ++ last ∷ [] → inward_marked old ≡ shown_marked last ∷ inward_marked new
 closed_marked old new last e = ap inward_marked e ∙ inward_marked-snoc new last
-
-pub closed_outer : (old new : List Contents) (last : Contents) → old ≡ new ++ last ∷ [] → inward_marked new ≡ outer_marked old
-closed_outer old new last e = sym (ap (drop 1) (closed_marked old new last e))

@@ -1,5 +1,4 @@
 pub mod Kept
-pub mod ModuleSizes
 pub mod Naming
 pub mod Nest
 pub mod NodeScopes

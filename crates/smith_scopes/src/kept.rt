@@ -48,8 +48,8 @@ impl Kept {
         }
     }
 
-    // Adds a type at the end of the scope. Each list has room before one of them grows. It is not inlined, so that a scope
-    // in which nothing is kept does without its code.
+    // Adds a type at the end of the scope. Each list has room before one of them grows. It is not inlined, so that a
+    // scope in which nothing is kept does without its code.
     #[inline(never)]
     pub(crate) fn push_type<T: Typed, C: CoreTyped>(
         &mut self,
@@ -61,8 +61,7 @@ impl Kept {
         ensures kept { AreKept self.new (map T.Tree.plain entries.new.types) }
         ensures types { OnOk result (entries.new ≡ with_type entries.old (T.tree ty)) }
         ensures marks { OnOk result (self.new.marks.items ≡ self.old.marks.items ++ mark ∷ []) }
-        ensures same_types { OnErr result (entries.new ≡ entries.old) }
-        ensures same_marks { OnErr result (self.new.marks.items ≡ self.old.marks.items) }
+        ensures err { OnErr result ((entries.new ≡ entries.old) × (self.new.marks.items ≡ self.old.marks.items)) }
         ensures same_core_sizes { self.new.core_sizes ≡ self.old.core_sizes }
     {
         self.marks.reserve(1)?;

@@ -5,13 +5,13 @@ ghost use Rattle.std.specs.Option.{option_to_list};
 ghost use Rattle.smith_format.specs.CoreTypes.{Function};
 ghost use Rattle.smith_syntax.specs.Entries.{core_module};
 ghost use Rattle.smith_syntax.specs.ModuleTypes.{adds, aliased};
-ghost use Rattle.smith_syntax.specs.Sizes.{capped, core_size, entity_size, function_size, function_size_at};
+ghost use Rattle.smith_syntax.specs.Sizes.{capped, core_size, entity_size, function_size};
+ghost use Rattle.smith_syntax.specs.OwnSizes.{added_size, sizes_in};
 ghost use Rattle.smith_syntax.specs.Sizes.{module_type_size};
-ghost use Rattle.smith_scopes.specs.ModuleSizes.{added_size, sizes_in};
 
 use crate::typed::{CorePart, CoreTree, CoreTyped, ModulePart, ModuleTree};
 use smith_format::EntityType;
-use smith_syntax::{function_size, size_sum};
+use smith_syntax::{entity_size, function_size, size_sum};
 use std::alloc::{AllocError, Global};
 
 // A module type as far as it was read: the sizes of its own function types, and its size.
@@ -33,35 +33,13 @@ impl ModuleSize {
         }
     }
 
-    // The size of the function type with that index.
-    fn function_at(&self, index: u32) -> u32
-        ensures { (fs : List Function) → self.now.own.items ≡ sizes_in fs
-            → result ≡ capped (function_size_at fs index) }
-    {
-        match self.own.get(index as usize) {
-            Some(size) => *size,
-            None => 1,
-        }
-    }
-
-    // The size of what is imported or exported.
-    fn size_of(&self, entity: EntityType) -> u32
-        ensures { (fs : List Function) → self.now.own.items ≡ sizes_in fs → result ≡ capped (entity_size fs entity) }
-    {
-        match entity {
-            EntityType::Func(index) => self.function_at(index),
-            EntityType::Tag(tag) => self.function_at(tag.func_type_idx),
-            EntityType::Table(_) | EntityType::Memory(_) | EntityType::Global(_) => 1,
-        }
-    }
-
     // Adds what is imported or exported.
     fn add_entity(&mut self, entity: EntityType)
         ensures size { (fs : List Function) → self.old.own.items ≡ sizes_in fs
             → self.new.size ≡ capped (self.old.size + entity_size fs entity) }
         ensures own { self.new.own.items ≡ self.old.own.items }
     {
-        self.size = size_sum(self.size, self.size_of(entity));
+        self.size = size_sum(self.size, entity_size(&self.own, entity));
     }
 
     // The size of its own function type with that index, which an outer alias names.

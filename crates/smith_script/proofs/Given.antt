@@ -1,9 +1,8 @@
 -- What a result of `generate` says of a component, and what a refusal does.
-use Rattle.std.proofs.Common.{◌≡◌, ℕ, ◌<◌, ◌≤◌, arith, ◌↔◌, List, [], ◌∷◌, sym, subst, ◌∙◌, Some, get_or, suc}
+use Rattle.std.proofs.Common.{◌≡◌, ℕ, ◌<◌, ◌≤◌, arith, ◌↔◌, List, [], ◌∷◌, sym, ◌∙◌, Some, get_or, suc}
 use Rattle.smith_input.specs.Script.{AreBytes}
 use Rattle.smith_input.specs.declared.error.Error.{Error}
 use Rattle.smith_input.specs.declared.error.Error.TheVariants.{OutOfMemory}
-use Rattle.smith_format.specs.Consistency.{IsConsistent}
 use Rattle.smith_format.specs.declared.config.Config.{Config}
 use Rattle.smith_tree.specs.Grammar.{Spells}
 use Rattle.smith_component.specs.Refusals.{IsGenerateRefusal}
@@ -20,12 +19,6 @@ use Rattle.smith_script.specs.IsScript.{IsGiven, IsScript}
 
 module _ (config : Config) (t : Tree) (input bytes : List ℕ) (spells : Spells t bytes) where
   module _ (component : Tree) (left made : List ℕ) (run : RunsTo config input component left) (reading : (u : Tree) → Spells u made ↔ (u ≡ component)) where
-    -- Of the same bytes it is the component, and nothing is left.
-    pub given_of : IsConsistent config → left ≡ [] → made ≡ bytes → IsGiven config t input
-    given_of consistent nothing same =
-        let e : t ≡ component = (reading t).0 (subst (Spells t) (sym same) spells) in
-        record { consistent = consistent; runs = subst (λ u. RunsTo config input u []) (sym e) (subst (RunsTo config input component) nothing run) }
-
     -- If it is generated, nothing is left, and the bytes are the same.
     pub nothing_left : IsGiven config t input → left ≡ []
     nothing_left g = (runs_to_same config input component t left [] run g.runs).1

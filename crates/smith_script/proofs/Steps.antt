@@ -1,9 +1,8 @@
 -- Lists, item by item.
-use Rattle.std.proofs.Common.{◌≡◌, ℕ, zero, suc, ◌+◌, ◌<◌, ◌≤◌, List, [], ◌∷◌, ◌++◌, drop, get_or, map, length, ap, sym, refl, ◌∙◌, arith, append_assoc, cond}
-use Rattle.std.specs.Prelude.{Bool, String, string_bytes}
+use Rattle.std.proofs.Common.{◌≡◌, ℕ, zero, suc, ◌+◌, ◌<◌, ◌≤◌, List, [], ◌∷◌, ◌++◌, drop, get_or, map, length, ap, sym, refl, ◌∙◌, arith, append_assoc}
+use Rattle.std.specs.Prelude.{String, string_bytes}
 use Rattle.std.specs.declared.alloc.Global.{Global}
 use Rattle.smith_input.specs.Script.{script_end, script_loop, script_more}
-use Rattle.smith_syntax.specs.Places.{places}
 use Rattle.smith_syntax.specs.Signature.{named}
 use Rattle.smith_syntax.specs.declared.types.ComponentValType.{ComponentValType}
 use Rattle.smith_tree.specs.TypeScript.{script_label, script_params, script_scalar}
@@ -38,8 +37,3 @@ pub params_at : (xs : List (String Global × ComponentValType)) (count i : ℕ) 
 params_at xs count i x h e =
     ap (script_params count) (map_drop named xs i x h e)
     ∙ sym (append_assoc (script_label count (string_bytes x.0)) (script_scalar x.1) (script_params (count + 1) (map named (drop (i + 1) xs))))
-
--- What passes a test of what the items show is at the same places.
-pub places_shown : {A B : Type 0} (test : B → Bool) (f : A → B) (i : ℕ) (xs : List A) → places (λ x. test (f x)) i xs ≡ places test i (map f xs)
-places_shown test f i [] = refl
-places_shown test f i (x ∷ xs) = let rest = places_shown test f (i + 1) xs in λ j. cond (test (f x)) (i ∷ rest j) (rest j)

@@ -61,20 +61,6 @@ module _ (config : Config) (importing : Bool) (outer : List Marked) where
 abbrev pub cost_from : List DeclNode → ℕ → ℕ
 cost_from xs i = decls_cost (in_order (map shown_decl_node (drop i xs)))
 
-pub cost_at : (xs : List DeclNode) (i : ℕ) (x : DeclNode) → i < length xs → x ≡ get_or xs i x
-    → cost_from xs i ≡ decl_cost (shown_decl_node x) + cost_from xs (i + 1) + 1
-cost_at xs i x h e =
-    let more : suc i ≡ i + 1 = omega arith in
-    ap (λ ys. decls_cost (in_order (map shown_decl_node ys))) (drop-cons xs i x h)
-    ∙ ap (λ y. decl_cost (shown_decl_node y) + cost_from xs (suc i) + 1) (sym e)
-    ∙ ap (λ j. decl_cost (shown_decl_node x) + cost_from xs j + 1) more
-
-pub cost_over : (xs : List DeclNode) (i : ℕ) → length xs ≤ i → cost_from xs i ≡ 0
-cost_over [] zero h = refl
-cost_over [] (suc i) h = refl
-cost_over (x ∷ xs) zero h = absurd (omega arith)
-cost_over (x ∷ xs) (suc i) h = cost_over xs i (omega arith)
-
 -- the scope after all of them
 
 abbrev pub scope_after : List DeclNode → ℕ → List Marked → Marked → Marked
@@ -88,9 +74,3 @@ scope_at xs i x outer own next h e n =
     ∙ ap (λ y. marked_after_all (in_order (map shown_decl_node (drop (suc i) xs))) outer (marked_after (shown_decl_node y) outer own)) (sym e)
     ∙ ap (λ s. scope_after xs (suc i) outer s) (sym n)
     ∙ ap (λ j. scope_after xs j outer next) more
-
-pub scope_over : (xs : List DeclNode) (i : ℕ) (outer : List Marked) (own : Marked) → length xs ≤ i → scope_after xs i outer own ≡ own
-scope_over [] zero outer own h = refl
-scope_over [] (suc i) outer own h = refl
-scope_over (x ∷ xs) zero outer own h = absurd (omega arith)
-scope_over (x ∷ xs) (suc i) outer own h = scope_over xs i outer own (omega arith)

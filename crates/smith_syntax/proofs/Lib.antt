@@ -1,3 +1,4 @@
+pub mod AliasSizes
 pub mod Clear
 pub mod ClearTypes
 pub mod Declarations

@@ -15,6 +15,10 @@ use Rattle.smith_syntax.specs.Members.{members, signature_members}
 abbrev pub size_bound : ℕ
 size_bound = 1000000
 
+-- a size as it is kept: none is greater than the bound
+abbrev pub capped : ℕ → ℕ
+capped n = min n size_bound
+
 -- What follows is said of types among others, each of which has an effective size of its own.
 
 abbrev pub value_size : List ℕ → ComponentValType → ℕ
@@ -73,7 +77,3 @@ core_size around (core_module ds) = module_size around [] ds + 1
 abbrev pub module_type_size : List CoreEntry → CoreEntry → ℕ
 module_type_size around (core_func f) = 0
 module_type_size around (core_module ds) = core_size around (core_module ds)
-
--- a size as it is kept: none is greater than the bound
-abbrev pub capped : ℕ → ℕ
-capped n = min n size_bound

@@ -24,7 +24,7 @@ pub use encode::{
 };
 pub use func::FuncType;
 pub use marks::{Mark, Reach};
-pub use sizes::{SIZE_BOUND, function_size, size_sum};
+pub use sizes::{SIZE_BOUND, entity_size, function_size, size_sum};
 pub use types::{
     ComponentValType, DefinedType, EnumType, FlagsType, ListType, OptionType, PrimitiveValType,
     RecordType, ResultType, TupleType, VariantType,

@@ -1,12 +1,12 @@
 -- The scopes as declarations are made: what is in one of them, and how the last one grows.
 use Rattle.std.proofs.Common.{◌≡◌, ℕ, ◌+◌, ◌<◌, ◌≤◌, Bool, true, false, cond, inl, inr, append_assoc, List, [], ◌∷◌, ◌++◌, length, map, reverse}
-use Rattle.std.proofs.Common.{append-nil, refl, sym, ap, ◌∙◌, subst, arith}
+use Rattle.std.proofs.Common.{refl, sym, ap, ◌∙◌, subst, arith}
 use Rattle.std.proofs.Math.ListN.{drop}
 use Rattle.std.proofs.lemmas.List.{reverse-append, reverse-reverse, length-append, length-map}
 use Rattle.std.proofs.lemmas.Option.{slice_get-map, slice_get_within}
 use Rattle.std.proofs.lemmas.Bool.Decides.{nat_tests}
 use Rattle.std.specs.Option.{option_to_list}
-use Rattle.std.specs.Prelude.{get_or, nat_lt, Option, None, Some, option_map, slice_get}
+use Rattle.std.specs.Prelude.{get_or, nat_lt, Option, Some, option_map, slice_get}
 use Rattle.smith_input.specs.Choices.{ReadsAmong}
 use Rattle.smith_input.specs.Reading.{Reads}
 use Rattle.smith_input.proofs.Rests.{drop_past}
@@ -32,7 +32,7 @@ use Rattle.smith_syntax.specs.declared.marks.Mark.{Mark}
 use Rattle.std.specs.declared.alloc.Global.{Global}
 use Rattle.std.specs.declared.rc.Rc.{Rc}
 use Rattle.smith_scopes.specs.Scopes.{AddsMarked, AddsSized, Changes, Contents, inward_marked, last_of, outer_marked, own_marked, scope_at, shown_marked}
-use Rattle.smith_scopes.proofs.Marking.{core_size_found, grown_export, grown_import, mark_found, marked_alike, sized_alike}
+use Rattle.smith_scopes.proofs.Marking.{core_size_found, grown_export, grown_import, length-changed, mark_found, marked_alike, sized_alike}
 use Rattle.smith_scopes.proofs.Places.{place_stands, get_either, get_left, get_right}
 use Rattle.smith_scopes.proofs.Plain.{rest_from}
 use Rattle.smith_scopes.proofs.Stack.{GrownMarked, grown_marked, grown_sized, keeps_last, length-inward_marked, marked_at, opened_outer, own_marked_last}
@@ -148,11 +148,6 @@ pub scope_chosen : (scopes : List Contents) (counts b mid : List ℕ) (count : �
 scope_chosen scopes counts b mid count e (k, r, at) = record
     { place = k; reads = subst (λ cs. Reads (length cs) b k mid) e r; named = ap (λ cs. slice_get cs k) (sym e) ∙ at }
 
--- if one of the scopes has an entry, there is one
-pub split_occupied : (scopes : List Marked) → 0 < length (occupied (first_marked scopes ∷ drop 1 scopes)) → scopes ≡ first_marked scopes ∷ drop 1 scopes
-split_occupied [] h = absurd (omega (arith, h))
-split_occupied (s ∷ ss) h = refl
-
 -- the same, also if there is none
 pub occupied_count : (scopes : List Marked) → length (occupied (first_marked scopes ∷ drop 1 scopes)) ≡ length (occupied scopes)
 occupied_count [] = refl
@@ -169,11 +164,15 @@ length-last_core_types scopes = sym (ap (λ s. length s.core_types) (own_marked_
 
 -- The last scope grows, and those around it stay.
 
-pub same_refl : (scopes : List Contents) → SameOuter scopes scopes
-same_refl scopes = record { around = refl; depth = refl }
-
 pub same_trans : {a b c : List Contents} → SameOuter a b → SameOuter b c → SameOuter a c
 same_trans x y = record { around = y.around ∙ x.around; depth = y.depth ∙ x.depth }
+
+-- the last scope changed alone
+pub same_changed : {f : Contents → Contents} {old new : List Contents} → Changes f old new → SameOuter old new
+same_changed {f = f} {old = old} {new = new} c =
+    let before : drop 1 (reverse old) ≡ reverse c.outer = ap (λ s. drop 1 (reverse s)) c.before ∙ ap (drop 1) (reverse-append c.outer (c.own ∷ [])) in
+    let after : drop 1 (reverse new) ≡ reverse c.outer = ap (λ s. drop 1 (reverse s)) c.after ∙ ap (drop 1) (reverse-append c.outer (f c.own ∷ [])) in
+    record { around = after ∙ sym before; depth = length-changed _ _ _ c }
 
 -- a scope was opened and closed, and those around it stayed
 pub closed_again : (old opened changed new : List Contents) (inner last : Contents) → opened ≡ old ++ inner ∷ [] → SameOuter opened changed
@@ -291,10 +290,6 @@ module _ (old new : List Contents) (a : Alias) (within : a.count < length old) (
 
 -- An export is noted, and adds a type if it is of one.
 
-more_none : {A : Type 0} (keeps : Bool) (xs : List A) → more_kept keeps xs [] ≡ xs
-more_none true xs = append-nil xs
-more_none false xs = refl
-
 module _ (old noted : List Contents) (r : ComponentTypeRef) (notes : Changes (λ d. with_export d r) old noted) where
   abbrev exports : Marked
   exports = with_export (own_marked old) r
@@ -306,12 +301,6 @@ module _ (old noted : List Contents) (r : ComponentTypeRef) (notes : Changes (λ
   abbrev adding : Option Entry → Marked
   adding o = record exports
       { types = exports.types ++ option_to_list o; marks = more_kept exports.keeps exports.marks (marks_for o (exported_mark exports.marks r)) }
-
-  pub none_added : exported_type (scope_in (own_marked old)) r ≡ None → own_marked noted ≡ with_exported (own_marked old) r
-  none_added none =
-      g.own ∙ (sym (ap (λ ms. record exports { types = exports.types ++ []; marks = ms }) (more_none exports.keeps exports.marks)
-      ∙ ap (λ ts. record exports { types = ts }) (append-nil exports.types))
-      ∙ ap adding (sym none))
 
   module _ (i : ℕ) (is_equal : r ≡ to.TypeEq i) where
     -- a type that it is equal to is in the last scope

@@ -1,34 +1,24 @@
 -- Types as the program makes them, by kind and by sort of declaration.
 use Rattle.std.proofs.Common.{◌≡◌, ℕ, zero, suc, ◌-◌, ◌<◌, Bool, true, false, not, List, ◌∷◌, [], ◌++◌, refl, sym, ap, ◌∙◌, subst, arith, append-nil}
+use Rattle.std.proofs.Math.ListN.{drop}
 use Rattle.smith_format.specs.declared.config.Config.{Config}
 use Rattle.smith_input.specs.Choices.{ReadsAmong}
 use Rattle.std.specs.Prelude.{if◌then◌else◌}
 use Rattle.smith_syntax.specs.Entries.{FullEntry, FullDecl, FullDecls}
-use Rattle.smith_syntax.specs.Marked.{Marked, empty_marked, mark, marked_after_all}
+use Rattle.smith_syntax.specs.Marked.{Marked, empty_marked, first_marked, mark, marked_after_all}
 use Rattle.smith_syntax.specs.Marks.{closed_mark}
+use Rattle.smith_syntax.specs.WellFormed.{export_of}
 use Rattle.smith_syntax.specs.declared.marks.Mark.{Mark}
 use Rattle.smith_syntax.specs.declared.marks.Reach.TheVariants.{Everywhere}
-use Rattle.smith_types.specs.Declarations.{NamedExtern, SoFar, NoImportDecl}
-use Rattle.smith_tree.specs.TypeOffers.{declaration_items, type_kinds}
-use Rattle.smith_types.specs.Made.{Made, spent_type, made_defined, made_function, made_component, made_instance, MadeDeclaration, made_export, made_alias}
-use Rattle.smith_types.specs.Made.{made_core_type, made_type}
-use Rattle.smith_types.specs.MakingTypes.{HoldsExterns, IsMarkOf, MadeItem, MadeKind, declaring}
+use Rattle.smith_types.specs.Declarations.{NamedExtern, ReadsAlias, nothing_so_far}
+use Rattle.smith_tree.specs.TypeOffers.{type_kinds}
+use Rattle.smith_types.specs.Made.{Made, spent_type, made_defined, made_function, made_component, made_instance}
+use Rattle.smith_types.specs.MakingTypes.{ExportsOnly, HoldsExterns, IsMarkOf, IsNameless, MadeKind, declaring}
 use Rattle.smith_scopes.specs.Scopes.{Contents, last_of, outer_marked, own_marked}
 use Rattle.smith_scopes.proofs.Stack.{own_marked_last}
 use Rattle.smith_tree.specs.declared.choices.TypeKind.{TypeKind}
 use Rattle.smith_tree.specs.declared.choices.TypeKind.TheVariants as kind
-use Rattle.smith_tree.specs.declared.choices.DeclarationItem.{DeclarationItem}
-use Rattle.smith_tree.specs.declared.choices.DeclarationItem.TheVariants as item
 use Rattle.smith_types.specs.declared.make.externs.ExternNames.{ExternNames}
-
--- a declaration of a sort that was chosen
-pub item_made : (config : Config) (importing : Bool) (s : SoFar) (outer : List Marked) (start mid low rest : List ℕ) (i : DeclarationItem) (fuel left : ℕ)
-    (d : FullDecl) → NoImportDecl config importing s.own start mid → ReadsAmong (declaration_items config outer s.own) mid i low
-    → MadeItem config s.own outer s.exports i low fuel d rest left → MadeDeclaration config importing outer s start fuel d rest left
-item_made config importing s outer start mid low rest item.Export fuel left d none chosen (r, l) = made_export none chosen r l
-item_made config importing s outer start mid low rest item.Alias fuel left d none chosen (r, l) = made_alias none chosen r l
-item_made config importing s outer start mid low rest item.CoreType fuel left d none chosen (c, m, e) = made_core_type none chosen m e
-item_made config importing s outer start mid low rest item.«Type» fuel left d none chosen (e, m, is) = made_type none chosen m is
 
 -- a type of a kind that was chosen, after it took one from the fuel
 kind_made : (config : Config) (own : Marked) (outer : List Marked) (b mid rest : List ℕ) (k : TypeKind) (fuel left : ℕ) (e : FullEntry) → 0 < fuel - 1
@@ -61,6 +51,15 @@ pub names_stay : (sets : ExternNames) (so_far : List NamedExtern) (more : List N
     → HoldsExterns sets (so_far ++ more)
 names_stay sets so_far more none held = subst (HoldsExterns sets) (sym (ap (λ xs. so_far ++ xs) none ∙ append-nil so_far)) held
 
+pub exports_nothing : (sets : ExternNames) (d : FullDecl) → IsNameless d → ExportsOnly sets sets d
+exports_nothing sets d n = record { no_import = n.no_import; gains = λ so_far. names_stay sets so_far (export_of d) n.no_export }
+
+-- an outer alias names an entry of a scope, so there is one
+pub alias_within : (scopes : List Marked) (b : List ℕ) (d : FullDecl) (rest : List ℕ) → ReadsAlias scopes b d rest
+    → ReadsAlias (first_marked scopes ∷ drop 1 scopes) b d rest
+alias_within [] b d rest r = absurd (let stands = r.stands in cc)
+alias_within (s ∷ scopes) b d rest r = r
+
 -- the mark of a type of a component or of an instance, from its scope when all was declared there
 mark_closed : (importing : Bool) (own : Marked) (outer : List Marked) (ds : FullDecls) (s : Marked) (m : Mark)
     → s ≡ marked_after_all ds (own ∷ outer) (empty_marked own.keeps) → m ≡ closed_mark (if not importing then s.exported else Everywhere) s.size
@@ -69,15 +68,15 @@ mark_closed true own outer ds s m e is = is ∙ ap (λ t. closed_mark Everywhere
 mark_closed false own outer ds s m e is = is ∙ ap (λ t. closed_mark t.exported t.size) e
 
 pub scoped_marked : (importing : Bool) (old opened changed : List Contents) (ds : FullDecls) (e : FullEntry) (m : Mark)
-    → own_marked opened ≡ empty_marked (own_marked old).keeps → outer_marked opened ≡ own_marked old ∷ outer_marked old
-    → own_marked changed ≡ marked_after_all ds (outer_marked opened) (own_marked opened)
+    → outer_marked opened ≡ own_marked old ∷ outer_marked old
+    → own_marked changed ≡ marked_after_all ds (outer_marked opened) (nothing_so_far (outer_marked opened)).own
     → m ≡ closed_mark (if not importing then (last_of changed).exported else Everywhere) (last_of changed).size → e ≡ declaring importing ds
     → IsMarkOf old e m
-scoped_marked importing old opened changed ds e m fresh around closed is made = λ keeps.
+scoped_marked importing old opened changed ds e m around closed is made = λ keeps.
     let own = own_marked old in
     let outer = outer_marked old in
     let s_is : own_marked changed ≡ marked_after_all ds (own ∷ outer) (empty_marked own.keeps) =
-    closed ∙ (ap (λ ss. marked_after_all ds ss (own_marked opened)) around ∙ ap (marked_after_all ds (own ∷ outer)) fresh) in
+    closed ∙ ap (λ ss. marked_after_all ds ss (nothing_so_far ss).own) around in
     let m_is : m ≡ closed_mark (if not importing then (own_marked changed).exported else Everywhere) (own_marked changed).size =
     is ∙ ap (λ s. closed_mark (if not importing then s.exported else Everywhere) s.size) (sym (own_marked_last changed)) in
     mark_closed importing own outer ds (own_marked changed) m s_is m_is ∙ ap (λ x. mark x own outer) (sym made)

@@ -11,7 +11,7 @@ use Rattle.smith_syntax.specs.Scope.{type_named, core_type_named, exported_type}
 use Rattle.smith_syntax.specs.WellFormed.{import_of, export_of}
 use Rattle.smith_types.specs.Declarations.{SoFar, nothing_so_far, after_one}
 use Rattle.smith_types.specs.Made.{MadeDeclaration, MadeDeclarations, no_more_decls, spent_decls, one_decl}
-use Rattle.smith_types.specs.MakingTypes.{AddsDeclaration, Declares, HasAtMost, HoldsExterns, HoldsNames, Progress, onto, defs_in}
+use Rattle.smith_types.specs.MakingTypes.{AddsDeclaration, Declares, DeclaresAll, HasAtMost, HoldsExterns, HoldsNames, Progress, onto, defs_in}
 use Rattle.smith_scopes.specs.Scopes.{Contents, own_marked, outer_marked}
 use Rattle.smith_types.specs.declared.make.scoped.ComponentBody.{ComponentBody}
 use Rattle.smith_types.specs.declared.make.scoped.InstanceBody.{InstanceBody}
@@ -66,19 +66,25 @@ module _ {config : Config} {importing : Bool} {outer : List Marked} {start : Lis
     abbrev All : FullDecls → List ℕ → ℕ → Type 0
     All ds rest left = MadeDeclarations config importing outer 0 (nothing_so_far outer) start first_fuel ds rest left
 
-    pub stops : (rest : List ℕ) (answer : Bool) → More done 0 100 bytes answer rest → answer ≡ false → All (in_order (defs_in declared)) rest fuel
-    stops rest answer m e = subst (λ ds. All ds rest fuel) (onto_none (defs_in declared))
-        (p.onward no_decls rest fuel (no_more_decls (subst (λ a. More done 0 100 bytes a rest) e m) refl))
+    abbrev Whole : List ℕ → ℕ → Type 0
+    Whole rest left = DeclaresAll config importing outer start first_fuel declared (own_marked scopes) rest left
+
+    ends : (rest : List ℕ) (left : ℕ) → MadeDeclarations config importing outer done p.so_far bytes fuel no_decls rest left → Whole rest left
+    ends rest left last = record {
+      made = subst (λ ds. All ds rest left) (onto_none (defs_in declared)) (p.onward no_decls rest left last);
+      closed = p.own_is ∙ p.closed;
+      of = p.of;
+    }
+
+    pub stops : (rest : List ℕ) (answer : Bool) → More done 0 100 bytes answer rest → answer ≡ false → Whole rest fuel
+    stops rest answer m e = ends rest fuel (no_more_decls (subst (λ a. More done 0 100 bytes a rest) e m) refl)
 
     pub spends : (rest : List ℕ) (answer : Bool) (left : ℕ) → More done 0 100 bytes answer rest → answer ≡ true → left ≡ fuel - 1 → left ≡ 0
-        → All (in_order (defs_in declared)) rest left
-    spends rest answer left m e burnt none = subst (λ ds. All ds rest left) (onto_none (defs_in declared))
-        (p.onward no_decls rest left (spent_decls (subst (λ a. More done 0 100 bytes a rest) e m) (sym burnt ∙ none) none))
+        → Whole rest left
+    spends rest answer left m e burnt none = ends rest left
+        (spent_decls (subst (λ a. More done 0 100 bytes a rest) e m) (sym burnt ∙ none) none)
 
-    pub closes : {own : Marked} → own ≡ (nothing_so_far outer).own → own_marked scopes ≡ marked_after_all (in_order (defs_in declared)) outer own
-    closes fresh = p.own_is ∙ (p.closed ∙ sym (ap (marked_after_all (in_order (defs_in declared)) outer) fresh))
-
-    pub is_full : 100 ≤ done → All (in_order (defs_in declared)) bytes fuel
+    pub is_full : 100 ≤ done → Whole bytes fuel
     is_full h = stops bytes false (more_full bytes h) refl
 
     pub goes_on : (mid low : List ℕ) (answer : Bool) (held left : ℕ) (next : List Contents) (declared2 : TypeBody) → More done 0 100 bytes answer mid
@@ -109,8 +115,8 @@ pub adds_to_component : (config : Config) (scopes next : List Contents) (s : SoF
     (def : ComponentTypeDef) (b : List ℕ) (fuel : ℕ) (rest : List ℕ) (left : ℕ) → own_marked scopes ≡ s.own
     → MadeDeclaration config true (outer_marked scopes) (record { own = own_marked scopes; imports = s.imports; exports = s.exports }) b fuel
     (full_component_decl def) rest left
-    → Declares scopes next (full_component_decl def) → HoldsExterns new.imports (s.imports ++ import_of (full_component_decl def))
-    → HoldsExterns new.exports (s.exports ++ export_of (full_component_decl def)) → new.defs.items ≡ old.defs.items ++ def ∷ []
+    → Declares scopes next (full_component_decl def) → HoldsExterns new.names.imports (s.imports ++ import_of (full_component_decl def))
+    → HoldsExterns new.names.exports (s.exports ++ export_of (full_component_decl def)) → new.defs.items ≡ old.defs.items ++ def ∷ []
     → AddsDeclaration config scopes next s (Component old) (Component new) b fuel rest left
 adds_to_component config scopes next s old new def b fuel rest left own made declares i x more = record {
   added = full_component_decl def;

@@ -1,22 +1,30 @@
 -- A type as the program makes it: what it keeps beside the declarations, and what one call adds.
-use Rattle.std.specs.Prelude.{◌≡◌, ℕ, ◌<◌, ◌≤◌, Bool, true, false, List, [], ◌∷◌, ◌++◌, drop, length, map, reverse, Option, None, Some, string_bytes}
+use Rattle.std.specs.Prelude.{◌≡◌, ℕ, ◌+◌, ◌<◌, ◌≤◌, max, IfOk, Result, Bool, true, false, List, [], ◌∷◌, ◌++◌, drop, length, map, reverse}
+use Rattle.std.specs.Prelude.{Option, None, Some, string_bytes}
+use Rattle.smith_format.specs.Consistency.{IsConsistent}
+use Rattle.smith_format.specs.Limits.{configured}
 use Rattle.smith_format.specs.declared.config.Config.{Config}
+use Rattle.smith_format.specs.declared.types.ValType.{ValType}
 use Rattle.smith_input.specs.Names.{Holds}
+use Rattle.smith_input.specs.declared.error.Error.{Error}
 use Rattle.smith_syntax.specs.Entries.{Entry, keeps_type, keeps_core_type, import_decl, export_decl, type_alias, core_type_alias, Signature, CoreEntry}
 use Rattle.smith_syntax.specs.Entries.{DefValType, FullEntry, FullDecl, FullDecls, defined, function, component_type, instance_type, core_type_decl, type_decl}
-use Rattle.smith_syntax.specs.Entries.{in_order, then_decls, keeps_functions}
-use Rattle.smith_syntax.specs.Marked.{Marked, mark, marked_after, marked_after_all, scope_in, scopes_in_marked}
+use Rattle.smith_syntax.specs.Entries.{in_order, plain, then_decls, keeps_functions}
+use Rattle.smith_syntax.specs.Marked.{Marked, empty_marked, mark, marked_after, marked_after_all, scope_in, scopes_in_marked}
 use Rattle.smith_syntax.specs.Scope.{core_type_named, type_named}
 use Rattle.smith_syntax.specs.declared.marks.Mark.{Mark}
 use Rattle.smith_syntax.specs.Shown.{shown_url}
 use Rattle.smith_syntax.specs.ShownDecls.{full_component_decl, full_instance_decl}
-use Rattle.smith_syntax.specs.WellFormed.{names, import_of, export_of}
+use Rattle.smith_syntax.specs.Nesting.{nesting}
+use Rattle.smith_syntax.specs.TypeLimits.{EntryLimits}
+use Rattle.smith_syntax.specs.Usable.{OfferedEntry}
+use Rattle.smith_syntax.specs.WellFormed.{FormedEntry, names, import_of, export_of, size}
 use Rattle.smith_syntax.specs.declared.deftype.Import.{Import}
-use Rattle.smith_types.specs.Declarations.{NamedExtern, SoFar, after_one, nothing_so_far, ReadsAlias, ReadsExportDecl, ReadsImportDecl, NoImportDecl, url_names}
+use Rattle.smith_types.specs.Declarations.{NamedExtern, SoFar, after_one, nothing_so_far, ReadsImportDecl, NoImportDecl, url_names}
 use Rattle.smith_tree.specs.TypeOffers.{has_export, occupied}
 use Rattle.smith_types.specs.Made.{Made, MadeDeclaration, MadeDefined, MadeFunction, MadeDeclarations}
 use Rattle.smith_core_types.specs.MadeCore.{MadeCore, named_by_core}
-use Rattle.smith_scopes.specs.Scopes.{Contents, own_marked, outer_marked}
+use Rattle.smith_scopes.specs.Scopes.{Contents, last_of, own_marked, own_scope, outer_marked, outer_scopes}
 use Rattle.smith_tree.specs.declared.choices.TypeKind.{TypeKind}
 use Rattle.smith_tree.specs.declared.choices.TypeKind.TheVariants as kind
 use Rattle.smith_tree.specs.declared.choices.DeclarationItem.{DeclarationItem}
@@ -42,13 +50,13 @@ MadeKind config own outer kind.Function b fuel e rest left = (s : Signature) × 
 MadeKind config own outer kind.Component b fuel e rest left = MadeScoped config own outer true b fuel e rest left
 MadeKind config own outer kind.Instance b fuel e rest left = MadeScoped config own outer false b fuel e rest left
 
--- a declaration of a sort
-abbrev pub MadeItem : Config → Marked → List Marked → List NamedExtern → DeclarationItem → List ℕ → ℕ → FullDecl → List ℕ → ℕ → Type 0
-MadeItem config own outer exports item.Export b fuel d rest left = ReadsExportDecl config own exports b d rest × (left ≡ fuel)
-MadeItem config own outer exports item.Alias b fuel d rest left = ReadsAlias (own ∷ outer) b d rest × (left ≡ fuel)
-MadeItem config own outer exports item.CoreType b fuel d rest left = (c : CoreEntry) × MadeCore config (scope_in own) b fuel c rest left
+-- a core type, and a type, as declarations
+abbrev pub MadeCoreTypeDecl : Config → Marked → List ℕ → ℕ → FullDecl → List ℕ → ℕ → Type 0
+MadeCoreTypeDecl config own b fuel d rest left = (c : CoreEntry) × MadeCore config (scope_in own) b fuel c rest left
     × (d ≡ core_type_decl c (keeps_functions (named_by_core own.core_types c)))
-MadeItem config own outer exports item.«Type» b fuel d rest left = (e : FullEntry) × Made config own outer b fuel e rest left × (d ≡ type_decl e)
+
+abbrev pub MadeTypeDecl : Config → Marked → List Marked → List ℕ → ℕ → FullDecl → List ℕ → ℕ → Type 0
+MadeTypeDecl config own outer b fuel d rest left = (e : FullEntry) × Made config own outer b fuel e rest left × (d ≡ type_decl e)
 
 -- what a declaration needs: an export and an outer alias something to name, and a type that one more scope may nest
 abbrev pub HasTarget : Config → Marked → List Marked → DeclarationItem → Type 0
@@ -81,6 +89,11 @@ pub record IsNameless (d : FullDecl) : Type 0 where
   pub no_import : import_of d ≡ []
   pub no_export : export_of d ≡ []
 
+-- A declaration that is no import: the sets have the names that they had, and its own if it exports.
+pub record ExportsOnly (old new : ExternNames) (d : FullDecl) : Type 0 where
+  pub no_import : import_of d ≡ []
+  pub gains : (so_far : List NamedExtern) → HoldsExterns old so_far → HoldsExterns new (so_far ++ export_of d)
+
 -- The scopes around the last one are as they were.
 pub record SameOuter (old new : List Contents) : Type 0 where
   pub around : drop 1 (reverse new) ≡ drop 1 (reverse old)
@@ -90,6 +103,11 @@ pub record SameOuter (old new : List Contents) : Type 0 where
 pub record Declares (old new : List Contents) (d : FullDecl) : Type 0 where
   pub own : own_marked new ≡ marked_after d (outer_marked old) (own_marked old)
   pub outer : outer_marked new ≡ outer_marked old
+
+-- A call that declares in the last scope. The scopes around that stay as they were, also after a refusal.
+pub record DeclaresInLast {A : Type 0} (result : Result A Error) (shown : A → FullDecl) (old new : List Contents) : Type 0 where
+  pub declares : IfOk result (λ x. Declares old new (shown x))
+  pub outer : SameOuter old new
 
 -- An outer alias keeps what it names.
 abbrev pub IsAliased : List Marked → FullDecl → Type 0
@@ -109,6 +127,19 @@ pub record HasAtMost (n : ℕ) (own : Marked) : Type 0 where
   pub types : length own.types ≤ n
   pub core_types : length own.core_types ≤ n
 
+-- There are few scopes, and one more declaration fits into the last one.
+pub record HasRoom (scopes : List Contents) : Type 0 where
+  pub shallow : length scopes ≤ 1002
+  pub few : HasAtMost 100 (own_marked scopes)
+
+-- An empty scope was opened in the last one.
+pub record OpensInner (old new : List Contents) : Type 0 where
+  pub opened : new ≡ old ++ empty_marked (last_of old).keeps ∷ []
+  pub deep : 2 ≤ length new
+  pub depth : length new ≡ length old + 1
+  pub fresh : own_marked new ≡ empty_marked (own_marked old).keeps
+  pub around : outer_marked new ≡ own_marked old ∷ outer_marked old
+
 -- these in front of those
 abbrev pub onto : List FullDecl → FullDecls → FullDecls
 onto [] ds = ds
@@ -125,7 +156,7 @@ defs_in (Instance body) = map full_instance_decl body.defs.items
 
 -- the sets of names have what is imported and exported so far
 abbrev pub HoldsNames : TypeBody → SoFar → Type 0
-HoldsNames (Component body) so_far = HoldsExterns body.imports so_far.imports × HoldsExterns body.exports so_far.exports
+HoldsNames (Component body) so_far = HoldsExterns body.names.imports so_far.imports × HoldsExterns body.names.exports so_far.exports
 HoldsNames (Instance body) so_far = HoldsExterns body.exports so_far.exports
 
 -- One declaration was added.
@@ -137,6 +168,13 @@ pub record AddsDeclaration (config : Config) (scopes next : List Contents) (so_f
   pub names : HoldsNames new (after_one (outer_marked scopes) so_far added)
   pub defs : defs_in new ≡ defs_in old ++ added ∷ []
   pub of : is_importing new ≡ is_importing old
+
+-- These are all declarations of a type, and its scope is as they leave it.
+pub record DeclaresAll (config : Config) (importing : Bool) (outer : List Marked) (bytes : List ℕ) (fuel : ℕ) (declared : TypeBody) (own : Marked)
+    (rest : List ℕ) (left : ℕ) : Type 0 where
+  pub made : MadeDeclarations config importing outer 0 (nothing_so_far outer) bytes fuel (in_order (defs_in declared)) rest left
+  pub closed : own ≡ marked_after_all (in_order (defs_in declared)) outer (nothing_so_far outer).own
+  pub of : is_importing declared ≡ importing
 
 -- A loop of declarations after that many turns: what completes the declarations from here completes all of them.
 pub record Progress (config : Config) (importing : Bool) (outer : List Marked) (start : List ℕ) (first_fuel done : ℕ) (scopes : List Contents)
@@ -150,3 +188,19 @@ pub record Progress (config : Config) (importing : Bool) (outer : List Marked) (
   pub closed : so_far.own ≡ marked_after_all (in_order (defs_in declared)) outer (nothing_so_far outer).own
   pub onward : (ds : FullDecls) (rest : List ℕ) (left : ℕ) → MadeDeclarations config importing outer done so_far bytes fuel ds rest left
       → MadeDeclarations config importing outer 0 (nothing_so_far outer) start first_fuel (onto (defs_in declared) ds) rest left
+
+-- Types can be read: the limits fit together, the value types are the ones that they allow, and there are few scopes.
+pub record CanReadTypes (config : Config) (valtypes : List ValType) (scopes : List Contents) : Type 0 where
+  pub configured : valtypes ≡ configured config
+  pub consistent : IsConsistent config
+  pub shallow : length scopes ≤ 1001
+
+-- A type as the bytes and the fuel say: it is well formed in the scopes, within the limits, and no larger than the fuel
+-- that it took; all that it names was offered; and its own scopes nest no deeper than they may.
+pub record MadeToFit (config : Config) (scopes : List Contents) (bytes : List ℕ) (fuel : ℕ) (t : FullEntry) (rest : List ℕ) (left : ℕ) : Type 0 where
+  pub made : Made config (own_marked scopes) (outer_marked scopes) bytes fuel t rest left
+  pub formed : FormedEntry (plain t) (own_scope scopes) (outer_scopes scopes)
+  pub offered : OfferedEntry (plain t) (own_marked scopes) (outer_marked scopes)
+  pub limits : EntryLimits config (plain t)
+  pub nesting : length scopes + nesting (plain t) ≤ max (length scopes + 1) config.max_nesting_depth
+  pub size : size (plain t) + left ≤ fuel

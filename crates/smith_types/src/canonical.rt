@@ -5,6 +5,7 @@ ghost use Rattle.std.specs.List.{AllByRecursion, list_all};
 ghost use Rattle.std.specs.Option.{is_some};
 ghost use Rattle.smith_format.specs.Shown.{shown_func};
 ghost use Rattle.smith_input.specs.Choices.{ReadsAmong};
+ghost use Rattle.smith_input.specs.Consumes.{Consumes};
 ghost use Rattle.smith_input.specs.Reading.{IsTail};
 ghost use Rattle.smith_syntax.specs.Entries.{Signature};
 ghost use Rattle.smith_syntax.specs.Flat.{flat_value, is_scalar, Flattens};
@@ -77,8 +78,7 @@ fn lifted_params(
 ) -> Result<Vec<(String, ComponentValType)>, Error>
     requires { AllByRecursion IsLiftable core.now }
     ensures reads { IfOk result (λ v. ReadsParams [] core.now u.old (map named v.items) u.new) }
-    ensures memory { IfErr result (λ e. e ≡ Error.OutOfMemory) }
-    ensures tail { IsTail u.new u.old }
+    ensures input { Consumes result u.old u.new }
 {
     let mut params = Vec::with_capacity(alloc, core.len())?;
     for ty in core {
@@ -106,8 +106,7 @@ pub fn inverse_scalar_canonical_abi_for(
         → Named (map (λ p. p.0) s.params) → AreReadableNames (map (λ p. p.0) s.params)
         → u.old ≡ script_lifted s ++ rest
         → IfOk result (λ f. (f ≡ s) × (u.new ≡ rest)) }
-    ensures memory { IfErr result (λ e. e ≡ Error.OutOfMemory) }
-    ensures tail { IsTail u.new u.old }
+    ensures input { Consumes result u.old u.new }
 {
     let params = lifted_params(alloc, u, &core.params)?;
     let result = lifted_primitive(u, core.results[0]);

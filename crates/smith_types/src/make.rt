@@ -12,21 +12,15 @@ mod references;
 mod scoped;
 mod values;
 
-ghost use Rattle.std.specs.Prelude.{◌≡◌, ◌+◌, ◌≤◌, ◌++◌, ℕ, List, length, max, true, IfOk, IfErr};
-ghost use Rattle.smith_input.specs.Reading.{IsTail};
-ghost use Rattle.smith_format.specs.Limits.{configured};
-ghost use Rattle.smith_format.specs.Consistency.{IsConsistent};
-ghost use Rattle.smith_types.specs.Made.{Made};
+ghost use Rattle.std.specs.Prelude.{◌≡◌, ◌++◌, ℕ, List, true, IfOk};
+ghost use Rattle.smith_input.specs.Consumes.{Consumes};
+ghost use Rattle.smith_types.specs.MakingTypes.{CanReadTypes, MadeToFit};
 ghost use Rattle.smith_types.specs.Sayable.{IsSayable};
 ghost use Rattle.smith_tree.specs.TypeScript.{script_type};
-ghost use Rattle.smith_scopes.specs.Scopes.{own_marked, own_scope, outer_marked, outer_scopes};
+ghost use Rattle.smith_scopes.specs.Scopes.{own_marked, outer_marked};
 ghost use Rattle.smith_syntax.specs.Entries.{Entry};
 ghost use Rattle.smith_syntax.specs.Shown.{full_type, shown_shared};
-ghost use Rattle.smith_syntax.specs.TypeLimits.{EntryLimits};
 ghost use Rattle.smith_syntax.specs.Marked.{mark};
-ghost use Rattle.smith_syntax.specs.Usable.{OfferedEntry};
-ghost use Rattle.smith_syntax.specs.Nesting.{nesting};
-ghost use Rattle.smith_syntax.specs.WellFormed.{FormedEntry, size};
 
 pub use externs::{ExternNames, named_extern};
 use kinds::made_type;
@@ -58,27 +52,16 @@ pub fn arbitrary_type(
     scopes: &mut Scopes,
     fuel: &mut u32,
 ) -> Result<Rc<DefType>, Error>
-    requires valtypes { valtypes.now ≡ configured config.now }
-    requires consistent { IsConsistent config.now }
-    requires shallow { length scopes.old ≤ 1001 }
-    ensures made { IfOk result (λ t. Made config.now (own_marked scopes.old) (outer_marked scopes.old) u.old fuel.old
-        (full_type t.value) u.new fuel.new) }
-    ensures formed { IfOk result (λ t. FormedEntry (shown_shared t) (own_scope scopes.old)
-        (outer_scopes scopes.old)) }
-    ensures offered { IfOk result (λ t. OfferedEntry (shown_shared t) (own_marked scopes.old)
-        (outer_marked scopes.old)) }
-    ensures limits { IfOk result (λ t. EntryLimits config.now (shown_shared t)) }
-    ensures nesting { IfOk result (λ t. length scopes.old + nesting (shown_shared t)
-        ≤ max (length scopes.old + 1) config.now.max_nesting_depth) }
-    ensures size { IfOk result (λ t. size (shown_shared t) + fuel.new ≤ fuel.old) }
+    requires { CanReadTypes config.now valtypes.now scopes.old }
+    ensures made { IfOk result
+        (λ t. MadeToFit config.now scopes.old u.old fuel.old (full_type t.value) u.new fuel.new) }
     // The script of a type produces that type.
     ensures script { (e : Entry) (rest : List ℕ)
         → IsSayable config.now (own_marked scopes.old) (outer_marked scopes.old) fuel.old e
         → u.old ≡ script_type e config.now fuel.old (own_marked scopes.old) (outer_marked scopes.old) ++ rest
         → IfOk result (λ t. (shown_shared t ≡ e) × (u.new ≡ rest)) }
     ensures scopes { scopes.new ≡ scopes.old }
-    ensures memory { IfErr result (λ e. e ≡ Error.OutOfMemory) }
-    ensures tail { IsTail u.new u.old }
+    ensures input { Consumes result u.old u.new }
 {
     let (made, _) = arbitrary_marked_type(alloc, u, config, valtypes, scopes, fuel)?;
     Ok(made)
@@ -93,29 +76,18 @@ pub fn arbitrary_marked_type(
     scopes: &mut Scopes,
     fuel: &mut u32,
 ) -> Result<(Rc<DefType>, Mark), Error>
-    requires valtypes { valtypes.now ≡ configured config.now }
-    requires consistent { IsConsistent config.now }
-    requires shallow { length scopes.old ≤ 1001 }
-    ensures made { IfOk result (λ t. Made config.now (own_marked scopes.old) (outer_marked scopes.old) u.old fuel.old
-        (full_type t.0.value) u.new fuel.new) }
-    ensures formed { IfOk result (λ t. FormedEntry (shown_shared t.0) (own_scope scopes.old)
-        (outer_scopes scopes.old)) }
-    ensures offered { IfOk result (λ t. OfferedEntry (shown_shared t.0) (own_marked scopes.old)
-        (outer_marked scopes.old)) }
+    requires { CanReadTypes config.now valtypes.now scopes.old }
+    ensures made { IfOk result
+        (λ t. MadeToFit config.now scopes.old u.old fuel.old (full_type t.0.value) u.new fuel.new) }
     ensures mark { IfOk result (λ t. (own_marked scopes.old).keeps ≡ true
         → t.1 ≡ mark (shown_shared t.0) (own_marked scopes.old) (outer_marked scopes.old)) }
-    ensures limits { IfOk result (λ t. EntryLimits config.now (shown_shared t.0)) }
-    ensures nesting { IfOk result (λ t. length scopes.old + nesting (shown_shared t.0)
-        ≤ max (length scopes.old + 1) config.now.max_nesting_depth) }
-    ensures size { IfOk result (λ t. size (shown_shared t.0) + fuel.new ≤ fuel.old) }
     // The script of a type produces that type.
     ensures script { (e : Entry) (rest : List ℕ)
         → IsSayable config.now (own_marked scopes.old) (outer_marked scopes.old) fuel.old e
         → u.old ≡ script_type e config.now fuel.old (own_marked scopes.old) (outer_marked scopes.old) ++ rest
         → IfOk result (λ t. (shown_shared t.0 ≡ e) × (u.new ≡ rest)) }
     ensures scopes { scopes.new ≡ scopes.old }
-    ensures memory { IfErr result (λ e. e ≡ Error.OutOfMemory) }
-    ensures tail { IsTail u.new u.old }
+    ensures input { Consumes result u.old u.new }
 {
     let making = Making {
         alloc,

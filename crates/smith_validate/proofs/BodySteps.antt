@@ -108,25 +108,25 @@ module _ (asks : Bool) (k : Known) (o : KeptBody) (b : Body) (outer : List FactS
         m (names_grown place (names_of b.exports ++ named) table new g) g x b.exports r.1)),
   )
 
-  module _ (new : Known) (p : KeptBody) (outers : new.outer.items ≡ k.outer.items) (role : p.role ≡ o.role) where
+  module _ (new : Known) (p : KeptBody) (outers : new.scopes.outer.items ≡ k.scopes.outer.items) (role : p.role ≡ o.role) where
     -- a type is added
-    pub body_push : (kept : KeptFacts) (f : Facts) (table2 : List Surface) → new.own.types.items ≡ k.own.types.items ++ kept ∷ []
+    pub body_push : (kept : KeptFacts) (f : Facts) (table2 : List Surface) → new.scopes.own.types.items ≡ k.scopes.own.types.items ++ kept ∷ []
         → IsGrown place table table2 → AreExact new.instances.items table2 → AreAdded (next_at b.own outer) table2 → length new.instances.items ≡ length table2
         → IsKeptExactly table2 (next_at b.own outer) ((names_of b.exports ++ named) ++ names_in table2) kept f
         → IsBodyExactlyNow asks new p (with_facts b (f ∷ [])) outer named place table
     body_push kept f table2 types g exact added long is =
         let m = moves_next (length b.own.types) (id_at outer) in
         let N = names_of b.exports ++ named in
-        let pushed = known_push k.own.types.items (reverse (map (λ s. s.types.items) k.outer.items)) k.instances.items b.own outer N table h.known
+        let pushed = known_push k.scopes.own.types.items (reverse (map (λ s. s.types.items) k.scopes.outer.items)) k.instances.items b.own outer N table h.known
         new.instances.items N table2 kept f g exact added long (names_grown place N table table2 g) (λ id a. m.before 0 id (h.known.named_before id a)) is in
         let at = next_is b.own outer f in
         record {
           new = table2;
           grown = g;
           is = record {
-            known = subst (λ ts. AreKnown (ts ∷ reverse (map (λ (s : Scope). s.types.items) new.outer.items)) new.instances.items
+            known = subst (λ ts. AreKnown (ts ∷ reverse (map (λ (s : Scope). s.types.items) new.scopes.outer.items)) new.instances.items
                 (with_types b.own (f ∷ []) ∷ outer) N table2) (sym types)
-                (subst (λ (os : List Scope). AreKnown ((k.own.types.items ++ kept ∷ []) ∷ reverse (map (λ s. s.types.items) os)) new.instances.items
+                (subst (λ (os : List Scope). AreKnown ((k.scopes.own.types.items ++ kept ∷ []) ∷ reverse (map (λ s. s.types.items) os)) new.instances.items
                 (with_types b.own (f ∷ []) ∷ outer) N table2) (sym outers) pushed);
             depth_is = h.depth_is ∙ ap (λ (os : List Scope). length os) (sym outers);
             exports_are = λ id a.
@@ -141,16 +141,16 @@ module _ (asks : Bool) (k : Known) (o : KeptBody) (b : Body) (outer : List FactS
         }
 
     -- nothing is
-    pub body_as : (c : Body) → new.own.types.items ≡ k.own.types.items → new.instances.items ≡ k.instances.items → c.own.types ≡ b.own.types
+    pub body_as : (c : Body) → new.scopes.own.types.items ≡ k.scopes.own.types.items → new.instances.items ≡ k.instances.items → c.own.types ≡ b.own.types
         → c.imports ≡ b.imports → c.exports ≡ b.exports → IsBodyExactlyNow asks new p c outer named place table
     body_as c types instances own imports exports =
         let P : List Facts → List Extern → List Extern → Type 0 = λ ts is es. IsBodyExactly asks new p
         (record { own = record { types = ts; core_types = c.own.core_types }; imports = is; exports = es; size = c.size; counts = c.counts })
         outer named table in
         let known = subst (λ is. AreKnown (types_in new) is (b.own ∷ outer) (names_of b.exports ++ named) table) (sym instances)
-        (subst (λ ts. AreKnown (ts ∷ reverse (map (λ (s : Scope). s.types.items) new.outer.items)) k.instances.items (b.own ∷ outer)
+        (subst (λ ts. AreKnown (ts ∷ reverse (map (λ (s : Scope). s.types.items) new.scopes.outer.items)) k.instances.items (b.own ∷ outer)
         (names_of b.exports ++ named) table) (sym types)
-        (subst (λ (os : List Scope). AreKnown (k.own.types.items ∷ reverse (map (λ s. s.types.items) os)) k.instances.items (b.own ∷ outer)
+        (subst (λ (os : List Scope). AreKnown (k.scopes.own.types.items ∷ reverse (map (λ s. s.types.items) os)) k.instances.items (b.own ∷ outer)
         (names_of b.exports ++ named) table) (sym outers) h.known)) in
         let it : P b.own.types b.imports b.exports = record {
           known = record {

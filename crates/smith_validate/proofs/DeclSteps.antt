@@ -1,7 +1,7 @@
 -- The declarations of a component type or an instance type one by one.
 use Rattle.std.proofs.Common.{◌≡◌, ℕ, ◌+◌, ◌<◌, ◌≤◌, Bool, List, [], ◌∷◌, ◌++◌, map, length, reverse, get_or, ap}
 use Rattle.std.proofs.Common.{sym, ◌∙◌, subst, refl, arith, Option, Some, None}
-use Rattle.std.proofs.Common.{append-nil, append_assoc, length-append}
+use Rattle.std.proofs.Common.{length-append}
 use Rattle.std.proofs.lemmas.List.{map-append, reverse-append}
 use Rattle.std.proofs.Math.ListN.{drop}
 use Rattle.std.proofs.lemmas.Option.{slice_get-map}
@@ -16,18 +16,17 @@ use Rattle.smith_tree.specs.Facts.{FactScope, Id}
 use Rattle.smith_tree.specs.Validates.{ValidDecl, ValidDecls}
 use Rattle.smith_read.specs.TypeNodes.{shown_decl_node}
 use Rattle.smith_read.specs.declared.type_nodes.DeclNode.{DeclNode}
-use Rattle.smith_validate.specs.Bodies.{IsBody, IsBodyNow, IsEmpty, IsFresh, IsIn, IsRole}
+use Rattle.smith_validate.specs.Bodies.{IsBody, IsEmpty, IsFresh, IsIn, IsRole}
 use Rattle.smith_validate.specs.Instances.{AreKept, Surface, IsTable, ScopesKept}
 use Rattle.smith_validate.specs.Judges.{Refutes}
-use Rattle.smith_syntax.specs.Sizes.{capped}
-use Rattle.smith_validate.specs.Kept.{Kept, kept_core, kept_in, kept_of, named_at, outer_in, outer_types, own_in, types_in}
+use Rattle.smith_validate.specs.Kept.{Kept, kept_in, kept_of, named_at, outer_in, outer_types, own_in, types_in}
 use Rattle.smith_validate.specs.Nested.{IsJudged}
+use Rattle.smith_validate.specs.Steps.{Later}
 use Rattle.smith_validate.specs.declared.body.Body.{Body as KeptBody}
 use Rattle.smith_validate.specs.declared.error.Stop.{Stop}
-use Rattle.smith_validate.specs.declared.facts.CoreFacts.{CoreFacts as KeptCore}
 use Rattle.smith_validate.specs.declared.known.Known.{Known}
 use Rattle.smith_validate.specs.declared.known.Scope.{Scope}
-use Rattle.smith_validate.proofs.Judging.{refute_by}
+use Rattle.smith_validate.proofs.Judging.{later_more, later_none, refute_by}
 use Rattle.smith_validate.proofs.Roles.{role_fresh}
 use Rattle.smith_validate.proofs.Tables.{are_kept_more, scopes_more}
 
@@ -51,67 +50,58 @@ pub scopes_kept : (k : Known) (own : FactScope) (outer : List FactScope) (here :
     → IsIn k own outer here names table → own_in k ∷ outer_in k ≡ map kept_of (own ∷ outer)
 scopes_kept k own outer here names table s = ap (λ o. o ∷ outer_in k) s.own_is ∙ ap (λ os. kept_of own ∷ os) s.outer_is
 
-module _ (count i : ℕ) where
-  types_of_scope : (o : Option FactScope)
-      → (elim (option_map kept_of o) as (λ x. Option ℕ) [ None ↦ None | Some s ↦ slice_get s.types i ])
-      ≡ option_map (λ f. capped f.size) (elim o [ None ↦ None | Some s ↦ slice_get s.types i ])
-  types_of_scope None = refl
-  types_of_scope (Some s) = slice_get-map (λ f. capped f.size) s.types i
+module _ {A B : Type 0} (f : A → B) (in_kept : Kept → List B) (in_plain : FactScope → List A)
+    (same : (s : FactScope) → in_kept (kept_of s) ≡ map f (in_plain s))
+    (count i : ℕ) where
+  of_scope : (o : Option FactScope)
+      → (elim (option_map kept_of o) as (λ x. Option B) [ None ↦ None | Some s ↦ slice_get (in_kept s) i ])
+      ≡ option_map f (elim o [ None ↦ None | Some s ↦ slice_get (in_plain s) i ])
+  of_scope None = refl
+  of_scope (Some s) = ap (λ xs. slice_get xs i) (same s) ∙ slice_get-map f (in_plain s) i
 
-  pub type_kept : (scopes : List FactScope) → named_at (λ s. s.types) (map kept_of scopes) count i
-      ≡ option_map (λ f. capped f.size) (named_in (λ s. s.types) scopes count i)
-  type_kept scopes =
-      let F : Option Kept → Option ℕ = λ o. elim o [ None ↦ None | Some s ↦ slice_get s.types i ] in
-      ap F (slice_get-map kept_of scopes count) ∙ types_of_scope (slice_get scopes count)
-
-  cores_of_scope : (o : Option FactScope)
-      → (elim (option_map kept_of o) as (λ x. Option KeptCore) [ None ↦ None | Some s ↦ slice_get s.core_types i ])
-      ≡ option_map kept_core (elim o [ None ↦ None | Some s ↦ slice_get s.core_types i ])
-  cores_of_scope None = refl
-  cores_of_scope (Some s) = slice_get-map kept_core s.core_types i
-
-  pub core_kept : (scopes : List FactScope) → named_at (λ s. s.core_types) (map kept_of scopes) count i
-      ≡ option_map kept_core (named_in (λ s. s.core_types) scopes count i)
-  core_kept scopes =
-      let F : Option Kept → Option KeptCore = λ o. elim o [ None ↦ None | Some s ↦ slice_get s.core_types i ] in
-      ap F (slice_get-map kept_of scopes count) ∙ cores_of_scope (slice_get scopes count)
+  pub named_kept : (scopes : List FactScope) → named_at in_kept (map kept_of scopes) count i ≡ option_map f (named_in in_plain scopes count i)
+  named_kept scopes =
+      let F : Option Kept → Option B = λ o. elim o [ None ↦ None | Some s ↦ slice_get (in_kept s) i ] in
+      ap F (slice_get-map kept_of scopes count) ∙ of_scope (slice_get scopes count)
 
 -- the scopes after one was entered, and after one was left
 
-outer_sizes : (old : Known) (os : List Scope) → os ≡ old.outer.items ++ old.own ∷ [] → reverse (map kept_in os) ≡ own_in old ∷ outer_in old
+outer_sizes : (old : Known) (os : List Scope) → os ≡ old.scopes.outer.items ++ old.scopes.own ∷ [] → reverse (map kept_in os) ≡ own_in old ∷ outer_in old
 outer_sizes old os e =
     ap (λ xs. reverse (map kept_in xs)) e
-    ∙ (ap reverse (map-append kept_in old.outer.items (old.own ∷ [])) ∙ reverse-append (map kept_in old.outer.items) (kept_in old.own ∷ []))
+    ∙ (ap reverse (map-append kept_in old.scopes.outer.items (old.scopes.own ∷ [])) ∙ reverse-append (map kept_in old.scopes.outer.items)
+    (kept_in old.scopes.own ∷ []))
 
-pub outer_kept : (old : Known) (os : List Scope) → os ≡ old.outer.items ++ old.own ∷ [] → reverse (map (λ o. o.types.items) os) ≡ types_in old
+pub outer_kept : (old : Known) (os : List Scope) → os ≡ old.scopes.outer.items ++ old.scopes.own ∷ [] → reverse (map (λ o. o.types.items) os) ≡ types_in old
 outer_kept old os e =
     ap (λ xs. reverse (map (λ o. o.types.items) xs)) e
-    ∙ (ap reverse (map-append (λ o. o.types.items) old.outer.items (old.own ∷ []))
-    ∙ reverse-append (map (λ o. o.types.items) old.outer.items) (old.own.types.items ∷ []))
+    ∙ (ap reverse (map-append (λ o. o.types.items) old.scopes.outer.items (old.scopes.own ∷ []))
+    ∙ reverse-append (map (λ o. o.types.items) old.scopes.outer.items) (old.scopes.own.types.items ∷ []))
 
 module _ (k new : Known) (own : FactScope) (outer : List FactScope) (here : List Id) (names : List (List Id)) (table : List Surface)
     (s : IsIn k own outer here names table) where
-  pub in_entered : own_in new ≡ empty_scope → new.own.types.items ≡ [] → new.outer.items ≡ k.outer.items ++ k.own ∷ []
+  pub in_entered : own_in new ≡ empty_scope → new.scopes.own.types.items ≡ [] → new.scopes.outer.items ≡ k.scopes.outer.items ++ k.scopes.own ∷ []
       → new.instances.items ≡ k.instances.items → IsIn new empty_scope (own ∷ outer) [] (here ∷ names) table
   in_entered sizes types outers instances = record {
     own_is = sizes;
-    outer_is = outer_sizes k new.outer.items outers ∙ scopes_kept k own outer here names table s;
+    outer_is = outer_sizes k new.scopes.outer.items outers ∙ scopes_kept k own outer here names table s;
     types_are = (
       subst (λ ks. AreKept table ([] ∷ here ∷ names) ks []) (sym types) tt,
-      subst (λ kss. ScopesKept table (here ∷ names) kss (own ∷ outer)) (sym (outer_kept k new.outer.items outers)) s.types_are,
+      subst (λ kss. ScopesKept table (here ∷ names) kss (own ∷ outer)) (sym (outer_kept k new.scopes.outer.items outers)) s.types_are,
     );
     instances_are = subst (λ ts. IsTable ts table) (sym instances) s.instances_are;
-    depth_is = omega (arith, s.depth_is, ap (λ (os : List Scope). length os) outers, length-append k.outer.items (k.own ∷ []));
+    depth_is = omega (arith, s.depth_is, ap (λ (os : List Scope). length os) outers, length-append k.scopes.outer.items (k.scopes.own ∷ []));
   }
 
-  pub in_again : (more : List Surface) → new.own ≡ k.own → new.outer.items ≡ k.outer.items → IsTable new.instances.items (table ++ more)
+  pub in_again : (more : List Surface) → new.scopes.own ≡ k.scopes.own → new.scopes.outer.items ≡ k.scopes.outer.items
+      → IsTable new.instances.items (table ++ more)
       → IsIn new own outer here names (table ++ more)
   in_again more same outers instances = record {
     own_is = ap kept_in same ∙ s.own_is;
     outer_is = ap (λ os. reverse (map kept_in os)) outers ∙ s.outer_is;
     types_are = (
       subst (λ (o : Scope). AreKept (table ++ more) (here ∷ names) o.types.items own.types) (sym same)
-          (are_kept_more table more (here ∷ names) k.own.types.items own.types s.types_are.0),
+          (are_kept_more table more (here ∷ names) k.scopes.own.types.items own.types s.types_are.0),
       subst (λ (os : List Scope). ScopesKept (table ++ more) names (reverse (map (λ o. o.types.items) os)) outer) (sym outers)
           (scopes_more table more names (outer_types k) outer s.types_are.1),
     );
@@ -134,16 +124,6 @@ last_same (z ∷ xs) (w ∷ ys) x y e =
     let r = last_same xs ys x y (let u : xs ++ x ∷ [] ≡ ys ++ y ∷ [] = cc in u) in
     (r.0, ap (λ v. v ∷ xs) h ∙ ap (λ vs. w ∷ vs) r.1)
 
--- with more types of instances, or none
-
-pub body_now : (asks : Bool) (k : Known) (o : KeptBody) (b : Body) (outer : List FactScope) (names : List (List Id)) (table : List Surface)
-    → IsBody asks k o b outer names table → IsBodyNow asks k o b outer names table
-body_now asks k o b outer names table h = ([], subst (λ t. IsBody asks k o b outer names t) (sym (append-nil table)) h)
-
-pub body_more : (asks : Bool) (k : Known) (o : KeptBody) (b : Body) (outer : List FactScope) (names : List (List Id)) (table more : List Surface)
-    → IsBodyNow asks k o b outer names (table ++ more) → IsBodyNow asks k o b outer names table
-body_more asks k o b outer names table more h = (more ++ h.0, subst (λ t. IsBody asks k o b outer names t) (append_assoc table more h.0) h.1)
-
 -- What was judged and what is left are the whole, if b precedes what is left.
 pub record DeclsLeft (asks : Bool) (own : FactScope) (outer : List FactScope) (names : List (List Id)) (table : List Surface) (all : Decls)
     (k : Known) (o : KeptBody)
@@ -157,10 +137,11 @@ pub record DeclsLeft (asks : Bool) (own : FactScope) (outer : List FactScope) (n
 
 module _ (asks : Bool) (own : FactScope) (outer : List FactScope) (all : Decls) where
   pub decls_begin : (here : List Id) (names : List (List Id)) (table : List Surface) (k new : Known) (o : KeptBody) → IsIn k own outer here names table
-      → IsEmpty o → IsFresh asks o.role → own_in new ≡ empty_scope → new.own.types.items ≡ [] → new.outer.items ≡ k.outer.items ++ k.own ∷ []
+      → IsEmpty o → IsFresh asks o.role → own_in new ≡ empty_scope → new.scopes.own.types.items ≡ []
+      → new.scopes.outer.items ≡ k.scopes.outer.items ++ k.scopes.own ∷ []
       → new.instances.items ≡ k.instances.items → DeclsLeft asks own outer (here ∷ names) table all new o all
   decls_begin here names table k new o s e f n t r i =
-      let begin = body_now asks new o empty_body (own ∷ outer) (here ∷ names) table
+      let begin = later_none (IsBody asks new o) empty_body (own ∷ outer) (here ∷ names) table
       (record {
         scopes = in_entered k new own outer here names table s n t r i;
         size_is = e.size_is;
@@ -181,9 +162,9 @@ module _ (asks : Bool) (own : FactScope) (outer : List FactScope) (all : Decls) 
       (l : DeclsLeft asks own outer names table all k o (then_decls d rest)) where
     pub decls_more : (new : Known) (p : KeptBody)
         → ValidDecl everything asks d (own ∷ outer) l.b × IsSmall everything (after_decl d (own ∷ outer) l.b)
-        → IsBodyNow asks new p (after_decl d (own ∷ outer) l.b) (own ∷ outer) names (table ++ l.more) → DeclsLeft asks own outer names table all new p rest
+        → Later (IsBody asks new p) (after_decl d (own ∷ outer) l.b) (own ∷ outer) names (table ++ l.more) → DeclsLeft asks own outer names table all new p rest
     decls_more new p j n =
-        let now = body_more asks new p (after_decl d (own ∷ outer) l.b) (own ∷ outer) names table l.more n in
+        let now = later_more (IsBody asks new p) (after_decl d (own ∷ outer) l.b) (own ∷ outer) names table l.more n in
         record {
           b = after_decl d (own ∷ outer) l.b;
           more = now.0;
@@ -230,7 +211,7 @@ module _ (asks : Bool) (own : FactScope) (outer : List FactScope) (names : List 
       subst (λ ys. DeclsLeft asks own outer names table (in_order (map shown_decl_node ds)) k o (in_order (map shown_decl_node ys))) (drop_past ds i h) l
 
 -- nothing is known before a component
-pub in_start : (k : Known) → own_in k ≡ empty_scope → k.own.types.items ≡ [] → k.outer.items ≡ [] → k.instances.items ≡ []
+pub in_start : (k : Known) → own_in k ≡ empty_scope → k.scopes.own.types.items ≡ [] → k.scopes.outer.items ≡ [] → k.instances.items ≡ []
     → IsIn k empty_scope [] [] [] []
 in_start k sizes types outers instances = record {
   own_is = sizes;

@@ -62,25 +62,27 @@ module _ (k : Known) (own : FactScope) (outer : List FactScope) (named : List Id
 
   -- a type of values or of functions
   pub declared_values : (g : KeptFacts) (f : Facts) (vs : List ComponentValType) → AllByRecursion (IsOfValues own.types) vs
-      → HasMarks g f.nominal (marks_from k.own.types.items no_needs vs) → f.id ≡ place → f.exports ≡ []
+      → HasMarks g f.nominal (marks_from k.scopes.own.types.items no_needs vs) → f.id ≡ place → f.exports ≡ []
       → f.refers ≡ flat_map (value_needs own.types) vs → IsDeclaredExactly own outer named table k g f
   declared_values g f vs usual marks id none refers =
       let m = moves_next (length own.types) (id_at outer) in
       let next = next_at own outer in
-      let found = marks_attained table place full k.own.types.items own.types h.types_are.0 vs no_needs [] usual (attains_nothing place full []) in
-      let moved = attains_moves place next full full m (λ x y z. y) (marks_from k.own.types.items no_needs vs) (flat_map (value_needs own.types) vs) found in
+      let found = marks_attained table place full k.scopes.own.types.items own.types h.types_are.0 vs no_needs [] usual (attains_nothing place full []) in
+      let moved = attains_moves place next full full m (λ x y z. y) (marks_from k.scopes.own.types.items no_needs vs) (flat_map (value_needs own.types) vs)
+      found in
       record {
         new = table;
         grown = grown_same place table;
         instances_are = h.instances_are;
         added = added_moves place next table m h.added;
         long = h.long;
-        is = fact_exact table (length own.types) (id_at outer) full g f (marks_from k.own.types.items no_needs vs) marks id none
-            (λ x a. m.before 0 x (members_before table place full k.own.types.items own.types h.types_are.0 vs x
+        is = fact_exact table (length own.types) (id_at outer) full g f (marks_from k.scopes.own.types.items no_needs vs) marks id none
+            (λ x a. m.before 0 x (members_before table place full k.scopes.own.types.items own.types h.types_are.0 vs x
             (subst (λ ids. is_among ids x ≡ true) refers a)))
-            (subst (λ ids. Attains next full (marks_from k.own.types.items no_needs vs) ids) (sym refers) moved)
+            (subst (λ ids. Attains next full (marks_from k.scopes.own.types.items no_needs vs) ids) (sym refers) moved)
             (λ e. is_false (is_among full place) (λ a. not_under 0 place place
-            (all_before k.own.types.items (reverse (map (λ (s : Scope). s.types.items) k.outer.items)) k.instances.items own outer named table h place a)
+            (all_before k.scopes.own.types.items (reverse (map (λ (s : Scope). s.types.items) k.scopes.outer.items)) k.instances.items own outer named table h
+            place a)
             (under_same place)));
       }
 
@@ -99,7 +101,7 @@ declared_component asks k o b own outer named table size f j plain id none nothi
 
 -- an alias
 module _ (asks : Bool) (k : Known) (o : KeptBody) (b : Body) (outer : List FactScope) (named : List Id) (table : List Surface)
-    (h : IsBodyExactly asks k o b outer named table) (new : Known) (p : KeptBody) (outers : new.outer.items ≡ k.outer.items)
+    (h : IsBodyExactly asks k o b outer named table) (new : Known) (p : KeptBody) (outers : new.scopes.outer.items ≡ k.scopes.outer.items)
     (instances : new.instances.items ≡ k.instances.items) (role : p.role ≡ o.role) where
   abbrev here : Id
   here = id_at (b.own ∷ outer)
@@ -108,10 +110,10 @@ module _ (asks : Bool) (k : Known) (o : KeptBody) (b : Body) (outer : List FactS
   all = (names_of b.exports ++ named) ++ names_in table
 
   pub body_alias : (x : Option KeptFacts) (y : Option Facts) → AllZip (IsKeptExactly table here all) (option_to_list x) (option_to_list y)
-      → new.own.types.items ≡ k.own.types.items ++ option_to_list x
+      → new.scopes.own.types.items ≡ k.scopes.own.types.items ++ option_to_list x
       → IsBodyExactlyNow asks new p (with_facts b (option_to_list y)) outer named here table
   body_alias None None a types =
-      body_as asks k o b outer named table h new p outers role (with_facts b []) (types ∙ append-nil k.own.types.items) instances
+      body_as asks k o b outer named table h new p outers role (with_facts b []) (types ∙ append-nil k.scopes.own.types.items) instances
       (append-nil b.own.types) refl refl
   body_alias None (Some f) a types = absurd a
   body_alias (Some g) None a types = absurd a
@@ -126,7 +128,8 @@ module _ (asks : Bool) (k : Known) (o : KeptBody) (b : Body) (outer : List FactS
 pub body_declared_exactly : (asks : Bool) (k : Known) (o : KeptBody) (b : Body) (outer : List FactScope) (named : List Id) (table : List Surface)
     → IsBodyExactly asks k o b outer named table → (mid new : Known) (p : KeptBody) (g : KeptFacts) (f : Facts)
     → IsDeclaredExactly b.own outer (names_of b.exports ++ named) table mid g f
-    → mid.own ≡ k.own → mid.outer.items ≡ k.outer.items → new.own.types.items ≡ mid.own.types.items ++ g ∷ [] → new.outer.items ≡ mid.outer.items
+    → mid.scopes.own ≡ k.scopes.own → mid.scopes.outer.items ≡ k.scopes.outer.items → new.scopes.own.types.items ≡ mid.scopes.own.types.items ++ g ∷ []
+    → new.scopes.outer.items ≡ mid.scopes.outer.items
     → new.instances.items ≡ mid.instances.items → p.role ≡ o.role
     → IsBodyExactlyNow asks new p (with_facts b (f ∷ [])) outer named (id_at (b.own ∷ outer)) table
 body_declared_exactly asks k o b outer named table h mid new p g f d own out types outers instances role =
@@ -163,36 +166,42 @@ role_fresh_exactly table outer named asks (Exporting e) f = (
 )
 
 -- an empty scope within
-pub entered_exactly : (asks : Bool) (k new : Known) (o : KeptBody) (own : FactScope) (outer : List FactScope) (named : List Id) (table : List Surface)
-    → AreKnown (types_in k) k.instances.items (own ∷ outer) named table → length outer ≡ length k.outer.items → IsFresh asks o.role
-    → new.own.types.items ≡ [] → new.outer.items ≡ k.outer.items ++ k.own ∷ [] → new.instances.items ≡ k.instances.items
-    → IsBodyExactly asks new o empty_body (own ∷ outer) named table
-entered_exactly asks k new o own outer named table h d fresh types outers instances =
-    let kept = reverse (map (λ (s : Scope). s.types.items) k.outer.items) in
-    let entered = known_entered k.own.types.items kept k.instances.items own outer named table h in
-    let scopes : reverse (map (λ (s : Scope). s.types.items) new.outer.items) ≡ types_in k =
-    outer_kept k new.outer.items outers in
-    record {
-      known = subst (λ is. AreKnown (types_in new) is (empty_scope ∷ own ∷ outer) named table) (sym instances)
-          (subst (λ ts. AreKnown (ts ∷ reverse (map (λ (s : Scope). s.types.items) new.outer.items)) k.instances.items (empty_scope ∷ own ∷ outer) named table)
-          (sym types) (subst (λ tss. AreKnown ([] ∷ tss) k.instances.items (empty_scope ∷ own ∷ outer) named table) (sym scopes) entered));
-      depth_is = omega (arith, d, ap (λ (os : List Scope). length os) outers, length-append k.outer.items (k.own ∷ []));
-      exports_are = λ id a. absurd (let z : false ≡ true = a in cc);
-      imports_are = λ id a. absurd (let z : false ≡ true = a in cc);
-      role_is = role_fresh_exactly table (own ∷ outer) named asks o.role fresh;
-    }
+
+pub entered_known : (k new : Known) (own : FactScope) (outer : List FactScope) (named : List Id) (table : List Surface)
+    → AreKnown (types_in k) k.instances.items (own ∷ outer) named table
+    → new.scopes.own.types.items ≡ [] → new.scopes.outer.items ≡ k.scopes.outer.items ++ k.scopes.own ∷ [] → new.instances.items ≡ k.instances.items
+    → AreKnown (types_in new) new.instances.items (empty_scope ∷ own ∷ outer) named table
+entered_known k new own outer named table h types outers instances =
+    let kept = reverse (map (λ (s : Scope). s.types.items) k.scopes.outer.items) in
+    let entered = known_entered k.scopes.own.types.items kept k.instances.items own outer named table h in
+    let scopes : reverse (map (λ (s : Scope). s.types.items) new.scopes.outer.items) ≡ types_in k = outer_kept k new.scopes.outer.items outers in
+    subst (λ is. AreKnown (types_in new) is (empty_scope ∷ own ∷ outer) named table) (sym instances)
+    (subst (λ ts. AreKnown (ts ∷ reverse (map (λ (s : Scope). s.types.items) new.scopes.outer.items)) k.instances.items (empty_scope ∷ own ∷ outer) named table)
+    (sym types) (subst (λ tss. AreKnown ([] ∷ tss) k.instances.items (empty_scope ∷ own ∷ outer) named table) (sym scopes) entered))
+
+pub empty_exactly : (asks : Bool) (k : Known) (o : KeptBody) (outer : List FactScope) (named : List Id) (table : List Surface)
+    → AreKnown (types_in k) k.instances.items (empty_scope ∷ outer) named table → length outer ≡ length k.scopes.outer.items → IsFresh asks o.role
+    → IsBodyExactly asks k o empty_body outer named table
+empty_exactly asks k o outer named table h d fresh = record {
+  known = h;
+  depth_is = d;
+  exports_are = λ id a. absurd (let z : false ≡ true = a in cc);
+  imports_are = λ id a. absurd (let z : false ≡ true = a in cc);
+  role_is = role_fresh_exactly table outer named asks o.role fresh;
+}
 
 module _ (asks : Bool) (own : FactScope) (outer : List FactScope) (named : List Id) (table : List Surface) (all : Decls) where
   pub exactly_begin : (k new : Known) (o : KeptBody)
-      → AreKnown (types_in k) k.instances.items (own ∷ outer) named table → length outer ≡ length k.outer.items → IsFresh asks o.role
+      → AreKnown (types_in k) k.instances.items (own ∷ outer) named table → length outer ≡ length k.scopes.outer.items → IsFresh asks o.role
       → AreUsualDecls asks all (own ∷ outer) empty_body
-      → new.own.types.items ≡ [] → new.outer.items ≡ k.outer.items ++ k.own ∷ [] → new.instances.items ≡ k.instances.items
+      → new.scopes.own.types.items ≡ [] → new.scopes.outer.items ≡ k.scopes.outer.items ++ k.scopes.own ∷ [] → new.instances.items ≡ k.instances.items
       → DeclsExactly asks own outer named table all new o all
   exactly_begin k new o h d fresh usual types outers instances = record {
     b = empty_body;
     new = table;
     grown = grown_same (id_at (own ∷ outer)) table;
-    is = entered_exactly asks k new o own outer named table h d fresh types outers instances;
+    is = empty_exactly asks new o (own ∷ outer) named table (entered_known k new own outer named table h types outers instances)
+        (omega (arith, d, ap (λ (os : List Scope). length os) outers, length-append k.scopes.outer.items (k.scopes.own ∷ []))) fresh;
     left = λ v. v;
     usual = usual;
     after = refl;

@@ -84,7 +84,7 @@ module _ (asks : Bool) (k : Known) (r : Role) (b : Body) (outer : List FactScope
         elim (among_cases (names_of b.imports) (names_of (externs_at b.own outer to)) id
         (subst (λ ids. is_among ids id ≡ true) (names_append b.imports (externs_at b.own outer to)) a)) [
           | inl x ↦ h.imports_are id x
-          | inr y ↦ other_names table (around ++ names_in table) b.own outer k.own.types.items h.known.types_are.0 to e id y
+          | inr y ↦ other_names table (around ++ names_in table) b.own outer k.scopes.own.types.items h.known.types_are.0 to e id y
         ];
     role_is = role;
   }
@@ -124,8 +124,9 @@ module _ (asks : Bool) (k : Known) (r : Role) (b : Body) (outer : List FactScope
           (b.exports ++ xs) w.1)),
     )
 
-  module _ (new : Known) (role : Role) (to : ComponentTypeRef) (outers : new.outer.items ≡ k.outer.items) (instances : new.instances.items ≡ k.instances.items)
-      (types : new.own.types.items ≡ k.own.types.items ++ exported_of k.own.types.items (length k.outer.items) to)
+  module _ (new : Known) (role : Role) (to : ComponentTypeRef) (outers : new.scopes.outer.items ≡ k.scopes.outer.items)
+      (instances : new.instances.items ≡ k.instances.items)
+      (types : new.scopes.own.types.items ≡ k.scopes.own.types.items ++ exported_of k.scopes.own.types.items (length k.scopes.outer.items) to)
       (exports : IsRoleExported table outer named asks role b (externs_at b.own outer to)) where
     abbrev xs : List Extern
     xs = externs_at b.own outer to
@@ -134,10 +135,10 @@ module _ (asks : Bool) (k : Known) (r : Role) (b : Body) (outer : List FactScope
     fs = exported_facts b.own outer to
 
     abbrev kept : List (List KeptFacts)
-    kept = reverse (map (λ (s : Scope). s.types.items) k.outer.items)
+    kept = reverse (map (λ (s : Scope). s.types.items) k.scopes.outer.items)
 
     -- no type is added
-    export_none : fs ≡ [] → exported_of k.own.types.items (length k.outer.items) to ≡ [] → Sub (names_of xs) (names_in table)
+    export_none : fs ≡ [] → exported_of k.scopes.own.types.items (length k.scopes.outer.items) to ≡ [] → Sub (names_of xs) (names_in table)
         → IsKeptBody asks new role (after_export outer b to) outer named table
     export_none none nothing table_names =
         let names : Names place (around ++ names_in table) (more xs ++ names_in table) = λ id a before.
@@ -146,19 +147,20 @@ module _ (asks : Bool) (k : Known) (r : Role) (b : Body) (outer : List FactScope
               [ inl y ↦ sub_left around (names_in table) id y | inr y ↦ sub_right around (names_in table) id (table_names id y) ]
           | inr x ↦ sub_right around (names_in table) id x
         ] in
-        let known = known_named k.own.types.items kept k.instances.items b.own outer around table h.known (more xs) names
+        let known = known_named k.scopes.own.types.items kept k.instances.items b.own outer around table h.known (more xs) names
         (λ id a. elim (more_cases xs id a)
         [ inl y ↦ h.known.named_before id y | inr y ↦ closed_before place id (h.known.added.closed id (table_names id y)) ]) in
         let same : b.own.types ++ fs ≡ b.own.types = ap (λ gs. b.own.types ++ gs) none ∙ append-nil b.own.types in
-        let own : new.own.types.items ≡ k.own.types.items = types ∙ (ap (λ ks. k.own.types.items ++ ks) nothing ∙ append-nil k.own.types.items) in
+        let own : new.scopes.own.types.items ≡ k.scopes.own.types.items = types ∙
+        (ap (λ ks. k.scopes.own.types.items ++ ks) nothing ∙ append-nil k.scopes.own.types.items) in
         let at : id_at (with_types b.own fs ∷ outer) ≡ place = ap (λ ts. length ts ∷ id_at outer) same in
         record {
           known = subst (λ ts. AreKnown (types_in new) new.instances.items (record { types = ts; core_types = b.own.core_types } ∷ outer) (more xs) table)
               (sym same)
               (subst (λ is. AreKnown (types_in new) is (b.own ∷ outer) (more xs) table) (sym instances)
-              (subst (λ ts. AreKnown (ts ∷ reverse (map (λ (s : Scope). s.types.items) new.outer.items)) k.instances.items (b.own ∷ outer)
+              (subst (λ ts. AreKnown (ts ∷ reverse (map (λ (s : Scope). s.types.items) new.scopes.outer.items)) k.instances.items (b.own ∷ outer)
               (more xs) table) (sym own)
-              (subst (λ (os : List Scope). AreKnown (k.own.types.items ∷ reverse (map (λ s. s.types.items) os)) k.instances.items (b.own ∷ outer)
+              (subst (λ (os : List Scope). AreKnown (k.scopes.own.types.items ∷ reverse (map (λ s. s.types.items) os)) k.instances.items (b.own ∷ outer)
               (more xs) table)
               (sym outers) known)));
           depth_is = h.depth_is ∙ ap (λ (os : List Scope). length os) (sym outers);
@@ -173,7 +175,7 @@ module _ (asks : Bool) (k : Known) (r : Role) (b : Body) (outer : List FactScope
 
     -- a type that is equal to that one is
     export_one : (g : KeptFacts) (f : Facts) → IsKeptExactly table place (around ++ names_in table) g f → fs ≡ equal_facts place f ∷ []
-        → exported_of k.own.types.items (length k.outer.items) to ≡ named_facts g (length k.outer.items) ∷ [] → names_of xs ≡ place ∷ []
+        → exported_of k.scopes.own.types.items (length k.scopes.outer.items) to ≡ named_facts g (length k.scopes.outer.items) ∷ [] → names_of xs ≡ place ∷ []
         → IsKeptBody asks new role (after_export outer b to) outer named table
     export_one g f is one added named_is =
         let count = length b.own.types in
@@ -192,25 +194,28 @@ module _ (asks : Bool) (k : Known) (r : Role) (b : Body) (outer : List FactScope
         ] in
         let depth = sym h.depth_is ∙ sym (scope_long (λ (s : FactScope). length s.types) outer) in
         let moved = kept_moves place next (around ++ names_in table) (more xs ++ names_in table) table table m names (grown_same place table) g f is in
-        let equal = equal_exact table count (id_at outer) (around ++ names_in table) (more xs ++ names_in table) names (length k.outer.items) depth g f moved in
-        let known = known_push k.own.types.items kept k.instances.items b.own outer around table h.known k.instances.items (more xs) table
-        (named_facts g (length k.outer.items)) (equal_facts place f) (grown_same place table) h.known.instances_are
+        let equal = equal_exact table count (id_at outer) (around ++ names_in table) (more xs ++ names_in table) names (length k.scopes.outer.items) depth g f
+        moved in
+        let known = known_push k.scopes.own.types.items kept k.instances.items b.own outer around table h.known k.instances.items (more xs) table
+        (named_facts g (length k.scopes.outer.items)) (equal_facts place f) (grown_same place table) h.known.instances_are
         (added_moves place next table m h.known.added) h.known.long names
         (λ id a. elim (more_cases xs id a) [
           | inl y ↦ m.before 0 id (h.known.named_before id y)
           | inr y ↦ subst (λ p. IsBefore 0 next p) (at_place id y) (open_before 0 next place open_here (omega arith))
         ]) equal in
         let same : b.own.types ++ fs ≡ b.own.types ++ equal_facts place f ∷ [] = ap (λ gs. b.own.types ++ gs) one in
-        let own : new.own.types.items ≡ k.own.types.items ++ named_facts g (length k.outer.items) ∷ [] = types ∙ ap (λ ks. k.own.types.items ++ ks) added in
+        let own : new.scopes.own.types.items ≡ k.scopes.own.types.items ++ named_facts g (length k.scopes.outer.items) ∷ [] = types ∙ ap
+        (λ ks. k.scopes.own.types.items ++ ks) added in
         let at : id_at (with_types b.own fs ∷ outer) ≡ next =
         ap (λ ts. length ts ∷ id_at outer) same ∙ next_is b.own outer (equal_facts place f) in
         record {
           known = subst (λ ts. AreKnown (types_in new) new.instances.items (record { types = ts; core_types = b.own.core_types } ∷ outer) (more xs) table)
               (sym same)
               (subst (λ is. AreKnown (types_in new) is (with_types b.own (equal_facts place f ∷ []) ∷ outer) (more xs) table) (sym instances)
-              (subst (λ ts. AreKnown (ts ∷ reverse (map (λ (s : Scope). s.types.items) new.outer.items)) k.instances.items
+              (subst (λ ts. AreKnown (ts ∷ reverse (map (λ (s : Scope). s.types.items) new.scopes.outer.items)) k.instances.items
               (with_types b.own (equal_facts place f ∷ []) ∷ outer) (more xs) table) (sym own)
-              (subst (λ (os : List Scope). AreKnown ((k.own.types.items ++ named_facts g (length k.outer.items) ∷ []) ∷ reverse (map (λ s. s.types.items) os))
+              (subst (λ (os : List Scope). AreKnown ((k.scopes.own.types.items ++ named_facts g (length k.scopes.outer.items) ∷ []) ∷ reverse
+              (map (λ s. s.types.items) os))
               k.instances.items (with_types b.own (equal_facts place f ∷ []) ∷ outer) (more xs) table)
               (sym outers) known)));
           depth_is = h.depth_is ∙ ap (λ (os : List Scope). length os) (sym outers);
@@ -229,35 +234,37 @@ module _ (asks : Bool) (k : Known) (r : Role) (b : Body) (outer : List FactScope
           role_is = role_after xs next m names role (after_export outer b to) refl refl at exports;
         }
 
-  pub export_exactly : (new : Known) (role : Role) (r : ComponentTypeRef) → new.outer.items ≡ k.outer.items → new.instances.items ≡ k.instances.items
-      → new.own.types.items ≡ k.own.types.items ++ exported_of k.own.types.items (length k.outer.items) r
+  pub export_exactly : (new : Known) (role : Role) (r : ComponentTypeRef) → new.scopes.outer.items ≡ k.scopes.outer.items
+      → new.instances.items ≡ k.instances.items
+      → new.scopes.own.types.items ≡ k.scopes.own.types.items ++ exported_of k.scopes.own.types.items (length k.scopes.outer.items) r
       → IsRoleExported table outer named asks role b (externs_at b.own outer r)
       → IsKeptBody asks new role (after_export outer b r) outer named table
   export_exactly new role (to.Module i) o n t e = export_none new role (to.Module i) o n t e refl refl
-      (other_names table (around ++ names_in table) b.own outer k.own.types.items h.known.types_are.0 (to.Module i) refl)
+      (other_names table (around ++ names_in table) b.own outer k.scopes.own.types.items h.known.types_are.0 (to.Module i) refl)
   export_exactly new role (to.Func i) o n t e = export_none new role (to.Func i) o n t e refl refl
-      (other_names table (around ++ names_in table) b.own outer k.own.types.items h.known.types_are.0 (to.Func i) refl)
+      (other_names table (around ++ names_in table) b.own outer k.scopes.own.types.items h.known.types_are.0 (to.Func i) refl)
   export_exactly new role (to.Component i) o n t e = export_none new role (to.Component i) o n t e refl refl
-      (other_names table (around ++ names_in table) b.own outer k.own.types.items h.known.types_are.0 (to.Component i) refl)
+      (other_names table (around ++ names_in table) b.own outer k.scopes.own.types.items h.known.types_are.0 (to.Component i) refl)
   export_exactly new role (to.Instance i) o n t e = export_none new role (to.Instance i) o n t e refl refl
-      (other_names table (around ++ names_in table) b.own outer k.own.types.items h.known.types_are.0 (to.Instance i) refl)
-  export_exactly new role (to.TypeEq i) o n t e = by_kept (slice_get k.own.types.items i) refl
+      (other_names table (around ++ names_in table) b.own outer k.scopes.own.types.items h.known.types_are.0 (to.Instance i) refl)
+  export_exactly new role (to.TypeEq i) o n t e = by_kept (slice_get k.scopes.own.types.items i) refl
     where
       depth : ℕ
-      depth = length k.outer.items
+      depth = length k.scopes.outer.items
 
       R : KeptFacts → Facts → Type 0
       R g f = IsKeptExactly table place (around ++ names_in table) g f
 
-      by_kept : (x : Option KeptFacts) → x ≡ slice_get k.own.types.items i → IsKeptBody asks new role (after_export outer b (to.TypeEq i)) outer named table
+      by_kept : (x : Option KeptFacts) → x ≡ slice_get k.scopes.own.types.items i
+          → IsKeptBody asks new role (after_export outer b (to.TypeEq i)) outer named table
       by_kept None s =
-          let none = none_beside R k.own.types.items b.own.types i h.known.types_are.0 s in
+          let none = none_beside R k.scopes.own.types.items b.own.types i h.known.types_are.0 s in
           export_none new role (to.TypeEq i) o n t e (ap (λ y. map (equal_facts place) (option_to_list y)) none)
           (ap (λ y. map (λ g. named_facts g depth) (option_to_list y)) (sym s))
           (subst (λ y. Sub (names_of (map (equal_extern place) (option_to_list y))) (names_in table)) (sym none)
           (λ id a. absurd (let z : false ≡ true = a in cc)))
       by_kept (Some g) s =
-          let at = beside R k.own.types.items b.own.types i g h.known.types_are.0 s in
+          let at = beside R k.scopes.own.types.items b.own.types i g h.known.types_are.0 s in
           export_one new role (to.TypeEq i) o n t e g at.item at.is (ap (λ y. map (equal_facts place) (option_to_list y)) at.at)
           (ap (λ y. map (λ f. named_facts f depth) (option_to_list y)) (sym s))
           (ap (λ y. names_of (map (equal_extern place) (option_to_list y))) at.at)

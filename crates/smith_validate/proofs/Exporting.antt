@@ -60,14 +60,14 @@ module _ (asks : Bool) (k : Known) (r : Role) (b : Body) (outer : List FactScope
   full = (names_of b.exports ++ named) ++ names_in table
 
   -- what is kept of what is imported or exported
-  pub piece_of : (to : ComponentTypeRef) → Is table outer b.own full (extern_of k.own.types.items to) (externs_at b.own outer to)
-  piece_of to = piece_exact table outer b.own full k.own.types.items h.known.types_are.0 to
+  pub piece_of : (to : ComponentTypeRef) → Is table outer b.own full (extern_of k.scopes.own.types.items to) (externs_at b.own outer to)
+  piece_of to = piece_exact table outer b.own full k.scopes.own.types.items h.known.types_are.0 to
 
-  pub piece_some : (to : ComponentTypeRef) (x : KeptExtern) → Some x ≡ extern_of k.own.types.items to
+  pub piece_some : (to : ComponentTypeRef) (x : KeptExtern) → Some x ≡ extern_of k.scopes.own.types.items to
       → IsPieceExactly table place (id_at outer) full x (externs_at b.own outer to)
   piece_some to x e = subst (λ o. Is table outer b.own full o (externs_at b.own outer to)) (sym e) (piece_of to)
 
-  pub piece_none : (to : ComponentTypeRef) → None ≡ extern_of k.own.types.items to → externs_at b.own outer to ≡ []
+  pub piece_none : (to : ComponentTypeRef) → None ≡ extern_of k.scopes.own.types.items to → externs_at b.own outer to ≡ []
   piece_none to e = subst (λ o. Is table outer b.own full o (externs_at b.own outer to)) (sym e) (piece_of to)
 
   pub place_long : length place ≡ length outer + 1

@@ -26,7 +26,7 @@ use Rattle.smith_validate.specs.declared.instances.Use.{Use}
 use Rattle.smith_validate.specs.declared.instances.Use.TheVariants.{Instance, Equal}
 use Rattle.smith_validate.proofs.Names.{Sub, names_append, refers_append, refers_of_append, refers_within, sub_left, sub_same, sub_within, within_append}
 use Rattle.smith_validate.proofs.Names.{or_cases, or_left, or_right, within_refers}
-use Rattle.smith_validate.proofs.Tables.{follow_sub, rest_sub, settled_sub}
+use Rattle.smith_validate.proofs.Tables.{follow_sub, rest_sub}
 
 pub drop_at : {A : Type 0} (xs : List A) (i : ℕ) (x : A) → slice_get xs i ≡ Some x → drop i xs ≡ x ∷ drop (i + 1) xs
 drop_at xs i x h = rest_at xs i x (slice_get_within xs i x h) (sym (get_or_from_slice_get xs i x x h))
@@ -54,11 +54,6 @@ both_at R (x ∷ xs) (y ∷ ys) (suc n) d a h =
     let b = both_at R xs ys n d a.1 (omega (arith, h)) in record { item = b.item; at = b.at; is = b.is }
 
 module _ (table : List Surface) where
-  -- what a use refers to is named if it is met
-  pub met_within : (u : Use) (named : List Id) → IsMet table u named → Within (named_after table u named) (refers_of (externs_of table (number_of u)))
-  met_within (Instance n) named m = refers_within named (externs_of table n) m
-  met_within (Equal n) named m = m
-
   pub within_met : (u : Use) (named : List Id) → Within named (refers_of (externs_of table (number_of u))) → IsMet table u named
   within_met (Instance n) named w = within_refers named (externs_of table n) w
   within_met (Equal n) named w = w
@@ -246,9 +241,6 @@ module _ (table : List Surface) where
         record { then = named; grows = sub_same named; known = p.1; within = r.0; pending = r.1 }
 
   -- What is settled then.
-  pub settled_still : (s : Exposed) (a b : List Id) → Sub a b → IsSettled table s a → IsSettled table s b
-  settled_still s a b f i = settled_sub table s a b f i
-
   pub settled_one : (old new : Exposed) (n : ℕ) (named : List Id) → ((m : ℕ) → is_settled new m ≡ true → (is_settled old m ≡ true) ⊎ (m ≡ n))
       → IsSettled table old named → n < length table → Within named (refers_of (externs_of table n)) → IsSettled table new named
   settled_one old new n named has i h w = λ m is.

@@ -92,10 +92,6 @@ closed_open place (k ∷ id) h o =
     let e : id ≡ o.scope = let z : (k ∷ id) ≡ (o.index ∷ o.scope) = o.id_is in cc in
     not_around 0 place id h (subst (λ x. IsUnder place x) (sym e) (under_up place o.scope o.count o.place_is))
 
-pub child_inside : (around id : Id) → IsChild around id → IsInside id around
-child_inside around [] h = absurd h
-child_inside around (k ∷ id) h = subst (λ x. IsUnder id x) h (under_same id)
-
 -- An id within a child is the child or within the other.
 pub child_of : (around id : Id) (other : Id) → IsChild around id → IsInside id other → IsUnder around other
 child_of around [] other h i = absurd h

@@ -1,8 +1,7 @@
 -- Steps of judgements.
-use Rattle.std.proofs.Common.{◌≡◌, ℕ, ◌+◌, ◌<◌, Bool, true, false, List, length, map, get_or, sym, subst, Result, Ok, Err, IsErrAnd}
-use Rattle.std.proofs.Math.ListN.{drop}
-use Rattle.smith_input.proofs.Rests.{rest_at}
-use Rattle.std.specs.Prelude.{IfErr, IfOk, OnOk, ◌∷◌}
+use Rattle.std.proofs.Common.{◌≡◌, ℕ, ◌<◌, Bool, true, false, List, [], ◌++◌, sym, subst, Result, Ok, Err, IsErrAnd}
+use Rattle.std.proofs.Common.{append-nil, append_assoc}
+use Rattle.std.specs.Prelude.{IfErr, IfOk, OnOk}
 use Rattle.smith_syntax.specs.Entries.{export_decl}
 use Rattle.smith_syntax.specs.declared.deftype.ComponentTypeRef.{ComponentTypeRef}
 use Rattle.smith_tree.specs.Bodies.{Body, IsSmall, after_export, externs_at}
@@ -10,7 +9,9 @@ use Rattle.smith_tree.specs.Demands.{Demands, Keeps, everything}
 use Rattle.smith_tree.specs.Facts.{FactScope}
 use Rattle.smith_tree.specs.Validates.{ValidDecl, exported}
 use Rattle.smith_validate.specs.Externs.{IsAskedFor}
+use Rattle.smith_validate.specs.Instances.{Surface}
 use Rattle.smith_validate.specs.Judges.{IsNamed, Judges, Refutes, asked}
+use Rattle.smith_validate.specs.Steps.{Later}
 use Rattle.smith_validate.specs.declared.error.Stop.{Stop}
 use Rattle.smith_validate.specs.declared.error.Stop.TheVariants.{OutOfMemory}
 
@@ -23,24 +24,10 @@ pub passed_on : {A : Type 0} (r : Result A Stop) (e : Stop) {P : Demands → Typ
 passed_on (Ok x) e {P} is d = absurd is
 passed_on (Err y) e {P} is d = subst (λ (z : Stop). Refutes z P) (sym is) d
 
--- that memory ran out refutes nothing
-pub spent : (e : Stop) {P : Demands → Type 0} → e ≡ OutOfMemory → Refutes e P
-spent e {P} is = let F : Stop → Type 0 = λ z. Refutes z P in subst F (sym is) (record { is = λ n q. n })
-
 -- Two facts that hold together: all, and what is left of it.
 pub record Same (P Q : Type 0) : Type 0 where
   pub to : P → Q
   pub from : Q → P
-
-pub same_all : {P : Type 0} → Same P P
-same_all = record { to = λ p. p; from = λ p. p }
-
-pub same_trans : {P Q R : Type 0} → Same P Q → Same Q R → Same P R
-same_trans s t = record { to = λ p. t.to (s.to p); from = λ r. s.from (t.from r) }
-
--- a property of something, by what it is
-pub same_by : {A : Type 0} (F : A → Type 0) (x y : A) → x ≡ y → Same (F x) (F y)
-same_by F x y e = record { to = λ p. subst F e p; from = λ p. subst F (sym e) p }
 
 pub judged_by : {A : Type 0} (r : Result A Stop) {P Q : Demands → Type 0} → (P everything → Q everything) → ((d : Demands) → Q d → P d)
     → Judges r P → Judges r Q
@@ -62,12 +49,6 @@ on_both (Err e) {P} {Q} {R} f p q = tt
 pub on_all : {A : Type 0} (r : Result A Stop) {P Q R S : Type 0} → (P → Q → R → S) → OnOk r P → OnOk r Q → OnOk r R → OnOk r S
 on_all (Ok x) {P} {Q} {R} {S} f p q s = f p q s
 on_all (Err e) {P} {Q} {R} {S} f p q s = tt
-
-module _ {A B : Type 0} (shown : A → B) (xs : List A) (i : ℕ) where
-  -- a fact of what is left of a list, by its first item
-  pub left_from : (F : List B → Type 0) (x : A) → i < length xs → x ≡ get_or xs i x
-      → Same (F (map shown (drop i xs))) (F (shown x ∷ map shown (drop (i + 1) xs)))
-  left_from F x h e = same_by (λ ys. F (map shown ys)) (drop i xs) (x ∷ drop (i + 1) xs) (rest_at xs i x h e)
 
 pub on_judged : {A : Type 0} (r : Result A Stop) (R : Demands → Type 0) {P Q S : Type 0} → (P → Q → R everything → S)
     → OnOk r P → OnOk r Q → Judges r R → OnOk r S
@@ -102,7 +83,20 @@ pub refused_on : {A : Type 0} (r : Result A Stop) (e : Stop) {P : Type 0} → Is
 refused_on (Ok x) e {P} is d = tt
 refused_on (Err y) e {P} is d = subst (λ (z : Stop). IsNamed z → P) (sym is) d
 
+pub on_err : {A : Type 0} (r : Result A Stop) (e : Stop) (P : Type 0) → IsErrAnd r (λ y. y ≡ e) → OnOk r P
+on_err (Ok x) e P is = absurd is
+on_err (Err y) e P is = tt
+
 -- a fact that another rests on, if it is asked
 pub keeps_by : (asked : Bool) {P Q : Type 0} → (P → Q) → Keeps asked P → Keeps asked Q
 keeps_by true f p = f p
 keeps_by false f p = tt
+
+-- with more types of instances, or none
+
+module _ {S N : Type 0} (V : S → List FactScope → N → List Surface → Type 0) (at : S) (outer : List FactScope) (names : N) (table : List Surface) where
+  pub later_none : V at outer names table → Later V at outer names table
+  later_none h = ([], subst (λ t. V at outer names t) (sym (append-nil table)) h)
+
+  pub later_more : (more : List Surface) → Later V at outer names (table ++ more) → Later V at outer names table
+  later_more more h = (more ++ h.0, subst (λ t. V at outer names t) (append_assoc table more h.0) h.1)

@@ -58,9 +58,6 @@ module _ (place : Id) (old new : List Surface) (g : IsGrown place old new) where
   pub grown_live : (n : ℕ) → n < length old → IsLive new n → IsLive old n
   grown_live n h l = λ e. l (grown_place n h ∙ e)
 
-  pub live_grown : (n : ℕ) → IsLive old n → IsLive new n
-  live_grown n l = λ e. l (sym (grown_place n (live_known old n l)) ∙ e)
-
 pub grown_same : (place : Id) (table : List Surface) → IsGrown place table table
 grown_same place table = record {
   more = [];
@@ -172,11 +169,6 @@ module _ (ks : List KeptFacts) (kept : List (List KeptFacts)) (all : List Instan
         long = long;
         named_before = λ id h. subst (λ q. IsBefore 0 q id) p (before id h);
       }
-
-  -- with none
-  pub known_none : AreKnown (ks ∷ kept) all (with_types own [] ∷ outer) named table
-  known_none = subst (λ ts. AreKnown (ks ∷ kept) all (record { types = ts; core_types = own.core_types } ∷ outer) named table)
-      (sym (append-nil own.types)) known
 
   -- when more is named
   pub known_named : (more : List Id) → Names here (named ++ names_in table) (more ++ names_in table)

@@ -31,4 +31,5 @@ pub mod Declaring
 pub mod RowsExactly
 pub mod PartsExactly
 pub mod PlaceSteps
+pub mod Walking
 pub mod Usually

@@ -18,7 +18,6 @@ use Rattle.std.proofs.Common.{
   subst,
   refl,
   arith,
-  append-nil,
   Option,
   Some,
   None,
@@ -29,7 +28,7 @@ use Rattle.std.proofs.lemmas.List.{length-append, map-append}
 use Rattle.std.proofs.lemmas.List.Elements.{filter-append}
 use Rattle.std.proofs.lemmas.Option.{slice_get-map}
 use Rattle.std.specs.List.{filter, flat_map}
-use Rattle.std.specs.Option.{option_map, option_to_list}
+use Rattle.std.specs.Option.{option_map}
 use Rattle.std.specs.Prelude.{slice_get}
 use Rattle.smith_format.specs.CoreTypes.{Function}
 use Rattle.smith_format.specs.declared.types.ExportKind.{ExportKind}
@@ -39,12 +38,14 @@ use Rattle.smith_syntax.specs.Entries.{CoreEntry, ModuleDecl, core_func, core_mo
 use Rattle.smith_syntax.specs.ModuleTypes.{adds, func_in, is_of_kind, module_import_of}
 use Rattle.smith_tree.specs.Demands.{everything}
 use Rattle.smith_tree.specs.Facts.{CoreFacts}
-use Rattle.smith_tree.specs.Sizes.{ValidCore, core_size, function_size, imported_of_kind, module_size}
+use Rattle.smith_tree.specs.Sizes.{ValidCore, core_size, imported_of_kind, module_size}
 use Rattle.smith_read.specs.Nodes.{shown_module_node}
 use Rattle.smith_read.specs.declared.core_types.ModuleNode.{ModuleNode}
 use Rattle.smith_syntax.specs.Sizes.{capped}
+use Rattle.smith_syntax.specs.OwnSizes.{added_size, sizes_in}
+use Rattle.smith_syntax.proofs.AliasSizes.{kept_size}
 use Rattle.smith_validate.specs.Kept.{kept_core}
-use Rattle.smith_validate.specs.Modules.{Fits, Grows, IsSmallModule, added_size, memories_in, sizes_in, tables_in}
+use Rattle.smith_validate.specs.Modules.{Fits, Grows, IsSmallModule, memories_in, tables_in}
 use Rattle.smith_validate.specs.declared.core_types.Module.{Module}
 use Rattle.smith_validate.specs.declared.error.Stop.{Stop}
 use Rattle.smith_validate.specs.declared.facts.CoreFacts.{CoreFacts as KeptCore}
@@ -57,9 +58,6 @@ func_size : Option KeptCore → Option ℕ
 func_size None = None
 func_size (Some (core.Func n)) = Some n
 func_size (Some (core.Module n)) = None
-
-abbrev kept_size : Option Function → Option ℕ
-kept_size o = option_map (λ f. capped (function_size f)) o
 
 size_kept : (o : Option CoreFacts) → kept_size (func_in (option_map (λ f. f.entry) o)) ≡ func_size (option_map kept_core o)
 unfolding func_size
@@ -79,10 +77,6 @@ module _ (fs : List CoreFacts) (i : ℕ) where
   pub alias_missing : (n : ℕ) → slice_get (map kept_core fs) i ≡ Some (core.Module n) → None ≡ kept_size (func_in (slice_get (map (λ f. f.entry) fs) i))
   unfolding func_size
   alias_missing n e = sym (size_at ∙ ap func_size e)
-
-pub alias_added : (fs : List Function) (o : Option Function) → sizes_in fs ++ option_to_list (kept_size o) ≡ sizes_in (fs ++ option_to_list o)
-alias_added fs None = append-nil (sizes_in fs) ∙ ap sizes_in (sym (append-nil fs))
-alias_added fs (Some f) = sym (map-append (λ g. capped (function_size g)) fs (f ∷ []))
 
 -- imports of a kind
 pub kinds_more : (k : ExportKind) (d : ModuleDecl) (ds : List ModuleDecl) → imported_of_kind k (d ∷ ds) ≡ imported_of_kind k (d ∷ []) + imported_of_kind k ds

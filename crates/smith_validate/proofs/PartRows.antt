@@ -18,34 +18,17 @@ use Rattle.smith_tree.specs.Sizes.{ValidCore}
 use Rattle.smith_tree.specs.Validates.{ValidCanons, ValidCores, ValidEntries, ValidEntry, ValidExports, ValidImports, after_canon, after_cores}
 use Rattle.smith_tree.specs.Validates.{RefersTo, ValidPart, ValidParts, after_entries, after_part, exported_reference}
 use Rattle.smith_tree.specs.Validates.{exported_references, imported, imported_references}
-use Rattle.smith_validate.specs.Bodies.{IsBody, IsBodyNow, IsEmpty, IsFresh, IsIn}
+use Rattle.smith_validate.specs.Bodies.{IsEmpty, IsFresh, IsIn}
 use Rattle.smith_validate.specs.Instances.{Surface}
 use Rattle.smith_validate.specs.Modules.{entries_in}
-use Rattle.smith_validate.specs.Parts.{IsOpen, IsOpenNow}
-use Rattle.smith_validate.specs.declared.body.Body.{Body as KeptBody}
+use Rattle.smith_validate.specs.Parts.{IsOpen}
+use Rattle.smith_validate.specs.Steps.{At}
 use Rattle.smith_validate.specs.declared.known.Known.{Known}
 use Rattle.smith_validate.specs.declared.open.Open.{Open}
 use Rattle.smith_validate.proofs.DeclSteps.{empty_small}
 use Rattle.smith_validate.proofs.Judging.{Same}
 use Rattle.smith_validate.proofs.Roles.{role_fresh}
 use Rattle.smith_validate.proofs.Rows.{Row}
-
--- the index spaces, and what is kept beside them
-abbrev pub At : Type 0
-At = Spaces × Body
-
-module _ (outer : List FactScope) (names : List (List Id)) (table : List Surface) where
-  abbrev pub BodyAt : Known → KeptBody → Body → Type 0
-  BodyAt k o b = IsBody true k o b outer names table
-
-  abbrev pub BodyNow : Known → KeptBody → Body → Type 0
-  BodyNow k o b = IsBodyNow true k o b outer names table
-
-  abbrev pub OpenAt : Known → Open → At → Type 0
-  OpenAt k o at = IsOpen k o at.0 at.1 outer names table
-
-  abbrev pub OpenNow : Known → Open → At → Type 0
-  OpenNow k o at = IsOpenNow k o at.0 at.1 outer names table
 
 -- types
 abbrev pub types_row : List FactScope → Row Entry Body
@@ -133,17 +116,9 @@ parts_row outer = record {
   none = λ d at. tt;
 }
 
-pub open_now : (k : Known) (o : Open) (s : Spaces) (b : Body) (outer : List FactScope) (names : List (List Id)) (table : List Surface)
-    → IsOpen k o s b outer names table → IsOpenNow k o s b outer names table
-open_now k o s b outer names table h = ([], subst (λ es. IsOpen k o s b outer names es) (sym (append-nil table)) h)
-
-pub open_more : (k : Known) (o : Open) (s : Spaces) (b : Body) (outer : List FactScope) (names : List (List Id)) (table more : List Surface)
-    → IsOpenNow k o s b outer names (table ++ more) → IsOpenNow k o s b outer names table
-open_more k o s b outer names table more h = (more ++ h.0, subst (λ es. IsOpen k o s b outer names es) (append_assoc table more h.0) h.1)
-
 pub open_begin : (k : Known) (o : Open) (outer : List FactScope) (names : List (List Id)) (table : List Surface) → IsIn k empty_scope outer [] names table
-    → o.functions.items ≡ [] → IsEmpty o.body → IsFresh true o.body.role → OpenNow outer names table k o (no_spaces, empty_body)
-open_begin k o outer names table s f e fresh = open_now k o no_spaces empty_body outer names table (record {
+    → o.functions.items ≡ [] → IsEmpty o.body → IsFresh true o.body.role → IsOpen k o (no_spaces, empty_body) outer names table
+open_begin k o outer names table s f e fresh = record {
   body = record {
     scopes = s;
     size_is = e.size_is;
@@ -152,7 +127,7 @@ open_begin k o outer names table s f e fresh = open_now k o no_spaces empty_body
     role_is = role_fresh table names true o.body.role fresh;
   };
   functions_are = f;
-})
+}
 
 -- the export of a function
 

@@ -9,25 +9,28 @@ use Rattle.smith_syntax.specs.Entries.{CoreEntry, Entry, ImportEntry}
 use Rattle.smith_syntax.specs.Scope.{empty_scope}
 use Rattle.smith_tree.specs.Tree.{Canon, ExportEntry, Part, tree_of}
 use Rattle.smith_tree.specs.Bodies.{Body, core_facts, empty_body, with_core_facts}
-use Rattle.smith_tree.specs.Facts.{Extern, FactScope, Id, id_at}
+use Rattle.smith_tree.specs.Facts.{CoreFacts, Extern, FactScope, Id, id_at}
 use Rattle.smith_tree.specs.Validates.{after_canon, after_cores, imported_references, names_of}
-use Rattle.smith_validate.specs.Exact.{AreKnown, IsBodyExactly, IsBodyExactlyAfter, IsBodyExactlyNow, IsKeptExactly, IsRoleExactly}
+use Rattle.smith_validate.specs.Exact.{AreKnown, IsBodyExactly, IsBodyExactlyNow, IsKeptExactly, IsRoleExactly}
 use Rattle.smith_validate.specs.Instances.{Surface, no_surface, place_of}
-use Rattle.smith_validate.specs.Kept.{types_in}
+use Rattle.smith_validate.specs.Kept.{own_in, types_in}
 use Rattle.smith_validate.specs.Places.{IsBefore}
+use Rattle.smith_validate.specs.Steps.{At, Later}
 use Rattle.smith_validate.specs.Tables.{AreAdded, AreExact, IsGrown, IsLive, names_in}
-use Rattle.smith_validate.specs.Bodies.{IsFresh}
+use Rattle.smith_validate.specs.Bodies.{IsEmpty, IsFresh}
+use Rattle.smith_validate.specs.Parts.{IsBegun, IsOpenBoth}
 use Rattle.smith_validate.specs.Usual.{AreUsualEntries, AreUsualParts, IsUsualImport}
 use Rattle.smith_validate.specs.declared.open.Open.{Open}
-use Rattle.smith_validate.proofs.Declaring.{role_fresh_exactly}
+use Rattle.smith_tree.specs.Spaces.{no_spaces}
+use Rattle.smith_validate.proofs.PartRows.{open_begin}
+use Rattle.smith_validate.proofs.Declaring.{empty_exactly, entered_known}
 use Rattle.smith_validate.specs.declared.body.Body.{Body as KeptBody}
 use Rattle.smith_validate.specs.declared.known.Known.{Known}
 use Rattle.smith_validate.specs.declared.known.Scope.{Scope}
 use Rattle.smith_validate.proofs.Closing.{exact_less, exact_more}
-use Rattle.smith_validate.proofs.DeclSteps.{outer_kept}
+use Rattle.smith_validate.proofs.DeclSteps.{in_entered, outer_kept}
 use Rattle.smith_validate.proofs.Ids.{moves_same}
 use Rattle.smith_validate.proofs.Knowing.{grown_live, grown_names, grown_place, known_entered, names_grown, names_in_append, types_move}
-use Rattle.smith_validate.proofs.PartRows.{At, OpenNow}
 use Rattle.smith_validate.proofs.BodySteps.{role_moves}
 use Rattle.smith_validate.proofs.Tables.{place_more}
 
@@ -36,66 +39,27 @@ use Rattle.smith_validate.proofs.Tables.{place_more}
 abbrev pub usual_types : List FactScope → List Entry → Body → Type 0
 usual_types outer es b = AreUsualEntries es outer b
 
-abbrev pub usual_imports : List ImportEntry → At → Type 0
-usual_imports is at = AllByRecursion (IsUsualImport true) (imported_references is)
+abbrev pub usual_imports : List FactScope → List ImportEntry → At → Type 0
+usual_imports outer is at = AllByRecursion (IsUsualImport true) (imported_references is)
 
-abbrev pub usual_exports : List ExportEntry → At → Type 0
-usual_exports es at = Unit {0}
+abbrev pub usual_exports : List FactScope → List ExportEntry → At → Type 0
+usual_exports outer es at = Unit {0}
 
 pub now_after : (asks : Bool) (k : Known) (o : KeptBody) (b : Body) (outer : List FactScope) (named : List Id) (place : Id) (table : List Surface)
-    → IsBodyExactlyNow asks k o b outer named place table → IsBodyExactlyAfter asks k o b outer named table
+    → IsBodyExactlyNow asks k o b outer named place table → Later (IsBodyExactly asks k o) b outer named table
 now_after asks k o b outer named place table n = (n.grown.more, subst (λ t. IsBodyExactly asks k o b outer named t) n.grown.is n.is)
-
-pub after_none : (asks : Bool) (k : Known) (o : KeptBody) (b : Body) (outer : List FactScope) (named : List Id) (table : List Surface)
-    → IsBodyExactly asks k o b outer named table → IsBodyExactlyAfter asks k o b outer named table
-after_none asks k o b outer named table h = ([], subst (λ t. IsBodyExactly asks k o b outer named t) (sym (append-nil table)) h)
-
-pub after_more : (asks : Bool) (k : Known) (o : KeptBody) (b : Body) (outer : List FactScope) (named : List Id) (table more : List Surface)
-    → IsBodyExactlyAfter asks k o b outer named (table ++ more) → IsBodyExactlyAfter asks k o b outer named table
-after_more asks k o b outer named table more h = (more ++ h.0, subst (λ t. IsBodyExactly asks k o b outer named t) (append_assoc table more h.0) h.1)
 
 -- core types and canonical functions add nothing to types, imports and exports
 
-pub cores_types : (es : List CoreEntry) (b : Body) → (after_cores es b).own.types ≡ b.own.types
-cores_types [] b = refl
-cores_types (e ∷ es) b = cores_types es (with_core_facts b (core_facts e b.own ∷ []))
+pub cores_keep : {X : Type 0} (F : Body → X) → ((b : Body) (fs : List CoreFacts) → F (with_core_facts b fs) ≡ F b) → (es : List CoreEntry) (b : Body)
+    → F (after_cores es b) ≡ F b
+cores_keep F same [] b = refl
+cores_keep F same (e ∷ es) b = cores_keep F same es (with_core_facts b (core_facts e b.own ∷ [])) ∙ same b (core_facts e b.own ∷ [])
 
-pub cores_imports : (es : List CoreEntry) (b : Body) → (after_cores es b).imports ≡ b.imports
-cores_imports [] b = refl
-cores_imports (e ∷ es) b = cores_imports es (with_core_facts b (core_facts e b.own ∷ []))
-
-pub cores_exports : (es : List CoreEntry) (b : Body) → (after_cores es b).exports ≡ b.exports
-cores_exports [] b = refl
-cores_exports (e ∷ es) b = cores_exports es (with_core_facts b (core_facts e b.own ∷ []))
-
-pub canons_types : (fs : List Canon) (b : Body) → (fold after_canon b fs).own.types ≡ b.own.types
-canons_types [] b = refl
-canons_types (f ∷ fs) b = canons_types fs (after_canon b f)
-
-pub canons_imports : (fs : List Canon) (b : Body) → (fold after_canon b fs).imports ≡ b.imports
-canons_imports [] b = refl
-canons_imports (f ∷ fs) b = canons_imports fs (after_canon b f)
-
-pub canons_exports : (fs : List Canon) (b : Body) → (fold after_canon b fs).exports ≡ b.exports
-canons_exports [] b = refl
-canons_exports (f ∷ fs) b = canons_exports fs (after_canon b f)
-
--- what is known in a component within
-pub entered_known : (k new : Known) (own : FactScope) (outer : List FactScope) (named : List Id) (table : List Surface)
-    → AreKnown (types_in k) k.instances.items (own ∷ outer) named table
-    → new.own.types.items ≡ [] → new.outer.items ≡ k.outer.items ++ k.own ∷ [] → new.instances.items ≡ k.instances.items
-    → AreKnown (types_in new) new.instances.items (empty_scope ∷ own ∷ outer) named table
-entered_known k new own outer named table h types outers instances =
-    let kept = reverse (map (λ (s : Scope). s.types.items) k.outer.items) in
-    let entered = known_entered k.own.types.items kept k.instances.items own outer named table h in
-    let scopes : reverse (map (λ (s : Scope). s.types.items) new.outer.items) ≡ types_in k = outer_kept k new.outer.items outers in
-    subst (λ is. AreKnown (types_in new) is (empty_scope ∷ own ∷ outer) named table) (sym instances)
-    (subst (λ ts. AreKnown (ts ∷ reverse (map (λ (s : Scope). s.types.items) new.outer.items)) k.instances.items (empty_scope ∷ own ∷ outer) named table)
-    (sym types) (subst (λ tss. AreKnown ([] ∷ tss) k.instances.items (empty_scope ∷ own ∷ outer) named table) (sym scopes) entered))
-
-pub entered_long : (k new : Known) (own : FactScope) (outer : List FactScope) → length outer ≡ length k.outer.items
-    → new.outer.items ≡ k.outer.items ++ k.own ∷ [] → length (own ∷ outer) ≡ length new.outer.items
-entered_long k new own outer d outers = omega (arith, d, ap (λ (os : List Scope). length os) outers, length-append k.outer.items (k.own ∷ []))
+pub canons_keep : {X : Type 0} (F : Body → X) → ((b : Body) (f : Canon) → F (after_canon b f) ≡ F b) → (fs : List Canon) (b : Body)
+    → F (fold after_canon b fs) ≡ F b
+canons_keep F same [] b = refl
+canons_keep F same (f ∷ fs) b = canons_keep F same fs (after_canon b f) ∙ same b f
 
 -- Types of instances that can no longer be referred to.
 
@@ -152,20 +116,21 @@ module _ (place : Id) (table more : List Surface) where
 -- A component within is judged.
 module _ (asks : Bool) (k : Known) (o : KeptBody) (b : Body) (outer : List FactScope) (named : List Id) (table : List Surface)
     (h : IsBodyExactly asks k o b outer named table) where
-  pub body_after_component : (new : Known) (p : KeptBody) (c : Body) (more : List Surface) → new.own ≡ k.own → new.outer.items ≡ k.outer.items
+  pub body_after_component : (new : Known) (p : KeptBody) (c : Body) (more : List Surface) → new.scopes.own ≡ k.scopes.own
+      → new.scopes.outer.items ≡ k.scopes.outer.items
       → AreExact new.instances.items (table ++ more) → length new.instances.items ≡ length (table ++ more) → p.role ≡ o.role → c.own ≡ b.own
-      → c.imports ≡ b.imports → c.exports ≡ b.exports → IsBodyExactlyAfter asks new p c outer named table
+      → c.imports ≡ b.imports → c.exports ≡ b.exports → Later (IsBodyExactly asks new p) c outer named table
   body_after_component new p c more owns outers exact long role own imports exports =
       let here = id_at (b.own ∷ outer) in
       let all = table ++ forgotten more in
       let N = names_of b.exports ++ named in
       let g = padded_grown here table more in
-      let kept = reverse (map (λ (s : Scope). s.types.items) k.outer.items) in
+      let kept = reverse (map (λ (s : Scope). s.types.items) k.scopes.outer.items) in
       let F : FactScope → List Extern → List Extern → Type 0 = λ s is es. IsBodyExactly asks new p
       (record { own = s; imports = is; exports = es; size = c.size; counts = c.counts }) outer named all in
       let known : AreKnown (types_in k) new.instances.items (b.own ∷ outer) N all = record {
         types_are = types_move here here (N ++ names_in table) (N ++ names_in all) table all (moves_same here) (names_grown here N table all g) g
-            (k.own.types.items ∷ kept) (b.own ∷ outer) h.known.types_are;
+            (k.scopes.own.types.items ∷ kept) (b.own ∷ outer) h.known.types_are;
         instances_are = λ n l.
             let m = padded_live here table more n l in
             exact_more new.instances.items new.instances.items table (forgotten more) n m refl
@@ -176,9 +141,9 @@ module _ (asks : Bool) (k : Known) (o : KeptBody) (b : Body) (outer : List FactS
         named_before = h.known.named_before;
       } in
       let at : F b.own b.imports b.exports = record {
-        known = subst (λ (s : Scope). AreKnown (s.types.items ∷ reverse (map (λ (t : Scope). t.types.items) new.outer.items)) new.instances.items
+        known = subst (λ (s : Scope). AreKnown (s.types.items ∷ reverse (map (λ (t : Scope). t.types.items) new.scopes.outer.items)) new.instances.items
             (b.own ∷ outer) N all) (sym owns)
-            (subst (λ (os : List Scope). AreKnown (k.own.types.items ∷ reverse (map (λ t. t.types.items) os)) new.instances.items (b.own ∷ outer) N all)
+            (subst (λ (os : List Scope). AreKnown (k.scopes.own.types.items ∷ reverse (map (λ t. t.types.items) os)) new.instances.items (b.own ∷ outer) N all)
             (sym outers) known);
         depth_is = h.depth_is ∙ ap (λ (os : List Scope). length os) (sym outers);
         exports_are = λ id a. elim (h.exports_are id a) [ inl y ↦ inl (grown_names here table all g id y) | inr y ↦ inr y ];
@@ -204,11 +169,11 @@ module _ (asks : Bool) (k : Known) (o : KeptBody) (b : Body) (outer : List FactS
       )
 
 -- nothing is known before a component
-pub start_known : (k : Known) → k.own.types.items ≡ [] → k.outer.items ≡ [] → k.instances.items ≡ []
+pub start_known : (k : Known) → k.scopes.own.types.items ≡ [] → k.scopes.outer.items ≡ [] → k.instances.items ≡ []
     → AreKnown (types_in k) k.instances.items (empty_scope ∷ []) [] []
 start_known k types outers instances = record {
   types_are = subst (λ ts. AllZip (λ ks (s : FactScope). AllZip (IsKeptExactly [] (0 ∷ []) []) ks s.types)
-      (ts ∷ reverse (map (λ (s : Scope). s.types.items) k.outer.items)) (empty_scope ∷ [])) (sym types)
+      (ts ∷ reverse (map (λ (s : Scope). s.types.items) k.scopes.outer.items)) (empty_scope ∷ [])) (sym types)
       (subst (λ (os : List Scope). AllZip (λ ks (s : FactScope). AllZip (IsKeptExactly [] (0 ∷ []) []) ks s.types)
       ([] ∷ reverse (map (λ s. s.types.items) os)) (empty_scope ∷ [])) (sym outers) (tt, tt));
   instances_are = λ n l. absurd (l refl);
@@ -221,20 +186,31 @@ start_known k types outers instances = record {
   named_before = λ id h. absurd (let z : false ≡ true = h in cc);
 }
 
-pub open_exactly : (k : Known) (o : KeptBody) (outer : List FactScope) (named : List Id) (table : List Surface)
-    → AreKnown (types_in k) k.instances.items (empty_scope ∷ outer) named table → length outer ≡ length k.outer.items → IsFresh true o.role
-    → IsBodyExactly true k o empty_body outer named table
-open_exactly k o outer named table h d fresh = record {
-  known = h;
-  depth_is = d;
-  exports_are = λ id a. absurd (let z : false ≡ true = a in cc);
-  imports_are = λ id a. absurd (let z : false ≡ true = a in cc);
-  role_is = role_fresh_exactly table outer named true o.role fresh;
-}
-
 abbrev pub usual_parts : List FactScope → List Part → At → Type 0
 usual_parts outer ps at = AreUsualParts (tree_of ps) at.0 outer at.1
 
--- what is kept is of the component, and exact
-abbrev pub BothNow : List FactScope → List (List Id) → List Id → List Surface → List Surface → Known → Open → At → Type 0
-BothNow outer names named covered table k o at = OpenNow outer names covered k o at × IsBodyExactlyAfter true k o.body at.1 outer named table
+-- a component that begins
+pub begun_both : (k : Known) (o : Open) (outer : List FactScope) (named : List Id) (table : List Surface) → IsBegun k outer named table
+    → o.functions.items ≡ [] → IsEmpty o.body → IsFresh true o.body.role → IsOpenBoth k o (no_spaces, empty_body) outer named table
+begun_both k o outer named table h f e fresh = record {
+  names = h.names;
+  covered = h.covered;
+  open_is = open_begin k o outer h.names h.covered h.is f e fresh;
+  exact = empty_exactly true k o.body outer named table h.known h.depth_is fresh;
+}
+
+-- a component within another
+pub entered_begun : (k new : Known) (o : Open) (at : At) (outer : List FactScope) (named : List Id) (table : List Surface)
+    → IsOpenBoth k o at outer named table → own_in new ≡ empty_scope → new.scopes.own.types.items ≡ []
+    → new.scopes.outer.items ≡ k.scopes.outer.items ++ k.scopes.own ∷ []
+    → new.instances.items ≡ k.instances.items → IsBegun new (at.1.own ∷ outer) (names_of at.1.exports ++ named) table
+entered_begun k new o at outer named table h sizes types outers instances =
+    let here = names_of at.1.exports in
+    let d = h.exact.depth_is in
+    record {
+      names = here ∷ h.names;
+      covered = h.covered;
+      is = in_entered k new at.1.own outer here h.names h.covered h.open_is.body.scopes sizes types outers instances;
+      known = entered_known k new at.1.own outer (here ++ named) table h.exact.known types outers instances;
+      depth_is = omega (arith, d, ap (λ (os : List Scope). length os) outers, length-append k.scopes.outer.items (k.scopes.own ∷ []));
+    }

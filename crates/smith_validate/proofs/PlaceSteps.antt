@@ -23,7 +23,8 @@ use Rattle.smith_validate.specs.declared.error.Demand.TheVariants.{Named, Size, 
 use Rattle.smith_validate.specs.declared.error.Stop.{Stop}
 use Rattle.smith_validate.specs.declared.error.Stop.TheVariants.{OutOfMemory, Invalid}
 use Rattle.smith_check.specs.declared.track.Track.{Track}
-use Rattle.smith_validate.proofs.PartRows.{At, parts_row}
+use Rattle.smith_validate.specs.Steps.{At}
+use Rattle.smith_validate.proofs.PartRows.{parts_row}
 use Rattle.smith_validate.proofs.Rows.{RowLeft, judged_count, row_within, taken}
 use Rattle.smith_validate.proofs.RowsExactly.{RowExactly, exact_within}
 

@@ -61,12 +61,6 @@ with_none own = ap (λ ts. kept_of (record own { types = ts })) (append-nil own.
 pub with_one : (own : FactScope) (f : Facts) → kept_of (with_types own (f ∷ [])) ≡ with_type (kept_of own) (capped f.size)
 with_one own f = ap (λ ns. record { types = ns; core_types = map kept_core own.core_types }) (map-append (λ g. capped g.size) own.types (f ∷ []))
 
-pub with_core_none : (own : FactScope) → kept_of (with_core_types own []) ≡ kept_of own
-with_core_none own = ap (λ ts. kept_of (record own { core_types = ts })) (append-nil own.core_types)
-
-pub with_core_one : (own : FactScope) (f : CoreFacts) → kept_of (with_core_types own (f ∷ [])) ≡ with_core_type (kept_of own) (kept_core f)
-with_core_one own f = ap (λ ns. record { types = map (λ g. capped g.size) own.types; core_types = ns }) (map-append kept_core own.core_types (f ∷ []))
-
 pub count_none : (c : Counts) → c ≡ with_type_count c 0
 count_none c = let e : c.types ≡ c.types + 0 = omega arith in ap (λ n. record c { types = n }) e
 
@@ -127,40 +121,27 @@ module _ (k : Known) (own : FactScope) (outer : List FactScope) (here there : Li
     own_is = s.own_is ∙ (sym (with_none own) ∙ ap (λ gs. kept_of (with_types own gs)) (sym e));
     outer_is = s.outer_is;
     types_are = (
-      subst (λ gs. AreKept table (there ∷ names) k.own.types.items gs) (sym (append-nil own.types) ∙ ap (λ gs. own.types ++ gs) (sym e))
-          (are_kept_here table here there names sub k.own.types.items own.types s.types_are.0),
+      subst (λ gs. AreKept table (there ∷ names) k.scopes.own.types.items gs) (sym (append-nil own.types) ∙ ap (λ gs. own.types ++ gs) (sym e))
+          (are_kept_here table here there names sub k.scopes.own.types.items own.types s.types_are.0),
       s.types_are.1,
     );
     instances_are = s.instances_are;
     depth_is = s.depth_is;
   }
 
-  module _ (new : Known) (outers : new.outer.items ≡ k.outer.items) (instances : new.instances.items ≡ k.instances.items) where
+  module _ (new : Known) (outers : new.scopes.outer.items ≡ k.scopes.outer.items) (instances : new.instances.items ≡ k.instances.items) where
     pub in_one : (fs : List Facts) (f : Facts) (kf : KeptFacts) → fs ≡ f ∷ [] → own_in new ≡ with_type (own_in k) kf.size → kf.size ≡ capped f.size
-        → new.own.types.items ≡ k.own.types.items ++ kf ∷ [] → IsKept table (there ∷ names) kf f → IsIn new (with_types own fs) outer there names table
+        → new.scopes.own.types.items ≡ k.scopes.own.types.items ++ kf ∷ [] → IsKept table (there ∷ names) kf f
+        → IsIn new (with_types own fs) outer there names table
     in_one fs f kf e sizes same types kept = record {
       own_is = sizes ∙ (ap (λ x. with_type x kf.size) s.own_is
           ∙ (ap (λ m. with_type (kept_of own) m) same ∙ (sym (with_one own f) ∙ ap (λ gs. kept_of (with_types own gs)) (sym e))));
       outer_is = ap (λ os. reverse (map kept_in os)) outers ∙ s.outer_is;
       types_are = (
-        subst (λ gs. AreKept table (there ∷ names) new.own.types.items (own.types ++ gs)) (sym e)
+        subst (λ gs. AreKept table (there ∷ names) new.scopes.own.types.items (own.types ++ gs)) (sym e)
             (subst (λ ks. AreKept table (there ∷ names) ks (own.types ++ f ∷ [])) (sym types)
-            (zip_push (IsKept table (there ∷ names)) k.own.types.items own.types kf f
-            (are_kept_here table here there names sub k.own.types.items own.types s.types_are.0) kept)),
-        subst (λ os. ScopesKept table names (reverse (map (λ o. o.types.items) os)) outer) (sym outers) s.types_are.1,
-      );
-      instances_are = subst (λ ts. IsTable ts table) (sym instances) s.instances_are;
-      depth_is = s.depth_is ∙ ap (λ (os : List Scope). length os) (sym outers);
-    }
-
-    pub in_core : (cs : List CoreFacts) → own_in new ≡ kept_of (with_core_types own cs) → new.own.types.items ≡ k.own.types.items
-        → IsIn new (with_core_types own cs) outer there names table
-    in_core cs sizes types = record {
-      own_is = sizes;
-      outer_is = ap (λ os. reverse (map kept_in os)) outers ∙ s.outer_is;
-      types_are = (
-        subst (λ ks. AreKept table (there ∷ names) ks own.types) (sym types)
-            (are_kept_here table here there names sub k.own.types.items own.types s.types_are.0),
+            (zip_push (IsKept table (there ∷ names)) k.scopes.own.types.items own.types kf f
+            (are_kept_here table here there names sub k.scopes.own.types.items own.types s.types_are.0) kept)),
         subst (λ os. ScopesKept table names (reverse (map (λ o. o.types.items) os)) outer) (sym outers) s.types_are.1,
       );
       instances_are = subst (λ ts. IsTable ts table) (sym instances) s.instances_are;

@@ -2,18 +2,17 @@
 use Rattle.std.proofs.Common.{◌≡◌, ℕ, zero, suc, Bool, List, [], ◌∷◌, ◌++◌, sym, subst, append-nil, append_assoc, Option, Some, None, Result}
 use Rattle.std.specs.Option.{option_map, option_to_list}
 use Rattle.std.specs.Prelude.{slice_get}
-use Rattle.smith_tree.specs.Bodies.{Body, IsSmall, named_in, with_core_facts, with_facts}
-use Rattle.smith_tree.specs.Facts.{CoreFacts, FactScope, Facts, Id, needs}
+use Rattle.smith_tree.specs.Bodies.{Body, named_in}
+use Rattle.smith_tree.specs.Demands.{Demands}
+use Rattle.smith_tree.specs.Facts.{FactScope, Facts, Id, needs}
 use Rattle.smith_tree.specs.Validates.{names_of}
 use Rattle.smith_validate.specs.Bodies.{IsBody}
 use Rattle.smith_validate.specs.Instances.{AreKept, Surface, IsKept, IsTable, ScopesKept, reach_of}
 use Rattle.smith_validate.specs.Judges.{Judges}
-use Rattle.smith_syntax.specs.Sizes.{capped}
-use Rattle.smith_validate.specs.Kept.{kept_core, type_in}
+use Rattle.smith_validate.specs.Kept.{type_in}
 use Rattle.smith_validate.specs.Nested.{IsDeclared}
 use Rattle.smith_validate.specs.declared.body.Body.{Body as KeptBody}
 use Rattle.smith_validate.specs.declared.error.Stop.{Stop}
-use Rattle.smith_validate.specs.declared.facts.CoreFacts.{CoreFacts as KeptCore}
 use Rattle.smith_validate.specs.declared.facts.Facts.{Facts as KeptFacts}
 use Rattle.smith_validate.specs.declared.known.Known.{Known}
 use Rattle.smith_validate.proofs.Covering.{covers_outer}
@@ -73,7 +72,8 @@ module _ (table : List Surface) where
 
 -- the body after a type was read, before it is added
 pub body_declared : (asks : Bool) (k new : Known) (o : KeptBody) (b : Body) (outer : List FactScope) (names : List (List Id)) (table more : List Surface)
-    → IsBody asks k o b outer names table → new.own ≡ k.own → new.outer.items ≡ k.outer.items → IsTable new.instances.items (table ++ more)
+    → IsBody asks k o b outer names table → new.scopes.own ≡ k.scopes.own → new.scopes.outer.items ≡ k.scopes.outer.items
+    → IsTable new.instances.items (table ++ more)
     → IsBody asks new o b outer names (table ++ more)
 body_declared asks k new o b outer names table more s own outers instances = record {
   scopes = in_again k new b.own outer (names_of b.exports) names table s.scopes more own outers instances;
@@ -85,12 +85,7 @@ body_declared asks k new o b outer names table more s own outers instances = rec
 
 -- An alias is counted as the type that it is of.
 
-pub alias_judged : {A : Type 0} (r : Result A Stop) (b : Body) (size : ℕ) (f : Option Facts) → Some size ≡ option_map (λ g. capped g.size) f
-    → ((g : Facts) → Judges r (λ d. IsSmall d (with_facts b (g ∷ [])))) → Judges r (λ d. IsSmall d (with_facts b (option_to_list f)))
-alias_judged r b size None e j = absurd (let z : Some size ≡ None = e in cc)
-alias_judged r b size (Some g) e j = j g
-
-pub core_alias_judged : {A : Type 0} (r : Result A Stop) (b : Body) (k : KeptCore) (f : Option CoreFacts) → Some k ≡ option_map kept_core f
-    → ((g : CoreFacts) → Judges r (λ d. IsSmall d (with_core_facts b (g ∷ [])))) → Judges r (λ d. IsSmall d (with_core_facts b (option_to_list f)))
-core_alias_judged r b k None e j = absurd (let z : Some k ≡ None = e in cc)
-core_alias_judged r b k (Some g) e j = j g
+pub alias_judged : {A B F : Type 0} (r : Result A Stop) (kept : F → B) (y : B) (P : List F → Demands → Type 0) (f : Option F) → Some y ≡ option_map kept f
+    → ((g : F) → Judges r (P (g ∷ []))) → Judges r (P (option_to_list f))
+alias_judged r kept y P None e j = absurd (let z : Some y ≡ None = e in cc)
+alias_judged r kept y P (Some g) e j = j g

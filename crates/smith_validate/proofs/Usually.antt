@@ -25,7 +25,7 @@ use Rattle.smith_tree.specs.Facts.{FactScope, Facts, Id, id_at, members}
 use Rattle.smith_tree.specs.Validates.{after_canon, after_entries, after_part, exported_reference, exported_references, imported_references}
 use Rattle.smith_validate.specs.Usual.{AreUsualDecls, AreUsualEntries, AreUsualParts, IsOfValues, IsUsual, IsUsualDecl, IsUsualEntry, IsUsualImport}
 use Rattle.smith_validate.specs.Usual.{IsUsualPart}
-use Rattle.smith_validate.proofs.PartsExactly.{canons_types, cores_types}
+use Rattle.smith_validate.proofs.PartsExactly.{canons_keep, cores_keep}
 
 -- A type of values exports nothing.
 abbrev Kind : Entry → Facts → Type 0
@@ -245,11 +245,12 @@ part_scopes : (p : Part) (s : Spaces) (t : Spaces) (outer : List FactScope) (b :
     → Kinds (spaces_after t p).types (after_part p s outer b).own.types
 part_scopes (custom name contents) s t outer b k = k
 part_scopes (core_module text) s t outer b k = k
-part_scopes (core_types ts) s t outer b k = subst (λ fs. Kinds t.types fs) (sym (cores_types ts b)) k
+part_scopes (core_types ts) s t outer b k = subst (λ fs. Kinds t.types fs) (sym (cores_keep (λ c. c.own.types) (λ c fs. refl) ts b)) k
 part_scopes (component c) s t outer b k = k
 part_scopes (types_part ts) s t outer b k = entries_scopes ts t.types outer b k
 part_scopes (canons fs) s t outer b k =
-    subst (λ es. Kinds es (fold after_canon b fs).own.types) (sym (canons_kept fs t)) (subst (λ gs. Kinds t.types gs) (sym (canons_types fs b)) k)
+    subst (λ es. Kinds es (fold after_canon b fs).own.types) (sym (canons_kept fs t))
+    (subst (λ gs. Kinds t.types gs) (sym (canons_keep (λ c. c.own.types) (λ c f. refl) fs b)) k)
 part_scopes (imports is) s t outer b k =
     subst (λ es. Kinds es (fold (after_import outer) b (imported_references is)).own.types) (sym (imports_kept is t))
     (subst (λ gs. Kinds t.types gs) (sym (imports_own (imported_references is) outer b)) k)

@@ -58,9 +58,6 @@ module _ (types : List Facts) (names : List (List Id)) where
       (ap (λ ys. ids ++ ys) (sym (append-nil (value_needs types v))) ∙ sym (flat_map-append (value_needs types) before (v ∷ [])))
       (covers_both names a b ids (value_needs types v) c d)
 
-  pub covers_none : (a : Needs) (before : List ComponentValType) → CoversValues types names a before → CoversValues types names a (before ++ [])
-  covers_none a before c = subst (λ vs. CoversValues types names a vs) (sym (append-nil before)) c
-
   -- members, one by one
   module _ {A : Type 0} (f : A → List ComponentValType) (xs : List A) (i : ℕ) where
     pub members_more : (n : Needs) (x : A) → i < length xs → x ≡ get_or xs i x → CoversValues types names n (flat_map f (take i xs) ++ f x)

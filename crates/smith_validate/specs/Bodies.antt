@@ -30,7 +30,7 @@ pub record IsIn (k : Known) (own : FactScope) (outer : List FactScope) (here : L
   pub outer_is : outer_in k ≡ map kept_of outer
   pub types_are : ScopesKept table (here ∷ names) (types_in k) (own ∷ outer)
   pub instances_are : IsTable k.instances.items table
-  pub depth_is : length names ≡ length k.outer.items
+  pub depth_is : length names ≡ length k.scopes.outer.items
 
 -- What is named for imports and for exports is that.
 pub record AreSets (table : List Surface) (s : Sets) (b : Body) : Type 0 where
@@ -66,10 +66,6 @@ pub record IsBody (asks : Bool) (k : Known) (o : Kept) (b : Body) (outer : List 
   pub counts_are : counted o.counts ≡ b.counts
   pub small : IsSmall everything b
   pub role_is : IsRole table names asks o.role b
-
--- The same, with more types of instances.
-abbrev pub IsBodyNow : Bool → Known → Kept → Body → List FactScope → List (List Id) → List Surface → Type 0
-IsBodyNow asks k o b outer names table = (more : List Surface) × IsBody asks k o b outer names (table ++ more)
 
 -- Nothing is in it.
 pub record IsEmpty (o : Kept) : Type 0 where

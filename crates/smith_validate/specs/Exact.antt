@@ -77,7 +77,7 @@ IsRoleExactly table outer named asks (Exporting e) b =
 -- What is kept of a body is exact, if the scopes around it name these.
 pub record IsKeptBody (asks : Bool) (k : Known) (r : Role) (b : Body) (outer : List FactScope) (named : List Id) (table : List Surface) : Type 0 where
   pub known : AreKnown (types_in k) k.instances.items (b.own ∷ outer) (names_of b.exports ++ named) table
-  pub depth_is : length outer ≡ length k.outer.items
+  pub depth_is : length outer ≡ length k.scopes.outer.items
   pub exports_are : (id : Id) → is_among (names_of b.exports) id ≡ true
       → (is_among (names_in table) id ≡ true) ⊎ (IsOpen (id_at (b.own ∷ outer)) id × (length id ≡ length outer + 1))
   pub imports_are : (id : Id) → is_among (names_of b.imports) id ≡ true → is_among (names_in table) id ≡ true
@@ -147,7 +147,3 @@ abbrev pub IsRoleExported : List Surface → List FactScope → List Id → Bool
 IsRoleExported table outer named asks (Names s) b xs = (asks ≡ true) × AreSetsExactly table s (with_exports b xs)
 IsRoleExported table outer named asks (Exporting e) b xs =
     (asks ≡ false) × AreExportsExactly table (id_at (b.own ∷ outer)) (id_at outer) ((names_of b.exports ++ named) ++ names_in table) e (b.exports ++ xs)
-
--- The same with more types of instances, and what was before is as it was.
-abbrev pub IsBodyExactlyAfter : Bool → Known → KeptBody → Body → List FactScope → List Id → List Surface → Type 0
-IsBodyExactlyAfter asks k o b outer named table = (more : List Surface) × IsBodyExactly asks k o b outer named (table ++ more)

@@ -26,18 +26,18 @@ kept_of s = record { types = map (λ f. capped f.size) s.types; core_types = map
 
 -- the innermost scope, and the ones around it, innermost first
 abbrev pub own_in : Known → Kept
-own_in k = kept_in k.own
+own_in k = kept_in k.scopes.own
 
 abbrev pub outer_in : Known → List Kept
-outer_in k = reverse (map kept_in k.outer.items)
+outer_in k = reverse (map kept_in k.scopes.outer.items)
 
 -- the types in each of the scopes, and around the innermost, innermost first
 
 abbrev pub outer_types : Known → List (List Facts)
-outer_types k = reverse (map (λ s. s.types.items) k.outer.items)
+outer_types k = reverse (map (λ s. s.types.items) k.scopes.outer.items)
 
 abbrev pub types_in : Known → List (List Facts)
-types_in k = k.own.types.items ∷ outer_types k
+types_in k = k.scopes.own.types.items ∷ outer_types k
 
 -- the type with that index in the scope of that count
 abbrev pub type_in : List (List Facts) → ℕ → ℕ → Option Facts

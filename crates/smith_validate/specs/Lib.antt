@@ -11,6 +11,7 @@ pub mod Marks
 pub mod Modules
 pub mod Outcome
 pub mod Parts
+pub mod Steps
 pub mod Values
 pub mod Attained
 pub mod Places

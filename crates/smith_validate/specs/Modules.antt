@@ -1,20 +1,15 @@
 -- Module types as far as they were judged.
-use Rattle.std.specs.Prelude.{◌≡◌, ℕ, ◌+◌, ◌<◌, ◌≤◌, List, [], ◌∷◌, map, sum, length}
+use Rattle.std.specs.Prelude.{◌≡◌, ℕ, ◌+◌, ◌<◌, ◌≤◌, List, [], ◌∷◌, map, length}
 use Rattle.std.specs.List.{filter}
-use Rattle.smith_format.specs.CoreTypes.{Function}
 use Rattle.smith_format.specs.declared.types.EntityType.{EntityType}
 use Rattle.smith_format.specs.declared.types.ExportKind.{ExportKind}
 use Rattle.smith_format.specs.declared.types.ExportKind.TheVariants as kind
 use Rattle.smith_syntax.specs.Entries.{CoreEntry, ModuleDecl}
-use Rattle.smith_syntax.specs.ModuleTypes.{entities_in, is_of_kind}
+use Rattle.smith_syntax.specs.ModuleTypes.{is_of_kind}
 use Rattle.smith_tree.specs.Demands.{Demands, Keeps}
 use Rattle.smith_tree.specs.Facts.{FactScope}
-use Rattle.smith_tree.specs.Sizes.{entity_size, function_size, imported_of_kind, size_bound}
-use Rattle.smith_syntax.specs.Sizes.{capped}
+use Rattle.smith_tree.specs.Sizes.{imported_of_kind, size_bound}
 use Rattle.smith_validate.specs.declared.core_types.Module.{Module}
-
-abbrev pub sizes_in : List Function → List ℕ
-sizes_in fs = map (λ f. capped (function_size f)) fs
 
 -- the core types of a scope
 abbrev pub entries_in : FactScope → List CoreEntry
@@ -23,10 +18,6 @@ entries_in s = map (λ f. f.entry) s.core_types
 -- 1 if it is of that kind, or else 0
 abbrev pub one_of_kind : ExportKind → EntityType → ℕ
 one_of_kind k e = length (filter (is_of_kind k) (e ∷ []))
-
--- the sizes of what a declaration imports or exports
-abbrev pub added_size : List Function → ModuleDecl → ℕ
-added_size fs d = sum (map (entity_size fs) (entities_in d))
 
 -- It is below the bounds.
 pub record IsSmallModule (m : Module) : Type 0 where

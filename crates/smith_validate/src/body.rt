@@ -1,17 +1,14 @@
 //! A component, a component type or an instance type as far as it was judged.
 
-ghost use Rattle.std.specs.Prelude.{◌≡◌, ◌+◌, ◌++◌, ◌<◌, ℕ, [], List, false, true, IfErr, OnOk};
+ghost use Rattle.std.specs.Prelude.{◌≡◌, ◌+◌, ◌++◌, ◌<◌, ℕ, false, true, IfErr, OnOk};
 ghost use Rattle.std.specs.Option.{option_to_list};
 ghost use Rattle.smith_tree.specs.Demands.{Keeps};
-ghost use Rattle.smith_tree.specs.Facts.{Id};
 ghost use Rattle.smith_tree.specs.Sizes.{size_bound};
-ghost use Rattle.smith_validate.specs.Bodies.{IsEmpty, IsOther};
-ghost use Rattle.smith_validate.specs.Exact.{IsExposed};
-ghost use Rattle.smith_validate.specs.Exposing.{IsSettled};
-ghost use Rattle.smith_validate.specs.Instances.{Surface};
+ghost use Rattle.smith_validate.specs.Bodies.{IsEmpty, IsFresh, IsOther};
 ghost use Rattle.smith_validate.specs.Judges.{IsUnnamed, Judges};
 ghost use Rattle.smith_syntax.specs.Sizes.{capped};
-ghost use Rattle.smith_validate.specs.Marks.{both, closed_needs, is_below, no_needs, not_below};
+ghost use Rattle.smith_validate.specs.Marks.{both, closed_needs, is_below, not_below};
+ghost use Rattle.smith_validate.specs.declared.body.Role.TheVariants.{Exports, Names};
 ghost use Rattle.smith_validate.specs.declared.error.Stop.TheVariants.{OutOfMemory};
 
 use crate::counts::Counts;
@@ -30,10 +27,7 @@ pub(crate) struct Sets {
 
 impl Sets {
     pub(crate) fn new(alloc: Global) -> Sets
-        ensures imported { (table : List Surface) (named : List Id) → IsSettled table result.imported named }
-        ensures exported { (table : List Surface) (named : List Id) → IsSettled table result.exported named }
-        ensures exposed { (table : List Surface)
-            → IsExposed table result.imported [] [] × IsExposed table result.exported [] [] }
+        ensures { IsFresh true (Names result) }
     {
         Sets {
             imported: Exposed::new(alloc),
@@ -62,9 +56,7 @@ pub(crate) struct Exported {
 
 impl Exported {
     pub(crate) fn new(alloc: Global) -> Exported
-        ensures any { result.any ≡ false }
-        ensures refers { result.refers ≡ no_needs }
-        ensures uses { result.uses.items ≡ [] }
+        ensures { IsFresh false (Exports result) }
     {
         Exported {
             any: false,

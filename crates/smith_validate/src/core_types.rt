@@ -10,21 +10,22 @@ ghost use Rattle.smith_syntax.specs.Entries.{core_module};
 ghost use Rattle.smith_syntax.specs.ModuleTypes.{adds, aliased};
 ghost use Rattle.smith_tree.specs.Bodies.{core_facts};
 ghost use Rattle.smith_tree.specs.Facts.{FactScope};
-ghost use Rattle.smith_tree.specs.Sizes.{ValidCore, core_size, entity_size, function_size, function_size_at};
+ghost use Rattle.smith_tree.specs.Sizes.{ValidCore, core_size, entity_size, function_size};
 ghost use Rattle.smith_read.specs.Nodes.{shown_core_node, shown_module_node};
 ghost use Rattle.smith_validate.specs.Judges.{IsUnnamed, Judges};
 ghost use Rattle.smith_syntax.specs.Sizes.{capped};
+ghost use Rattle.smith_syntax.specs.OwnSizes.{added_size, sizes_in};
 ghost use Rattle.smith_validate.specs.Kept.{kept_core, kept_in, kept_of};
 ghost use Rattle.smith_validate.specs.declared.error.Stop.TheVariants.{Invalid};
-ghost use Rattle.smith_validate.specs.Modules.{Fits, Grows, IsSmallModule, added_size, entries_in, memories_in};
-ghost use Rattle.smith_validate.specs.Modules.{one_of_kind, sizes_in, tables_in};
+ghost use Rattle.smith_validate.specs.Modules.{Fits, Grows, IsSmallModule, entries_in, memories_in};
+ghost use Rattle.smith_validate.specs.Modules.{one_of_kind, tables_in};
 
 use crate::error::{Demand, Stop};
 use crate::facts::CoreFacts;
 use crate::known::Scope;
 use smith_format::{EntityType, FuncType};
 use smith_read::{CoreNode, ModuleNode};
-use smith_syntax::{SIZE_BOUND, function_size, size_sum};
+use smith_syntax::{SIZE_BOUND, entity_size, function_size, size_sum};
 use std::alloc::Global;
 
 // How many memories a module type may import, and how many tables.
@@ -70,28 +71,6 @@ impl Module {
         }
     }
 
-    // The size of the function type with that index.
-    fn function_at(&self, index: u32) -> u32
-        ensures { (fs : List Function) → self.now.own.items ≡ sizes_in fs
-            → result ≡ capped (function_size_at fs index) }
-    {
-        match self.own.get(index as usize) {
-            Some(size) => *size,
-            None => 1,
-        }
-    }
-
-    // The size of what is imported or exported.
-    fn size_of(&self, entity: EntityType) -> u32
-        ensures { (fs : List Function) → self.now.own.items ≡ sizes_in fs → result ≡ capped (entity_size fs entity) }
-    {
-        match entity {
-            EntityType::Func(index) => self.function_at(index),
-            EntityType::Tag(tag) => self.function_at(tag.func_type_idx),
-            EntityType::Table(_) | EntityType::Memory(_) | EntityType::Global(_) => 1,
-        }
-    }
-
     // Adds what is imported or exported.
     fn add_entity(&mut self, entity: EntityType) -> Result<(), Stop>
         ensures bound { IfErr result IsUnnamed }
@@ -101,7 +80,7 @@ impl Module {
             → OnOk result (Grows self.old self.new (entity_size fs entity) 0 0) }
         ensures own { self.new.own.items ≡ self.old.own.items }
     {
-        let size = size_sum(self.size, self.size_of(entity));
+        let size = size_sum(self.size, entity_size(&self.own, entity));
         if size >= SIZE_BOUND {
             return Err(Stop::Invalid(Demand::Size));
         }

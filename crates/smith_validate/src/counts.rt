@@ -1,10 +1,10 @@
 //! How many entries there are, by their sort.
 
-ghost use Rattle.std.specs.Prelude.{◌≡◌, ◌+◌, ◌≤◌, IfErr, IfOk, OnOk};
-ghost use Rattle.smith_tree.specs.Counts.{ValidCounts, no_counts, with_component, with_export, with_function};
+ghost use Rattle.std.specs.Prelude.{◌≡◌, ◌+◌, ◌≤◌, IfErr, IfOk};
+ghost use Rattle.smith_tree.specs.Counts.{no_counts, with_component, with_export, with_function};
 ghost use Rattle.smith_tree.specs.Counts.{with_import, with_module, with_reference, with_type_count};
 ghost use Rattle.smith_tree.specs.Demands.{Keeps};
-ghost use Rattle.smith_validate.specs.Counted.{counted};
+ghost use Rattle.smith_validate.specs.Counted.{IsCounted, counted};
 ghost use Rattle.smith_validate.specs.Judges.{IsUnnamed, Judges};
 
 use crate::error::{Demand, Stop};
@@ -58,40 +58,28 @@ impl Counts {
     }
 
     pub(crate) fn add_type(&mut self) -> Result<(), Stop>
-        ensures bound { IfErr result IsUnnamed }
-        ensures judged { ValidCounts (counted self.old)
-            → Judges result (λ d. Keeps d.counts (ValidCounts (with_type_count (counted self.old) 1))) }
-        ensures added { OnOk result (counted self.new ≡ with_type_count (counted self.old) 1) }
+        ensures { IsCounted result self.old self.new (λ c. with_type_count c 1) }
     {
         self.types = one_more(self.types, MANY)?;
         Ok(())
     }
 
     pub(crate) fn add_function(&mut self) -> Result<(), Stop>
-        ensures bound { IfErr result IsUnnamed }
-        ensures judged { ValidCounts (counted self.old)
-            → Judges result (λ d. Keeps d.counts (ValidCounts (with_function (counted self.old)))) }
-        ensures added { OnOk result (counted self.new ≡ with_function (counted self.old)) }
+        ensures { IsCounted result self.old self.new with_function }
     {
         self.functions = one_more(self.functions, MANY)?;
         Ok(())
     }
 
     pub(crate) fn add_module(&mut self) -> Result<(), Stop>
-        ensures bound { IfErr result IsUnnamed }
-        ensures judged { ValidCounts (counted self.old)
-            → Judges result (λ d. Keeps d.counts (ValidCounts (with_module (counted self.old)))) }
-        ensures added { OnOk result (counted self.new ≡ with_module (counted self.old)) }
+        ensures { IsCounted result self.old self.new with_module }
     {
         self.modules = one_more(self.modules, FEW)?;
         Ok(())
     }
 
     pub(crate) fn add_component(&mut self) -> Result<(), Stop>
-        ensures bound { IfErr result IsUnnamed }
-        ensures judged { ValidCounts (counted self.old)
-            → Judges result (λ d. Keeps d.counts (ValidCounts (with_component (counted self.old)))) }
-        ensures added { OnOk result (counted self.new ≡ with_component (counted self.old)) }
+        ensures { IsCounted result self.old self.new with_component }
     {
         self.components = one_more(self.components, FEW)?;
         Ok(())
@@ -99,10 +87,7 @@ impl Counts {
 
     // Adds what is imported or exported.
     fn add(&mut self, to: ComponentTypeRef) -> Result<(), Stop>
-        ensures bound { IfErr result IsUnnamed }
-        ensures judged { ValidCounts (counted self.old)
-            → Judges result (λ d. Keeps d.counts (ValidCounts (with_reference (counted self.old) to))) }
-        ensures added { OnOk result (counted self.new ≡ with_reference (counted self.old) to) }
+        ensures { IsCounted result self.old self.new (λ c. with_reference c to) }
     {
         match to {
             ComponentTypeRef::Module(_) => self.add_module(),
@@ -118,10 +103,7 @@ impl Counts {
 
     /// Adds an import.
     pub(crate) fn add_import(&mut self, to: ComponentTypeRef) -> Result<(), Stop>
-        ensures bound { IfErr result IsUnnamed }
-        ensures judged { ValidCounts (counted self.old)
-            → Judges result (λ d. Keeps d.counts (ValidCounts (with_import (counted self.old) to))) }
-        ensures added { OnOk result (counted self.new ≡ with_import (counted self.old) to) }
+        ensures { IsCounted result self.old self.new (λ c. with_import c to) }
     {
         self.imports = one_more(self.imports, MANY)?;
         self.add(to)
@@ -129,10 +111,7 @@ impl Counts {
 
     /// Adds an export. An export of a type also adds the type.
     pub(crate) fn add_export(&mut self, to: ComponentTypeRef) -> Result<(), Stop>
-        ensures bound { IfErr result IsUnnamed }
-        ensures judged { ValidCounts (counted self.old)
-            → Judges result (λ d. Keeps d.counts (ValidCounts (with_export (counted self.old) to))) }
-        ensures added { OnOk result (counted self.new ≡ with_export (counted self.old) to) }
+        ensures { IsCounted result self.old self.new (λ c. with_export c to) }
     {
         self.exports = one_more(self.exports, MANY)?;
         self.add(to)

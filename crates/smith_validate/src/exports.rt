@@ -1,18 +1,14 @@
 //! Exports of components.
 
-ghost use Rattle.std.specs.Prelude.{◌≡◌, true, List, fold, map, IfErr, ◌+◌, OnOk, take};
-ghost use Rattle.smith_tree.specs.Spaces.{Spaces, after_export as spaces_after_export};
-ghost use Rattle.smith_tree.specs.Bodies.{Body as PlainBody, after_export};
-ghost use Rattle.smith_tree.specs.Facts.{FactScope, Id};
+ghost use Rattle.std.specs.Prelude.{◌≡◌, fold, map, OnOk};
+ghost use Rattle.smith_tree.specs.Spaces.{after_export as spaces_after_export};
+ghost use Rattle.smith_tree.specs.Bodies.{after_export};
 ghost use Rattle.smith_tree.specs.Validates.{ValidExports, exported_reference, exported_references};
 ghost use Rattle.smith_tree.specs.Shown.{shown_export};
-ghost use Rattle.smith_validate.specs.Exact.{IsBodyExactly};
-ghost use Rattle.smith_validate.specs.Instances.{Surface};
-ghost use Rattle.smith_validate.specs.Judges.{IsNamed, Judges};
 ghost use Rattle.smith_validate.specs.Outcome.{asking};
-ghost use Rattle.smith_validate.specs.Parts.{IsOpen};
+ghost use Rattle.smith_validate.specs.Parts.{IsOpen, IsOpenExactly};
+ghost use Rattle.smith_validate.specs.Steps.{Rows, RowsExactly, Steps, StepsExactly};
 ghost use Rattle.smith_check.specs.Tracks.{path_of};
-ghost use Rattle.smith_validate.specs.Tracks.{OnStop, StopsBefore};
 ghost use Rattle.smith_validate.specs.declared.error.Demand.TheVariants.{Named};
 
 use crate::error::Stop;
@@ -31,24 +27,19 @@ fn export_one(
     here: &mut Open,
     export: &Export,
 ) -> Result<(), Stop>
-    ensures judged { (s : Spaces) (b : PlainBody) (outer : List FactScope) (names : List (List Id))
-        (table : List Surface) → IsOpen known.old here.old s b outer names table → Judges result
-        (λ d. ValidExports d (exported_reference s (shown_export export.now)) outer b) }
-    ensures added { (s : Spaces) (b : PlainBody) (outer : List FactScope) (names : List (List Id))
-        (table : List Surface) → IsOpen known.old here.old s b outer names table
-        → OnOk result (IsOpen known.new here.new (spaces_after_export s (shown_export export.now))
-        (fold (after_export outer) b (exported_reference s (shown_export export.now))) outer names table) }
-    ensures exact { (s : Spaces) (b : PlainBody) (outer : List FactScope) (named : List Id) (table : List Surface)
-        → IsBodyExactly true known.old here.old.body b outer named table → here.old.functions.items ≡ s.functions
-        → OnOk result (IsBodyExactly true known.new here.new.body
-        (fold (after_export outer) b (exported_reference s (shown_export export.now))) outer named table) }
-    ensures refused { (s : Spaces) (b : PlainBody) (outer : List FactScope) (named : List Id) (table : List Surface)
-        → IsBodyExactly true known.old here.old.body b outer named table → here.old.functions.items ≡ s.functions
-        → IfErr result (λ e. IsNamed e
-        → ¬ (ValidExports (asking Named) (exported_reference s (shown_export export.now)) outer b)) }
-    ensures functions { (s : Spaces) → here.old.functions.items ≡ s.functions → OnOk result
-        (here.new.functions.items ≡ (spaces_after_export s (shown_export export.now)).functions) }
-    ensures outer { OnOk result (known.new.outer.items ≡ known.old.outer.items) }
+    ensures steps { Steps result (IsOpen known.old here.old) (IsOpen known.new here.new)
+        (λ at outer. (
+          spaces_after_export at.0 (shown_export export.now),
+          fold (after_export outer) at.1 (exported_reference at.0 (shown_export export.now)),
+        ))
+        (λ d at outer. ValidExports d (exported_reference at.0 (shown_export export.now)) outer at.1) }
+    ensures exactly { StepsExactly result (IsOpenExactly known.old here.old) (IsOpenExactly known.new here.new)
+        (λ at outer. (
+          spaces_after_export at.0 (shown_export export.now),
+          fold (after_export outer) at.1 (exported_reference at.0 (shown_export export.now)),
+        )) (λ at outer. Unit {0})
+        (λ at outer. ValidExports (asking Named) (exported_reference at.0 (shown_export export.now)) outer at.1) }
+    ensures outer { OnOk result (known.new.scopes.outer.items ≡ known.old.scopes.outer.items) }
 {
     let Some(ty) = here.function_at(export.func_index) else {
         return Ok(());
@@ -67,31 +58,22 @@ pub(crate) fn add_exports(
     exports: &[Export],
 ) -> Result<(), Stop>
     requires { track.old.place.entry ≡ 0 }
-    ensures judged { (s : Spaces) (b : PlainBody) (outer : List FactScope) (names : List (List Id))
-        (table : List Surface) → IsOpen known.old here.old s b outer names table → Judges result
-        (λ d. ValidExports d (exported_references s (map shown_export exports.now)) outer b) }
-    ensures added { (s : Spaces) (b : PlainBody) (outer : List FactScope) (names : List (List Id))
-        (table : List Surface) → IsOpen known.old here.old s b outer names table → OnOk result
-        (IsOpen known.new here.new (fold spaces_after_export s (map shown_export exports.now))
-        (fold (after_export outer) b (exported_references s (map shown_export exports.now))) outer names table) }
-    ensures exact { (s : Spaces) (b : PlainBody) (outer : List FactScope) (named : List Id) (table : List Surface)
-        → IsBodyExactly true known.old here.old.body b outer named table → here.old.functions.items ≡ s.functions
-        → OnOk result (IsBodyExactly true known.new here.new.body
-        (fold (after_export outer) b (exported_references s (map shown_export exports.now))) outer named table) }
-    ensures refused { (s : Spaces) (b : PlainBody) (outer : List FactScope) (named : List Id) (table : List Surface)
-        → IsBodyExactly true known.old here.old.body b outer named table → here.old.functions.items ≡ s.functions
-        → IfErr result (λ e. IsNamed e
-        → ¬ (ValidExports (asking Named) (exported_references s (map shown_export exports.now)) outer b)) }
-    ensures outer { OnOk result (known.new.outer.items ≡ known.old.outer.items) }
+    ensures rows { Rows result (IsOpen known.old here.old) (IsOpen known.new here.new)
+        (λ es at outer. (
+          fold spaces_after_export at.0 es,
+          fold (after_export outer) at.1 (exported_references at.0 es),
+        ))
+        (λ d es at outer. ValidExports d (exported_references at.0 es) outer at.1)
+        (map shown_export exports.now) track.new.place.entry }
+    ensures exactly { RowsExactly result (IsOpenExactly known.old here.old) (IsOpenExactly known.new here.new)
+        (λ es at outer. (
+          fold spaces_after_export at.0 es,
+          fold (after_export outer) at.1 (exported_references at.0 es),
+        )) (λ es at outer. Unit {0})
+        (λ d es at outer. ValidExports d (exported_references at.0 es) outer at.1)
+        (map shown_export exports.now) track.new.place.entry }
+    ensures outer { OnOk result (known.new.scopes.outer.items ≡ known.old.scopes.outer.items) }
     ensures path { path_of track.new ≡ path_of track.old }
-    ensures place { (s : Spaces) (b : PlainBody) (outer : List FactScope) (names : List (List Id))
-        (table : List Surface) → IsOpen known.old here.old s b outer names table → OnStop result (λ e. StopsBefore e
-        (λ d n. ValidExports d (exported_references s (take n (map shown_export exports.now))) outer b)
-        track.new.place.entry) }
-    ensures unnamed { (s : Spaces) (b : PlainBody) (outer : List FactScope) (named : List Id) (table : List Surface)
-        → IsBodyExactly true known.old here.old.body b outer named table → here.old.functions.items ≡ s.functions
-        → IfErr result (λ e. IsNamed e → ¬ (ValidExports (asking Named)
-        (exported_references s (take (track.new.place.entry + 1) (map shown_export exports.now))) outer b)) }
 {
     for export in exports {
         export_one(alloc, known, here, export)?;

@@ -1,15 +1,17 @@
 //! What is known before a place.
 
-ghost use Rattle.std.specs.Prelude.{◌≡◌, ◌<◌, ◌∷◌, ◌++◌, [], length, option_map, slice_get, IfErr, OnOk};
+ghost use Rattle.std.specs.Prelude.{◌≡◌, ◌∷◌, ◌++◌, [], length, option_map, slice_get, IfErr, MatchOption};
+ghost use Rattle.std.specs.Prelude.{None, OnOk, Some};
 ghost use Rattle.smith_syntax.specs.Scope.{empty_scope, with_core_type, with_type};
 ghost use Rattle.smith_validate.specs.Kept.{kept_in, named_at, outer_in, own_in, type_in, types_in};
+ghost use Rattle.smith_validate.specs.Steps.{SameBeside};
 ghost use Rattle.smith_validate.specs.declared.error.Stop.TheVariants.{OutOfMemory};
 
 use crate::error::Stop;
 use crate::facts::{CoreFacts, Facts};
 use crate::instances::InstanceType;
+use smith_scopes::Nest;
 use std::alloc::Global;
-use std::mem::replace;
 
 /// The types and core types of a scope.
 #[derive(Drop)]
@@ -45,25 +47,22 @@ impl Scope {
     }
 }
 
-/// The innermost scope and those around it, outermost first; and all types of instances that were declared, each after
-/// those that it exports.
+/// The scopes that are open, and all types of instances that were declared, each after those that it exports.
 #[derive(Drop)]
 pub(crate) struct Known {
-    pub(crate) own: Scope,
-    pub(crate) outer: Vec<Scope>,
+    pub(crate) scopes: Nest<Scope>,
     pub(crate) instances: Vec<InstanceType>,
 }
 
 impl Known {
     pub(crate) fn new(alloc: Global) -> Known
         ensures own { own_in result ≡ empty_scope }
-        ensures types { result.own.types.items ≡ [] }
-        ensures outer { result.outer.items ≡ [] }
+        ensures types { result.scopes.own.types.items ≡ [] }
+        ensures outer { result.scopes.outer.items ≡ [] }
         ensures instances { result.instances.items ≡ [] }
     {
         Known {
-            own: Scope::new(alloc),
-            outer: Vec::new(alloc),
+            scopes: Nest::new(alloc, Scope::new(alloc)),
             instances: Vec::new(alloc),
         }
     }
@@ -71,41 +70,24 @@ impl Known {
     /// Enters an empty scope.
     pub(crate) fn enter(&mut self, alloc: Global) -> Result<(), Stop>
         ensures own { OnOk result (own_in self.new ≡ empty_scope) }
-        ensures types { OnOk result (self.new.own.types.items ≡ []) }
-        ensures outer { OnOk result (self.new.outer.items ≡ self.old.outer.items ++ self.old.own ∷ []) }
+        ensures types { OnOk result (self.new.scopes.own.types.items ≡ []) }
+        ensures outer { OnOk result
+            (self.new.scopes.outer.items ≡ self.old.scopes.outer.items ++ self.old.scopes.own ∷ []) }
         ensures instances { self.new.instances.items ≡ self.old.instances.items }
         ensures memory { IfErr result (λ e. e ≡ OutOfMemory) }
     {
-        let own = replace(&mut self.own, Scope::new(alloc));
-        self.outer.push(own)?;
+        self.scopes.enter(Scope::new(alloc))?;
         Ok(())
     }
 
-    /// Leaves the innermost scope, which has one around it.
-    pub(crate) fn leave(&mut self)
-        requires { 0 < length self.old.outer.items }
-        ensures outer { self.old.outer.items ≡ self.new.outer.items ++ self.new.own ∷ [] }
-        ensures instances { self.new.instances.items ≡ self.old.instances.items }
-    {
-        if let Some(own) = self.outer.pop() {
-            let _inner = replace(&mut self.own, own);
-        }
-    }
-
-    /// The scope of that count, innermost first.
+    // The scope of that count, innermost first.
     fn scope_at(&self, count: u32) -> Option<&Scope>
-        ensures sizes { option_map (λ s. kept_in s.now) result ≡ slice_get (own_in self.now ∷ outer_in self.now) count }
-        ensures types { option_map (λ s. s.now.types.items) result ≡ slice_get (types_in self.now) count }
+        ensures sizes { MatchOption result (slice_get (own_in self.now ∷ outer_in self.now) count ≡ None)
+            (λ s. slice_get (own_in self.now ∷ outer_in self.now) count ≡ Some (kept_in s.now)) }
+        ensures types { MatchOption result (slice_get (types_in self.now) count ≡ None)
+            (λ s. slice_get (types_in self.now) count ≡ Some s.now.types.items) }
     {
-        if count == 0 {
-            return Some(&self.own);
-        }
-        let count = count as usize;
-        if count <= self.outer.len() {
-            Some(&self.outer[self.outer.len() - count])
-        } else {
-            None
-        }
+        self.scopes.get(count)
     }
 
     /// The type that an outer alias names.
@@ -127,31 +109,30 @@ impl Known {
     /// Adds a type to the innermost scope.
     pub(crate) fn add_type(&mut self, facts: Facts) -> Result<(), Stop>
         ensures own { OnOk result (own_in self.new ≡ with_type (own_in self.old) facts.size) }
-        ensures types { OnOk result (self.new.own.types.items ≡ self.old.own.types.items ++ facts ∷ []) }
-        ensures outer { self.new.outer.items ≡ self.old.outer.items }
-        ensures instances { self.new.instances.items ≡ self.old.instances.items }
+        ensures types { OnOk result
+            (self.new.scopes.own.types.items ≡ self.old.scopes.own.types.items ++ facts ∷ []) }
+        ensures beside { SameBeside self.old self.new }
         ensures memory { IfErr result (λ e. e ≡ OutOfMemory) }
     {
-        self.own.types.push(facts)?;
+        self.scopes.own.types.push(facts)?;
         Ok(())
     }
 
     /// Adds a core type to the innermost scope.
     pub(crate) fn add_core_type(&mut self, facts: CoreFacts) -> Result<(), Stop>
         ensures own { OnOk result (own_in self.new ≡ with_core_type (own_in self.old) facts) }
-        ensures types { self.new.own.types.items ≡ self.old.own.types.items }
-        ensures outer { self.new.outer.items ≡ self.old.outer.items }
-        ensures instances { self.new.instances.items ≡ self.old.instances.items }
+        ensures types { self.new.scopes.own.types.items ≡ self.old.scopes.own.types.items }
+        ensures beside { SameBeside self.old self.new }
         ensures memory { IfErr result (λ e. e ≡ OutOfMemory) }
     {
-        self.own.core_types.push(facts)?;
+        self.scopes.own.core_types.push(facts)?;
         Ok(())
     }
 
     /// How many scopes there are around the innermost one.
     pub(crate) fn depth(&self) -> usize
-        ensures { result ≡ length self.now.outer.items }
+        ensures { result ≡ length self.now.scopes.outer.items }
     {
-        self.outer.len()
+        self.scopes.outer.len()
     }
 }

@@ -1,23 +1,21 @@
 //! Components.
 
-ghost use Rattle.std.specs.Prelude.{◌≡◌, ◌∷◌, [], true, List, map, IfErr, IfOk, ◌+◌, OnOk, length};
+ghost use Rattle.std.specs.Prelude.{◌≡◌, [], true, map, IfOk, ◌+◌, OnOk};
 ghost use Rattle.smith_syntax.specs.Scope.{empty_scope};
-ghost use Rattle.smith_tree.specs.Spaces.{Spaces, after_part as spaces_after, no_spaces};
+ghost use Rattle.smith_tree.specs.Spaces.{after_part as spaces_after, no_spaces};
 ghost use Rattle.smith_tree.specs.Tree.{tree_of};
-ghost use Rattle.smith_tree.specs.Bodies.{Body as PlainBody, empty_body};
-ghost use Rattle.smith_tree.specs.Facts.{FactScope, Id};
+ghost use Rattle.smith_tree.specs.Bodies.{empty_body};
 ghost use Rattle.smith_tree.specs.Validates.{ValidPart, ValidParts, after_part};
 ghost use Rattle.smith_read.specs.PartNodes.{shown_part_node, shown_tree};
 ghost use Rattle.smith_validate.specs.Bodies.{IsIn};
-ghost use Rattle.smith_validate.specs.Exact.{AreKnown, IsBodyExactly, IsBodyExactlyAfter};
-ghost use Rattle.smith_validate.specs.Instances.{Surface, IsTableNow};
-ghost use Rattle.smith_validate.specs.Judges.{IsNamed, Judges};
+ghost use Rattle.smith_validate.specs.Exact.{IsBodyExactly};
+ghost use Rattle.smith_validate.specs.Instances.{IsTableNow};
 ghost use Rattle.smith_validate.specs.Outcome.{IsOutcome, asking};
-ghost use Rattle.smith_validate.specs.Parts.{IsOpen, IsOpenNow};
-ghost use Rattle.smith_validate.specs.Kept.{types_in};
+ghost use Rattle.smith_validate.specs.Parts.{IsBegun, IsOpen, IsOpenBoth};
+ghost use Rattle.smith_validate.specs.Steps.{Later, Walks, WalksExactly};
 ghost use Rattle.smith_validate.specs.Tables.{AreExactNow};
 ghost use Rattle.smith_check.specs.Tracks.{path_of};
-ghost use Rattle.smith_validate.specs.Tracks.{IsAt, OnStop, PartUpto, StopsBefore, TreeUpto};
+ghost use Rattle.smith_validate.specs.Tracks.{IsAt, PartUpto, StopsBefore, TreeUpto};
 ghost use Rattle.smith_validate.specs.Usual.{AreUsualParts, IsUsualPart};
 ghost use Rattle.smith_validate.specs.declared.error.Demand.TheVariants.{Named};
 
@@ -42,35 +40,26 @@ fn add_part(
     part: &PartNode,
 ) -> Result<(), Stop>
     requires { track.old.place.entry ≡ 0 }
-    ensures judged { (s : Spaces) (b : PlainBody) (outer : List FactScope) (names : List (List Id))
-        (table : List Surface) → IsOpen known.old here.old s b outer names table
-        → Judges result (λ d. ValidPart d (shown_part_node part.now) s outer b) }
-    ensures added { (s : Spaces) (b : PlainBody) (outer : List FactScope) (names : List (List Id))
-        (table : List Surface) → IsOpen known.old here.old s b outer names table → OnOk result
-        (IsOpenNow known.new here.new (spaces_after s (shown_part_node part.now))
-        (after_part (shown_part_node part.now) s outer b) outer names table) }
-    ensures exact { (s : Spaces) (b : PlainBody) (outer : List FactScope) (names : List (List Id)) (named : List Id)
-        (covered table : List Surface) → IsOpen known.old here.old s b outer names covered
-        → IsBodyExactly true known.old here.old.body b outer named table
-        → IsUsualPart (shown_part_node part.now) s outer b → OnOk result (IsBodyExactlyAfter true known.new
-        here.new.body (after_part (shown_part_node part.now) s outer b) outer named table) }
-    ensures refused { (s : Spaces) (b : PlainBody) (outer : List FactScope) (names : List (List Id))
-        (named : List Id) (covered table : List Surface) → IsOpen known.old here.old s b outer names covered
-        → IsBodyExactly true known.old here.old.body b outer named table
-        → IsUsualPart (shown_part_node part.now) s outer b
-        → IfErr result (λ e. IsNamed e → ¬ (ValidPart (asking Named) (shown_part_node part.now) s outer b)) }
-    ensures outer { OnOk result (known.new.outer.items ≡ known.old.outer.items) }
+    ensures walks { Walks result (IsOpen known.old here.old) (Later (IsOpen known.new here.new))
+        (λ at outer. (
+          spaces_after at.0 (shown_part_node part.now),
+          after_part (shown_part_node part.now) at.0 outer at.1,
+        ))
+        (λ d at outer. ValidPart d (shown_part_node part.now) at.0 outer at.1)
+        (λ e at outer. IsAt (path_of track.old) track.new
+        (λ inner. StopsBefore e (PartUpto (shown_part_node part.now) at.0 outer at.1 inner))) }
+    ensures exactly { WalksExactly result (IsOpenBoth known.old here.old)
+        (Later (λ at. IsBodyExactly true known.new here.new.body at.1))
+        (λ at outer. (
+          spaces_after at.0 (shown_part_node part.now),
+          after_part (shown_part_node part.now) at.0 outer at.1,
+        ))
+        (λ at outer. IsUsualPart (shown_part_node part.now) at.0 outer at.1)
+        (λ at outer. ValidPart (asking Named) (shown_part_node part.now) at.0 outer at.1)
+        (λ at outer. IsAt (path_of track.old) track.new
+        (λ inner n. ¬ (PartUpto (shown_part_node part.now) at.0 outer at.1 inner (asking Named) (n + 1)))) }
+    ensures outer { OnOk result (known.new.scopes.outer.items ≡ known.old.scopes.outer.items) }
     ensures path { OnOk result (path_of track.new ≡ path_of track.old) }
-    ensures place { (s : Spaces) (b : PlainBody) (outer : List FactScope) (names : List (List Id))
-        (table : List Surface) → IsOpen known.old here.old s b outer names table
-        → OnStop result (λ e. IsAt (path_of track.old) track.new
-        (λ inner. StopsBefore e (PartUpto (shown_part_node part.now) s outer b inner))) }
-    ensures unnamed { (s : Spaces) (b : PlainBody) (outer : List FactScope) (names : List (List Id))
-        (named : List Id) (covered table : List Surface) → IsOpen known.old here.old s b outer names covered
-        → IsBodyExactly true known.old here.old.body b outer named table
-        → IsUsualPart (shown_part_node part.now) s outer b
-        → IfErr result (λ e. IsNamed e → IsAt (path_of track.old) track.new
-        (λ inner n. ¬ (PartUpto (shown_part_node part.now) s outer b inner (asking Named) (n + 1)))) }
 {
     match part {
         PartNode::Custom(_section) => Ok(()),
@@ -80,7 +69,7 @@ fn add_part(
             here.body.counts.add_component()?;
             known.enter(alloc)?;
             add_parts(alloc, track, known, parts)?;
-            known.leave();
+            known.scopes.leave();
             Ok(())
         }
         PartNode::Types(types) => add_types(alloc, track, known, &mut here.body, types),
@@ -98,37 +87,19 @@ fn add_parts(
     known: &mut Known,
     parts: &[PartNode],
 ) -> Result<(), Stop>
-    ensures judged { (outer : List FactScope) (names : List (List Id)) (table : List Surface)
-        → IsIn known.old empty_scope outer [] names table → Judges result
-        (λ d. ValidParts d (tree_of (map shown_part_node parts.now)) no_spaces outer empty_body) }
-    ensures instances { (outer : List FactScope) (names : List (List Id)) (table : List Surface)
-        → IsIn known.old empty_scope outer [] names table → OnOk result
-        (IsTableNow known.new.instances.items table) }
-    ensures exact { (outer : List FactScope) (names : List (List Id)) (named : List Id)
-        (covered table : List Surface) → IsIn known.old empty_scope outer [] names covered
-        → AreKnown (types_in known.old) known.old.instances.items (empty_scope ∷ outer) named table
-        → length outer ≡ length known.old.outer.items
-        → AreUsualParts (tree_of (map shown_part_node parts.now)) no_spaces outer empty_body
-        → OnOk result (AreExactNow known.new.instances.items table) }
-    ensures refused { (outer : List FactScope) (names : List (List Id)) (named : List Id)
-        (covered table : List Surface) → IsIn known.old empty_scope outer [] names covered
-        → AreKnown (types_in known.old) known.old.instances.items (empty_scope ∷ outer) named table
-        → length outer ≡ length known.old.outer.items
-        → AreUsualParts (tree_of (map shown_part_node parts.now)) no_spaces outer empty_body
-        → IfErr result (λ e. IsNamed e
-        → ¬ (ValidParts (asking Named) (tree_of (map shown_part_node parts.now)) no_spaces outer empty_body)) }
-    ensures outer { OnOk result (known.new.outer.items ≡ known.old.outer.items) }
-    ensures path { OnOk result (path_of track.new ≡ path_of track.old) }
-    ensures place { (outer : List FactScope) (names : List (List Id)) (table : List Surface)
-        → IsIn known.old empty_scope outer [] names table → OnStop result (λ e. IsAt (path_of track.old) track.new
+    ensures walks { Walks result (λ (_ : Unit {0}) outer names table. IsIn known.old empty_scope outer [] names table)
+        (λ _ outer names table. IsTableNow known.new.instances.items table) (λ at outer. at)
+        (λ d _ outer. ValidParts d (tree_of (map shown_part_node parts.now)) no_spaces outer empty_body)
+        (λ e _ outer. IsAt (path_of track.old) track.new
         (λ inner. StopsBefore e (TreeUpto (tree_of (map shown_part_node parts.now)) outer inner))) }
-    ensures unnamed { (outer : List FactScope) (names : List (List Id)) (named : List Id)
-        (covered table : List Surface) → IsIn known.old empty_scope outer [] names covered
-        → AreKnown (types_in known.old) known.old.instances.items (empty_scope ∷ outer) named table
-        → length outer ≡ length known.old.outer.items
-        → AreUsualParts (tree_of (map shown_part_node parts.now)) no_spaces outer empty_body
-        → IfErr result (λ e. IsNamed e → IsAt (path_of track.old) track.new
+    ensures exactly { WalksExactly result (λ (_ : Unit {0}). IsBegun known.old)
+        (λ _ outer named table. AreExactNow known.new.instances.items table) (λ at outer. at)
+        (λ _ outer. AreUsualParts (tree_of (map shown_part_node parts.now)) no_spaces outer empty_body)
+        (λ _ outer. ValidParts (asking Named) (tree_of (map shown_part_node parts.now)) no_spaces outer empty_body)
+        (λ _ outer. IsAt (path_of track.old) track.new
         (λ inner n. ¬ (TreeUpto (tree_of (map shown_part_node parts.now)) outer inner (asking Named) (n + 1)))) }
+    ensures outer { OnOk result (known.new.scopes.outer.items ≡ known.old.scopes.outer.items) }
+    ensures path { OnOk result (path_of track.new ≡ path_of track.old) }
 {
     track.enter()?;
     let mut here = Open::new(alloc);

@@ -21,6 +21,7 @@ ghost use Rattle.smith_validate.specs.Instances.{AreKept, Surface, IsTable};
 ghost use Rattle.smith_validate.specs.Judges.{IsNamed, IsUnnamed, Judges};
 ghost use Rattle.smith_syntax.specs.Sizes.{capped};
 ghost use Rattle.smith_validate.specs.Kept.{kept_of, own_in};
+ghost use Rattle.smith_validate.specs.Steps.{SameBeside};
 ghost use Rattle.smith_validate.specs.Tables.{AreAdded, AreExact};
 ghost use Rattle.smith_validate.specs.Usual.{IsUsualImport};
 
@@ -38,7 +39,7 @@ fn size_at(known: &Known, index: u32) -> u32
     ensures { (own : FactScope) → own_in known.now ≡ kept_of own
         → result ≡ capped (get_or (sizes own.types) index 0) }
 {
-    match known.own.type_at(index) {
+    match known.scopes.own.type_at(index) {
         Some(facts) => facts.size,
         None => 0,
     }
@@ -49,7 +50,7 @@ fn module_size_at(known: &Known, index: u32) -> u32
     ensures { (own : FactScope) → own_in known.now ≡ kept_of own
         → result ≡ capped (module_size_at own.core_types index) }
 {
-    match known.own.core_type_at(index) {
+    match known.scopes.own.core_type_at(index) {
         Some(CoreFacts::Module(size)) => size,
         Some(CoreFacts::Func(_)) | None => 0,
     }
@@ -72,9 +73,9 @@ fn size_of_reference(known: &Known, to: ComponentTypeRef) -> u32
 // What has to be named of what is imported or exported, if anything.
 fn extern_at(known: &Known, to: ComponentTypeRef) -> Option<Extern>
     ensures found { (own : FactScope) (outer : List FactScope) (names : List (List Id)) (table : List Surface)
-        → AreKept table names known.now.own.types.items own.types
+        → AreKept table names known.now.scopes.own.types.items own.types
         → IsExtern table names result (externs_at own outer to) }
-    ensures marks { result ≡ extern_of known.now.own.types.items to }
+    ensures marks { result ≡ extern_of known.now.scopes.own.types.items to }
 {
     match to {
         ComponentTypeRef::Func(index) => equal_at(known, index),
@@ -86,12 +87,12 @@ fn extern_at(known: &Known, to: ComponentTypeRef) -> Option<Extern>
 
 // A function of the type with that index, or a type that is equal to it.
 fn equal_at(known: &Known, index: u32) -> Option<Extern>
-    ensures marks { result ≡ option_map kept_extern (slice_get known.now.own.types.items index) }
+    ensures marks { result ≡ option_map kept_extern (slice_get known.now.scopes.own.types.items index) }
     ensures found { (types : List PlainFacts) (names : List (List Id)) (table : List Surface) (ids : List Id)
-        → AreKept table names known.now.own.types.items types → IsExtern table names result
+        → AreKept table names known.now.scopes.own.types.items types → IsExtern table names result
         (map (λ f. record { refers = f.refers; names = ids }) (option_to_list (slice_get types index))) }
 {
-    match known.own.type_at(index) {
+    match known.scopes.own.type_at(index) {
         Some(facts) => Some(equal_extern(facts)),
         None => None,
     }
@@ -99,12 +100,12 @@ fn equal_at(known: &Known, index: u32) -> Option<Extern>
 
 // An instance of the type with that index.
 fn instance_at(known: &Known, index: u32) -> Option<Extern>
-    ensures marks { result ≡ instance_of known.now.own.types.items index }
+    ensures marks { result ≡ instance_of known.now.scopes.own.types.items index }
     ensures found { (types : List PlainFacts) (names : List (List Id)) (table : List Surface)
-        → AreKept table names known.now.own.types.items types → IsExtern table names result
+        → AreKept table names known.now.scopes.own.types.items types → IsExtern table names result
         (flat_map (λ f. f.exports) (option_to_list (slice_get types index))) }
 {
-    match known.own.type_at(index) {
+    match known.scopes.own.type_at(index) {
         Some(facts) => instance_extern(facts),
         None => None,
     }
@@ -289,9 +290,9 @@ pub(crate) fn add_import(
 // The type that an export adds.
 fn add_exported(known: &mut Known, counts: &mut Counts, to: ComponentTypeRef) -> Result<(), Stop>
     ensures bound { IfErr result IsUnnamed }
-    ensures types { OnOk result (known.new.own.types.items ≡ known.old.own.types.items
-        ++ exported_of known.old.own.types.items (length known.old.outer.items) to) }
-    ensures instances { known.new.instances.items ≡ known.old.instances.items }
+    ensures types { OnOk result (known.new.scopes.own.types.items ≡ known.old.scopes.own.types.items
+        ++ exported_of known.old.scopes.own.types.items (length known.old.scopes.outer.items) to) }
+    ensures beside { SameBeside known.old known.new }
     ensures judged { (own : FactScope) (outer : List FactScope) (here : List Id) (names : List (List Id))
         (table : List Surface) → IsIn known.old own outer here names table → ValidCounts (counted counts.old)
         → Judges result (λ d. Keeps d.counts
@@ -303,12 +304,11 @@ fn add_exported(known: &mut Known, counts: &mut Counts, to: ComponentTypeRef) ->
     ensures counts { (own : FactScope) (outer : List FactScope) (here : List Id) (names : List (List Id))
         (table : List Surface) → IsIn known.old own outer here names table → OnOk result
         (counted counts.new ≡ with_type_count (counted counts.old) (length (exported_facts own outer to))) }
-    ensures outer { known.new.outer.items ≡ known.old.outer.items }
 {
     let ComponentTypeRef::TypeEq(index) = to else {
         return Ok(());
     };
-    let Some(facts) = known.own.type_at(index) else {
+    let Some(facts) = known.scopes.own.type_at(index) else {
         return Ok(());
     };
     counts.add_type()?;
@@ -336,7 +336,7 @@ pub(crate) fn add_export(
     ensures refused { (asks : Bool) (b : PlainBody) (outer : List FactScope) (named : List Id)
         (table : List Surface) → IsBodyExactly asks known.old body.old b outer named table
         → IfErr result (λ e. IsNamed e → ¬ (IsAsked asks (exported b) (externs_at b.own outer to))) }
-    ensures outer { known.new.outer.items ≡ known.old.outer.items }
+    ensures outer { known.new.scopes.outer.items ≡ known.old.scopes.outer.items }
 {
     name_export(alloc, known, &mut body.role, to)?;
     body.counts.add_export(to)?;

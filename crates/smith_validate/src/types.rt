@@ -9,7 +9,7 @@ ghost use Rattle.smith_tree.specs.Bodies.{with_core_facts, with_facts};
 ghost use Rattle.smith_tree.specs.Facts.{CoreFacts as PlainCoreFacts, FactScope, Facts as PlainFacts, Id, id_at};
 ghost use Rattle.smith_tree.specs.Validates.{ValidDecl, ValidDecls, ValidEntry, names_of};
 ghost use Rattle.smith_read.specs.TypeNodes.{shown_decl_node, shown_type_node};
-ghost use Rattle.smith_validate.specs.Bodies.{IsBody, IsBodyNow, IsEmpty, IsFresh, IsIn, IsOther, IsRole};
+ghost use Rattle.smith_validate.specs.Bodies.{IsBody, IsEmpty, IsFresh, IsIn, IsOther, IsRole};
 ghost use Rattle.smith_validate.specs.Exact.{AreKnown, IsBodyExactly, IsBodyExactlyNow, IsDeclaredExactly};
 ghost use Rattle.smith_validate.specs.Exact.{IsJudgedExactly};
 ghost use Rattle.smith_validate.specs.Nested.{IsDeclared, IsJudged, instance_plain};
@@ -18,6 +18,7 @@ ghost use Rattle.smith_validate.specs.Judges.{IsNamed, IsUnnamed, Judges};
 ghost use Rattle.smith_syntax.specs.Sizes.{capped};
 ghost use Rattle.smith_validate.specs.Kept.{kept_core, types_in};
 ghost use Rattle.smith_validate.specs.Outcome.{asking};
+ghost use Rattle.smith_validate.specs.Steps.{Later, Leaves, SameScopes};
 ghost use Rattle.smith_validate.specs.Usual.{AreUsualDecls, IsUsualDecl, IsUsualEntry};
 ghost use Rattle.smith_validate.specs.declared.error.Demand.TheVariants.{Named};
 
@@ -33,9 +34,8 @@ use std::alloc::Global;
 
 /// Adds a type.
 pub(crate) fn add_type(known: &mut Known, body: &mut Body, ty: Facts) -> Result<(), Stop>
-    ensures role { body.new.role ≡ body.old.role }
-    ensures instances { known.new.instances.items ≡ known.old.instances.items }
-    ensures types { OnOk result (known.new.own.types.items ≡ known.old.own.types.items ++ ty ∷ []) }
+    ensures leaves { Leaves known.old known.new body.old body.new }
+    ensures types { OnOk result (known.new.scopes.own.types.items ≡ known.old.scopes.own.types.items ++ ty ∷ []) }
     ensures bound { IfErr result IsUnnamed }
     ensures judged { (asks : Bool) (b : PlainBody) (outer : List FactScope) (names : List (List Id))
         (table : List Surface) (f : PlainFacts) → IsBody asks known.old body.old b outer names table
@@ -44,7 +44,6 @@ pub(crate) fn add_type(known: &mut Known, body: &mut Body, ty: Facts) -> Result<
         (table : List Surface) (f : PlainFacts) → IsBody asks known.old body.old b outer names table
         → ty.size ≡ capped f.size → IsKept table (names_of b.exports ∷ names) ty f
         → OnOk result (IsBody asks known.new body.new (with_facts b (f ∷ [])) outer names table) }
-    ensures outer { known.new.outer.items ≡ known.old.outer.items }
 {
     body.counts.add_type()?;
     known.add_type(ty)
@@ -52,9 +51,8 @@ pub(crate) fn add_type(known: &mut Known, body: &mut Body, ty: Facts) -> Result<
 
 /// Adds a core type.
 pub(crate) fn add_core_type(known: &mut Known, body: &mut Body, ty: CoreFacts) -> Result<(), Stop>
-    ensures role { body.new.role ≡ body.old.role }
-    ensures instances { known.new.instances.items ≡ known.old.instances.items }
-    ensures types { OnOk result (known.new.own.types.items ≡ known.old.own.types.items) }
+    ensures leaves { Leaves known.old known.new body.old body.new }
+    ensures types { OnOk result (known.new.scopes.own.types.items ≡ known.old.scopes.own.types.items) }
     ensures bound { IfErr result IsUnnamed }
     ensures judged { (asks : Bool) (b : PlainBody) (outer : List FactScope) (names : List (List Id))
         (table : List Surface) (f : PlainCoreFacts) → IsBody asks known.old body.old b outer names table
@@ -63,7 +61,6 @@ pub(crate) fn add_core_type(known: &mut Known, body: &mut Body, ty: CoreFacts) -
         (table : List Surface) (f : PlainCoreFacts) → IsBody asks known.old body.old b outer names table
         → ty ≡ kept_core f
         → OnOk result (IsBody asks known.new body.new (with_core_facts b (f ∷ [])) outer names table) }
-    ensures outer { known.new.outer.items ≡ known.old.outer.items }
 {
     body.counts.add_type()?;
     known.add_core_type(ty)
@@ -71,9 +68,9 @@ pub(crate) fn add_core_type(known: &mut Known, body: &mut Body, ty: CoreFacts) -
 
 // Adds a type, if there is one.
 fn add_named(known: &mut Known, body: &mut Body, ty: Option<Facts>) -> Result<(), Stop>
-    ensures role { body.new.role ≡ body.old.role }
-    ensures instances { known.new.instances.items ≡ known.old.instances.items }
-    ensures types { OnOk result (known.new.own.types.items ≡ known.old.own.types.items ++ option_to_list ty) }
+    ensures leaves { Leaves known.old known.new body.old body.new }
+    ensures types { OnOk result
+        (known.new.scopes.own.types.items ≡ known.old.scopes.own.types.items ++ option_to_list ty) }
     ensures bound { IfErr result IsUnnamed }
     ensures judged { (asks : Bool) (b : PlainBody) (outer : List FactScope) (names : List (List Id))
         (table : List Surface) (f : Option PlainFacts) → IsBody asks known.old body.old b outer names table
@@ -84,7 +81,6 @@ fn add_named(known: &mut Known, body: &mut Body, ty: Option<Facts>) -> Result<()
         → option_map (λ t. t.size) ty ≡ option_map (λ t. capped t.size) f
         → AreKept table (names_of b.exports ∷ names) (option_to_list ty) (option_to_list f)
         → OnOk result (IsBody asks known.new body.new (with_facts b (option_to_list f)) outer names table) }
-    ensures outer { known.new.outer.items ≡ known.old.outer.items }
 {
     match ty {
         Some(ty) => add_type(known, body, ty),
@@ -94,9 +90,8 @@ fn add_named(known: &mut Known, body: &mut Body, ty: Option<Facts>) -> Result<()
 
 // Adds a core type, if there is one.
 fn add_core_named(known: &mut Known, body: &mut Body, ty: Option<CoreFacts>) -> Result<(), Stop>
-    ensures role { body.new.role ≡ body.old.role }
-    ensures instances { known.new.instances.items ≡ known.old.instances.items }
-    ensures types { OnOk result (known.new.own.types.items ≡ known.old.own.types.items) }
+    ensures leaves { Leaves known.old known.new body.old body.new }
+    ensures types { OnOk result (known.new.scopes.own.types.items ≡ known.old.scopes.own.types.items) }
     ensures bound { IfErr result IsUnnamed }
     ensures judged { (asks : Bool) (b : PlainBody) (outer : List FactScope) (names : List (List Id))
         (table : List Surface) (f : Option PlainCoreFacts) → IsBody asks known.old body.old b outer names table
@@ -105,7 +100,6 @@ fn add_core_named(known: &mut Known, body: &mut Body, ty: Option<CoreFacts>) -> 
         (table : List Surface) (f : Option PlainCoreFacts) → IsBody asks known.old body.old b outer names table
         → ty ≡ option_map kept_core f
         → OnOk result (IsBody asks known.new body.new (with_core_facts b (option_to_list f)) outer names table) }
-    ensures outer { known.new.outer.items ≡ known.old.outer.items }
 {
     match ty {
         Some(ty) => add_core_type(known, body, ty),
@@ -118,15 +112,14 @@ fn instance_type(known: &mut Known, body: Body) -> Result<Facts, Stop>
     ensures bound { IfErr result IsUnnamed }
     ensures size { IfOk result (λ f. f.size ≡ body.size) }
     ensures other { IfErr result IsOther }
-    ensures own { known.new.own ≡ known.old.own }
-    ensures outer { known.new.outer.items ≡ known.old.outer.items }
+    ensures scopes { SameScopes known.old known.new }
     ensures kept { (id : Id) (b : PlainBody) (here : List Id) (names : List (List Id)) (table : List Surface)
-        → IsTable known.old.instances.items table → length names ≡ length known.old.outer.items
+        → IsTable known.old.instances.items table → length names ≡ length known.old.scopes.outer.items
         → IsRole table (here ∷ names) false body.role b → IfOk result (λ f.
         IsDeclared table (here ∷ names) known.new f (instance_plain id b)) }
     ensures exact { (b : PlainBody) (own : FactScope) (outer : List FactScope) (named : List Id)
         (table : List Surface) → IsJudgedExactly false known.old body b (own ∷ outer) named table
-        → length outer ≡ length known.old.outer.items → IfOk result (λ f.
+        → length outer ≡ length known.old.scopes.outer.items → IfOk result (λ f.
         IsDeclaredExactly own outer named table known.new f (instance_plain (id_at (own ∷ outer)) b)) }
 {
     let Body { size, role, .. } = body;
@@ -157,18 +150,18 @@ pub(crate) fn type_facts(alloc: Global, known: &mut Known, ty: &TypeNode) -> Res
         → IfOk result (λ f. IsDeclared table (here ∷ names) known.new f (facts (shown_type_node ty.now) own outer)) }
     ensures exact { (own : FactScope) (outer : List FactScope) (named : List Id) (table : List Surface)
         → AreKnown (types_in known.old) known.old.instances.items (own ∷ outer) named table
-        → length outer ≡ length known.old.outer.items → IsUsualEntry (shown_type_node ty.now) own outer → IfOk result
-        (λ f. IsDeclaredExactly own outer named table known.new f (facts (shown_type_node ty.now) own outer)) }
+        → length outer ≡ length known.old.scopes.outer.items → IsUsualEntry (shown_type_node ty.now) own outer
+        → IfOk result (λ f. IsDeclaredExactly own outer named table known.new f
+        (facts (shown_type_node ty.now) own outer)) }
     ensures refused { (own : FactScope) (outer : List FactScope) (named : List Id) (table : List Surface)
         → AreKnown (types_in known.old) known.old.instances.items (own ∷ outer) named table
-        → length outer ≡ length known.old.outer.items → IsUsualEntry (shown_type_node ty.now) own outer
+        → length outer ≡ length known.old.scopes.outer.items → IsUsualEntry (shown_type_node ty.now) own outer
         → IfErr result (λ e. IsNamed e → ¬ (ValidEntry (asking Named) (shown_type_node ty.now) own outer)) }
-    ensures own { OnOk result (known.new.own ≡ known.old.own) }
-    ensures outer { OnOk result (known.new.outer.items ≡ known.old.outer.items) }
+    ensures scopes { OnOk result (SameScopes known.old known.new) }
 {
     match ty {
-        TypeNode::Defined(ty) => defined_facts(&known.own, ty),
-        TypeNode::Func(ty) => function_facts(&known.own, ty),
+        TypeNode::Defined(ty) => defined_facts(&known.scopes.own, ty),
+        TypeNode::Func(ty) => function_facts(&known.scopes.own, ty),
         TypeNode::Component(decls) => {
             let mut body = Body::new(Role::Names(Sets::new(alloc)));
             add_decls(alloc, known, &mut body, decls)?;
@@ -192,7 +185,7 @@ fn add_decl(alloc: Global, known: &mut Known, body: &mut Body, decl: &DeclNode) 
         × IsSmall d (after_decl (shown_decl_node decl.now) outer b)) }
     ensures added { (asks : Bool) (b : PlainBody) (outer : List FactScope) (names : List (List Id))
         (table : List Surface) → IsBody asks known.old body.old b outer names table → OnOk result
-        (IsBodyNow asks known.new body.new (after_decl (shown_decl_node decl.now) outer b) outer names table) }
+        (Later (IsBody asks known.new body.new) (after_decl (shown_decl_node decl.now) outer b) outer names table) }
     ensures exact { (asks : Bool) (b : PlainBody) (outer : List FactScope) (named : List Id) (table : List Surface)
         → IsBodyExactly asks known.old body.old b outer named table
         → IsUsualDecl asks (shown_decl_node decl.now) outer b → OnOk result (IsBodyExactlyNow asks known.new body.new
@@ -201,11 +194,11 @@ fn add_decl(alloc: Global, known: &mut Known, body: &mut Body, decl: &DeclNode) 
         (table : List Surface) → IsBodyExactly asks known.old body.old b outer named table
         → IsUsualDecl asks (shown_decl_node decl.now) outer b
         → IfErr result (λ e. IsNamed e → ¬ (ValidDecl (asking Named) asks (shown_decl_node decl.now) outer b)) }
-    ensures outer { OnOk result (known.new.outer.items ≡ known.old.outer.items) }
+    ensures outer { OnOk result (known.new.scopes.outer.items ≡ known.old.scopes.outer.items) }
 {
     match decl {
         DeclNode::Core(ty) => {
-            let facts = core_facts(alloc, &known.own, ty)?;
+            let facts = core_facts(alloc, &known.scopes.own, ty)?;
             add_core_type(known, body, facts)
         }
         DeclNode::Type(ty) => {
@@ -245,23 +238,22 @@ fn add_decls(
         empty_body) (here ∷ names) table) }
     ensures exact { (asks : Bool) (own : FactScope) (outer : List FactScope) (named : List Id)
         (table : List Surface) → AreKnown (types_in known.old) known.old.instances.items (own ∷ outer) named table
-        → length outer ≡ length known.old.outer.items → IsFresh asks body.old.role
+        → length outer ≡ length known.old.scopes.outer.items → IsFresh asks body.old.role
         → AreUsualDecls asks (in_order (map shown_decl_node decls.now)) (own ∷ outer) empty_body
         → OnOk result (IsJudgedExactly asks known.new body.new
         (after_decls (in_order (map shown_decl_node decls.now)) (own ∷ outer) empty_body) (own ∷ outer) named table) }
     ensures refused { (asks : Bool) (own : FactScope) (outer : List FactScope) (named : List Id)
         (table : List Surface) → AreKnown (types_in known.old) known.old.instances.items (own ∷ outer) named table
-        → length outer ≡ length known.old.outer.items → IsFresh asks body.old.role
+        → length outer ≡ length known.old.scopes.outer.items → IsFresh asks body.old.role
         → AreUsualDecls asks (in_order (map shown_decl_node decls.now)) (own ∷ outer) empty_body
         → IfErr result (λ e. IsNamed e
         → ¬ (ValidDecls (asking Named) asks (in_order (map shown_decl_node decls.now)) (own ∷ outer) empty_body)) }
-    ensures own { OnOk result (known.new.own ≡ known.old.own) }
-    ensures outer { OnOk result (known.new.outer.items ≡ known.old.outer.items) }
+    ensures scopes { OnOk result (SameScopes known.old known.new) }
 {
     known.enter(alloc)?;
     for decl in decls {
         add_decl(alloc, known, body, decl)?;
     }
-    known.leave();
+    known.scopes.leave();
     Ok(())
 }

@@ -7,7 +7,7 @@ use Rattle.smith_tree.specs.Validates.{Validates}
 use Rattle.smith_check.specs.Upto.{upto}
 use Rattle.smith_validate.specs.Outcome.{IsUnmet}
 use Rattle.smith_validate.specs.declared.error.Demand.{Demand}
-use Rattle.smith_places.specs.Places.{offset_in}
+use Rattle.smith_read.specs.Places.{offset_in}
 use Rattle.smith_verdict.specs.Verdicts.{IsVerdict}
 use Rattle.smith_verdict.specs.declared.validity.Validity.{Validity}
 use Rattle.smith_verdict.specs.declared.validity.Validity.TheVariants as validity

@@ -4,7 +4,7 @@ use Rattle.smith_tree.specs.Tree.{Tree}
 use Rattle.smith_tree.specs.WellFormed.{WellFormed}
 use Rattle.smith_check.specs.Upto.{StopsAt}
 use Rattle.smith_read.specs.Reads.{AreRead, AreUnread}
-use Rattle.smith_places.specs.Places.{offset_in}
+use Rattle.smith_read.specs.Places.{offset_in}
 use Rattle.smith_verdict.specs.declared.verdict.Verdict.{Verdict}
 use Rattle.smith_verdict.specs.declared.verdict.Verdict.TheVariants as verdict
 

@@ -8,8 +8,7 @@ ghost use Rattle.smith_read.specs.Reads.{most_depth};
 ghost use Rattle.smith_verdict.specs.Validities.{IsValidity};
 
 use crate::verdict::{Verdict, check_component};
-use smith_places::offset_of;
-use smith_read::{ComponentTree, ReadError, read};
+use smith_read::{ComponentTree, ReadError, offset_of, read};
 use smith_validate::{Demand, Validity as Judged, validated};
 use std::alloc::{AllocError, Global};
 use std::fmt;

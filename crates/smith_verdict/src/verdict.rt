@@ -9,8 +9,7 @@ ghost use Rattle.smith_read.specs.Reads.{most_depth};
 ghost use Rattle.smith_verdict.specs.Verdicts.{IsVerdict};
 
 use smith_check::{Judgement, Rule, judged};
-use smith_places::offset_of;
-use smith_read::{ComponentTree, ReadError, Reason, read};
+use smith_read::{ComponentTree, ReadError, Reason, offset_of, read};
 use std::alloc::{AllocError, Global};
 use std::fmt;
 

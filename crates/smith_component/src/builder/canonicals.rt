@@ -1,19 +1,19 @@
 //! Canonical functions: component functions are lowered, and core functions lifted.
 
-ghost use Rattle.std.specs.Prelude.{◌≡◌, ◌+◌, ◌-◌, ◌<◌, ◌≤◌, List, [], length, IfOk, OnOk};
+ghost use Rattle.std.specs.Prelude.{◌≡◌, ◌-◌, ◌<◌, ◌≤◌, List, [], length, IfOk, OnOk};
 ghost use Rattle.std.specs.Prelude.{IfErr, MatchOption};
 ghost use Rattle.smith_input.specs.Choices.{ReadsAmong};
 ghost use Rattle.smith_input.specs.Loops.{Loop};
+ghost use Rattle.smith_input.specs.Consumes.{Consumes};
 ghost use Rattle.smith_input.specs.Reading.{IsTail};
 ghost use Rattle.smith_format.specs.Consistency.{max_u32};
 ghost use Rattle.smith_scopes.specs.Scopes.{own_scope};
 ghost use Rattle.smith_component.specs.AddedSections.{AddsCanons};
 ghost use Rattle.smith_component.specs.BuilderView.{stack_of, IsSound};
-ghost use Rattle.smith_component.specs.Canonicals.{CanonTurn, NoCanon, ReadsLift, ReadsLower, spaces_at, with_defined};
+ghost use Rattle.smith_component.specs.Canonicals.{CanonTurn, NoCanon, ReadsLift, ReadsLower, with_defined};
 ghost use Rattle.smith_component.specs.CanonicalsState.{DraftsOn, IsDraft, IsDrafted, IsLowered, ReadsLiftedTypeOf};
 ghost use Rattle.smith_component.specs.CanonicalsState.{SameLoans, canon_items_of, draft_of};
 ghost use Rattle.smith_component.specs.Steps.{Grows};
-ghost use Rattle.smith_component.specs.Tables.{functions_at};
 ghost use Rattle.smith_tree.specs.Tree.{function_count};
 ghost use Rattle.smith_tree.specs.declared.choices.CanonItem.{CanonItem};
 
@@ -54,9 +54,8 @@ impl<'a> CanonicalDraft<'a> {
 
     // Lowers a function that can be lowered, by a choice.
     fn lower(&mut self, u: &mut Unstructured) -> Result<(), AllocError>
-        requires draft { IsDraft self.old }
+        requires draft { IsDraft 1 self.old }
         requires some { 0 < length self.old.component.now.tables.scalars.items }
-        requires room { functions_at (spaces_at (draft_of self.old)) < max_u32 }
         ensures loans { SameLoans self.old self.new }
         ensures reads { OnOk result (ReadsLower (draft_of self.old) u.old u.new (draft_of self.new)) }
         ensures drafts { OnOk result (DraftsOn self.old self.new) }
@@ -72,8 +71,7 @@ impl<'a> CanonicalDraft<'a> {
         requires known { IsLowered (own_scope self.now.scopes.now) self.now.component.now.tables core_func_index }
         ensures reads { IfOk result (λ f. ReadsLiftedTypeOf
             (own_scope self.now.scopes.now) self.now.component.now.tables core_func_index u.old f u.new) }
-        ensures memory { IfErr result (λ e. e ≡ Error.OutOfMemory) }
-        ensures tail { IsTail u.new u.old }
+        ensures input { Consumes result u.old u.new }
     {
         let tables = &self.component.tables;
         let func_index = tables.core_functions[core_func_index as usize];
@@ -88,9 +86,8 @@ impl<'a> CanonicalDraft<'a> {
 
     // Ends the canonical section, defines the type in a section of its own, and begins another with the lift.
     fn define(&mut self, core_func_index: u32, ty: Rc<FuncType>) -> Result<(), Error>
-        requires draft { IsDraft self.old }
+        requires draft { IsDraft 1 self.old }
         requires types { length (own_scope self.old.scopes.now).types < max_u32 }
-        requires room { functions_at (spaces_at (draft_of self.old)) < max_u32 }
         ensures loans { SameLoans self.old self.new }
         ensures defines { OnOk result (draft_of self.new ≡ with_defined (draft_of self.old) core_func_index ty.value) }
         ensures drafts { OnOk result (DraftsOn self.old self.new) }
@@ -116,15 +113,13 @@ impl<'a> CanonicalDraft<'a> {
     // Lifts a core function, by a choice, to a type that is equal to the one that is read, or to one that it defines if
     // there is none. It is abandoned if the component may have no more types.
     fn lift(&mut self, u: &mut Unstructured) -> Result<(), Error>
-        requires draft { IsDraft self.old }
+        requires draft { IsDraft 1 self.old }
         requires some { 0 < length self.old.component.now.tables.core_functions.items }
-        requires room { functions_at (spaces_at (draft_of self.old)) < max_u32 }
         ensures loans { SameLoans self.old self.new }
         ensures reads { OnOk result
             (ReadsLift self.old.config.now (draft_of self.old) u.old u.new (draft_of self.new)) }
         ensures drafts { OnOk result (DraftsOn self.old self.new) }
-        ensures memory { IfErr result (λ e. e ≡ Error.OutOfMemory) }
-        ensures tail { IsTail u.new u.old }
+        ensures input { Consumes result u.old u.new }
     {
         let core_func_index = u.choose_index(self.component.tables.core_functions.len()) as u32;
         let signature = self.lifted_type(core_func_index, u)?;
@@ -145,14 +140,12 @@ impl<'a> CanonicalDraft<'a> {
 
     // A turn, or false if no function can be lowered or lifted.
     fn turn(&mut self, u: &mut Unstructured) -> Result<bool, Error>
-        requires draft { IsDraft self.old }
-        requires room { functions_at (spaces_at (draft_of self.old)) < max_u32 }
+        requires draft { IsDraft 1 self.old }
         ensures loans { SameLoans self.old self.new }
         ensures reads { IfOk result (λ made.
             IsDrafted self.old.config.now (draft_of self.old) u.old made u.new (draft_of self.new)) }
         ensures drafts { OnOk result (DraftsOn self.old self.new) }
-        ensures memory { IfErr result (λ e. e ≡ Error.OutOfMemory) }
-        ensures tail { IsTail u.new u.old }
+        ensures input { Consumes result u.old u.new }
     {
         let Some(item) = self.choose_item(u) else {
             return Ok(false);
@@ -167,14 +160,12 @@ impl<'a> CanonicalDraft<'a> {
     // Turns, at least and at most that many, unless no function can be lowered or lifted.
     fn turns(&mut self, min: usize, max: usize, u: &mut Unstructured) -> Result<(), Error>
         requires ordered { min ≤ max }
-        requires draft { IsDraft self.old }
-        requires room { functions_at (spaces_at (draft_of self.old)) + max ≤ max_u32 }
+        requires draft { IsDraft max self.old }
         ensures loans { SameLoans self.old self.new }
         ensures reads { OnOk result ((turns : List CanonItem) × Loop NoCanon (CanonTurn self.old.config.now) min max 0
             (draft_of self.old) u.old turns u.new (draft_of self.new)) }
         ensures drafts { OnOk result (DraftsOn self.old self.new) }
-        ensures memory { IfErr result (λ e. e ≡ Error.OutOfMemory) }
-        ensures tail { IsTail u.new u.old }
+        ensures input { Consumes result u.old u.new }
     {
         for done in 0..max {
             if !u.more(done, min, max) {
@@ -197,8 +188,7 @@ impl Progress {
         ensures added { OnOk result
             (AddsCanons self.old.config min (stack_of self.old) u.old (stack_of self.new).inner u.new) }
         ensures grows { OnOk result (Grows self.old self.new) }
-        ensures memory { IfErr result (λ e. e ≡ Error.OutOfMemory) }
-        ensures tail { IsTail u.new u.old }
+        ensures input { Consumes result u.old u.new }
     {
         let room = self.config.max_funcs - self.inner.tables.counted;
         let mut funcs = Vec::new(self.alloc);

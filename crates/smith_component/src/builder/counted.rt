@@ -1,11 +1,12 @@
 //! What a component has a minimum of: how many there are, and how what is missing is added.
 
-ghost use Rattle.std.specs.Prelude.{◌≡◌, ◌≤◌, IfErr, OnOk};
-ghost use Rattle.smith_input.specs.Reading.{IsTail};
+ghost use Rattle.std.specs.Prelude.{◌≡◌, ◌≤◌, OnOk};
+ghost use Rattle.smith_input.specs.Consumes.{Consumes};
 ghost use Rattle.smith_component.specs.BuilderView.{stack_of, IsSound};
 ghost use Rattle.smith_component.specs.Counted.{count_of, minimum_of};
+ghost use Rattle.smith_component.specs.Filling.{IsMinimum};
 ghost use Rattle.smith_component.specs.Fills.{Fills};
-ghost use Rattle.smith_component.specs.Refusals.{IsAnswered, IsMinimum};
+ghost use Rattle.smith_component.specs.Refusals.{IsAnswered};
 ghost use Rattle.smith_component.specs.Steps.{Grows};
 
 use crate::builder::Progress;
@@ -53,10 +54,9 @@ impl Progress {
         ensures filled { OnOk result
             (Fills what self.old.config (stack_of self.old) u.old (stack_of self.new).inner u.new) }
         ensures grows { OnOk result (Grows self.old self.new) }
-        ensures memory { IfErr result (λ e. e ≡ Error.OutOfMemory) }
         ensures nothing { minimum_of what self.old.config ≤ count_of what (stack_of self.old).inner
             → IsAnswered result }
-        ensures tail { IsTail u.new u.old }
+        ensures input { Consumes result u.old u.new }
     {
         let count = self.count(what);
         let minimum = self.minimum(what);

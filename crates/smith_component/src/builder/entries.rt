@@ -1,14 +1,15 @@
 //! The entries of a section of types or of core types.
 
-ghost use Rattle.std.specs.Prelude.{◌≡◌, ℕ, ◌+◌, ◌<◌, ◌≤◌, List, length, IfOk, IfErr, OnOk};
+ghost use Rattle.std.specs.Prelude.{◌≡◌, ℕ, ◌+◌, ◌<◌, ◌≤◌, List, length, IfOk, OnOk};
 ghost use Rattle.smith_input.specs.Loops.{Loop, Never};
-ghost use Rattle.smith_input.specs.Reading.{IsTail};
+ghost use Rattle.smith_input.specs.Consumes.{Consumes};
 ghost use Rattle.smith_format.specs.Consistency.{max_u32};
 ghost use Rattle.smith_format.specs.declared.config.Config.{Config};
 ghost use Rattle.smith_scopes.specs.Scopes.{own_marked, outer_marked};
 ghost use Rattle.smith_syntax.specs.Marked.{Marked};
 ghost use Rattle.smith_component.specs.BuilderView.{IsSound};
-ghost use Rattle.smith_component.specs.EntriesState.{CanReadTypes, GrowsScope};
+ghost use Rattle.smith_types.specs.MakingTypes.{CanReadTypes};
+ghost use Rattle.smith_component.specs.EntriesState.{GrowsScope, KeepsAround};
 ghost use Rattle.smith_component.specs.SectionValues.{ReadsTypeValue, ReadsCoreTypeValue};
 
 use crate::builder::Progress;
@@ -36,10 +37,8 @@ pub(super) trait SectionEntry: Drop {
         ensures read { IfOk result (λ e. reads config.now (outer_marked scopes.old) (own_marked scopes.old)
             u.old e u.new (own_marked scopes.new)) }
         ensures count { IfOk result (λ _. count (own_marked scopes.new) ≡ count (own_marked scopes.old) + 1) }
-        ensures outer { IfOk result (λ _. outer_marked scopes.new ≡ outer_marked scopes.old) }
-        ensures depth { IfOk result (λ _. length scopes.new ≡ length scopes.old) }
-        ensures memory { IfErr result (λ e. e ≡ Error.OutOfMemory) }
-        ensures tail { IsTail u.new u.old };
+        ensures around { OnOk result (KeepsAround scopes.old scopes.new) }
+        ensures input { Consumes result u.old u.new };
 }
 
 impl Progress {
@@ -56,8 +55,7 @@ impl Progress {
         ensures entries { IfOk result (λ v. Loop Never (E.reads self.old.config (outer_marked self.old.scopes))
             min max 0 (own_marked self.old.scopes) u.old v.items u.new (own_marked self.new.scopes)) }
         ensures scopes { OnOk result (GrowsScope self.old self.new) }
-        ensures memory { IfErr result (λ e. e ≡ Error.OutOfMemory) }
-        ensures tail { IsTail u.new u.old }
+        ensures input { Consumes result u.old u.new }
     {
         let valtypes = valtypes_of(&self.config);
         let scopes = &mut self.scopes;

@@ -1,13 +1,12 @@
 //! The exports of a section.
 
-ghost use Rattle.std.specs.Prelude.{◌≡◌, ◌+◌, ◌<◌, ◌≤◌, [], List, length, map, IfOk, IfErr, OnOk};
-ghost use Rattle.smith_input.specs.Reading.{IsTail};
-ghost use Rattle.smith_input.specs.Loops.{Loop};
+ghost use Rattle.std.specs.Prelude.{◌≡◌, ◌+◌, ◌<◌, ◌≤◌, [], List, length, map, IfOk, OnOk};
+ghost use Rattle.smith_input.specs.Consumes.{Consumes};
 ghost use Rattle.smith_format.specs.Consistency.{max_u32};
 ghost use Rattle.smith_format.specs.declared.config.Config.{Config};
-ghost use Rattle.smith_scopes.specs.Scopes.{outer_marked, own_marked, own_scope};
-ghost use Rattle.smith_component.specs.Exports.{NoExport, ReadsExport};
-ghost use Rattle.smith_component.specs.ExportsState.{ExportsOne, ExportsState};
+ghost use Rattle.smith_scopes.specs.Scopes.{own_marked, own_scope};
+ghost use Rattle.smith_component.specs.EntriesState.{KeepsAround};
+ghost use Rattle.smith_component.specs.ExportsState.{ExportsAll, ExportsOne, ExportsState, GrowsTables};
 ghost use Rattle.smith_tree.specs.Shown.{shown_export};
 ghost use Rattle.smith_component.specs.Tables.{IsKnown};
 ghost use Rattle.smith_tree.specs.Tree.{ExportEntry, Tree};
@@ -27,16 +26,12 @@ fn read_export(
 ) -> Result<Option<Export>, Error>
     requires known { IsKnown (own_scope scopes.old) tables.old }
     requires room { length tables.old.functions.items < max_u32 }
-    ensures known { OnOk result (IsKnown (own_scope scopes.new) tables.new) }
-    ensures around { outer_marked scopes.new ≡ outer_marked scopes.old }
-    ensures depth { length scopes.new ≡ length scopes.old }
-    ensures imports { OnOk result (tables.new.imports ≡ tables.old.imports) }
-    ensures most { OnOk result (length tables.new.functions.items ≤ length tables.old.functions.items + 1) }
+    ensures around { KeepsAround scopes.old scopes.new }
+    ensures tables { OnOk result (GrowsTables (own_scope scopes.new) tables.old tables.new) }
     ensures exports { (config : Config) (outer : List Tree) (t : Tree) (es : List ExportEntry)
         → ExportsState config outer t es (own_marked scopes.old) tables.old
         → IfOk result (λ e. ExportsOne config outer t es (own_marked scopes.new) tables.new u.old e u.new) }
-    ensures memory { IfErr result (λ e. e ≡ Error.OutOfMemory) }
-    ensures tail { IsTail u.new u.old }
+    ensures input { Consumes result u.old u.new }
 {
     if tables.functions.is_empty() {
         return Ok(None);
@@ -64,16 +59,11 @@ pub(super) fn read_exports(
     requires room { length tables.old.functions.items + max ≤ max_u32 }
     ensures reads { (config : Config) (outer : List Tree) (t : Tree)
         → ExportsState config outer t [] (own_marked scopes.old) tables.old
-        → IfOk result (λ v. Loop (NoExport config outer t) (ReadsExport config outer t) 0 max 0 [] u.old
-        (map shown_export v.items) u.new (map shown_export v.items)) }
-    ensures around { outer_marked scopes.new ≡ outer_marked scopes.old }
-    ensures depth { length scopes.new ≡ length scopes.old }
+        → IfOk result (λ v. ExportsAll config outer t max (own_marked scopes.new) tables.new u.old
+        (map shown_export v.items) u.new) }
+    ensures around { KeepsAround scopes.old scopes.new }
     ensures imports { OnOk result (tables.new.imports ≡ tables.old.imports) }
-    ensures holds { (config : Config) (outer : List Tree) (t : Tree)
-        → ExportsState config outer t [] (own_marked scopes.old) tables.old
-        → IfOk result (λ v. ExportsState config outer t (map shown_export v.items) (own_marked scopes.new) tables.new) }
-    ensures memory { IfErr result (λ e. e ≡ Error.OutOfMemory) }
-    ensures tail { IsTail u.new u.old }
+    ensures input { Consumes result u.old u.new }
 {
     let mut exports = Vec::new(alloc);
     for done in 0..max {

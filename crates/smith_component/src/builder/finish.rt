@@ -1,12 +1,11 @@
 //! Components are finished, when they have what they must have.
 
-ghost use Rattle.std.specs.Prelude.{◌≡◌, ℕ, List, [], IfOk, IfErr, OnOk};
+ghost use Rattle.std.specs.Prelude.{◌≡◌, [], IfOk, IfErr, OnOk};
 ghost use Rattle.smith_input.specs.Reading.{IsTail};
 ghost use Rattle.smith_component.specs.BuilderView.{stack_of, IsSound};
 ghost use Rattle.smith_tree.specs.Limits.{Minima};
-ghost use Rattle.smith_component.specs.Fills.{FillsAll};
 ghost use Rattle.smith_component.specs.Refusals.{IsAnswered, IsFillRefusal};
-ghost use Rattle.smith_component.specs.Steps.{DoesItem, Grows};
+ghost use Rattle.smith_component.specs.Steps.{DoesItem, FillsMinima};
 ghost use Rattle.smith_tree.specs.declared.choices.Item.TheVariants.{Finish};
 
 use crate::builder::Progress;
@@ -18,10 +17,7 @@ impl Progress {
     // Adds what is missing of the minima: types, then imports, then functions.
     fn fill(&mut self, u: &mut Unstructured) -> Result<(), Error>
         requires sound { IsSound self.old }
-        ensures filled { OnOk result
-            (FillsAll self.old.config (stack_of self.old) u.old (stack_of self.new).inner u.new) }
-        ensures minima { OnOk result (Minima self.old.config (stack_of self.new).inner) }
-        ensures grows { OnOk result (Grows self.old self.new) }
+        ensures fills { OnOk result (FillsMinima self.old u.old self.new u.new) }
         ensures refuses { IfErr result (λ e. IsFillRefusal self.old.config (stack_of self.old) u.old e u.new) }
         ensures nothing { Minima self.old.config (stack_of self.old).inner → IsAnswered result }
         ensures tail { IsTail u.new u.old }

@@ -1,12 +1,13 @@
 //! The imports of a section.
 
-ghost use Rattle.std.specs.Prelude.{◌≡◌, ◌+◌, ◌≤◌, [], List, length, IfOk, IfErr, OnOk};
-ghost use Rattle.smith_input.specs.Reading.{IsTail};
+ghost use Rattle.std.specs.Prelude.{◌+◌, ◌≤◌, [], List, length, IfOk, OnOk};
+ghost use Rattle.smith_input.specs.Consumes.{Consumes};
 ghost use Rattle.smith_input.specs.Loops.{Loop};
 ghost use Rattle.smith_format.specs.Consistency.{IsConsistent};
 ghost use Rattle.smith_types.specs.Declarations.{NamedExtern};
-ghost use Rattle.smith_scopes.specs.Scopes.{outer_marked, own_marked};
+ghost use Rattle.smith_scopes.specs.Scopes.{own_marked};
 ghost use Rattle.smith_component.specs.BuilderView.{stack_of, IsSound};
+ghost use Rattle.smith_component.specs.EntriesState.{KeepsAround};
 ghost use Rattle.smith_component.specs.ImportsState.{Imported, ImportsOne, ImportsState};
 ghost use Rattle.smith_component.specs.SectionValues.{NoImportValue, ReadsImportValue, externs_of};
 ghost use Rattle.smith_tree.specs.Open.{Open};
@@ -33,10 +34,8 @@ fn read_import(
         → ImportsState config.now stack before is (own_marked scopes.old) totals.old tables.old
         → IfOk result (λ i.
         ImportsOne config.now stack before is (own_marked scopes.new) totals.new tables.new u.old i u.new) }
-    ensures around { outer_marked scopes.new ≡ outer_marked scopes.old }
-    ensures depth { length scopes.new ≡ length scopes.old }
-    ensures memory { IfErr result (λ e. e ≡ Error.OutOfMemory) }
-    ensures tail { IsTail u.new u.old }
+    ensures around { KeepsAround scopes.old scopes.new }
+    ensures input { Consumes result u.old u.new }
 {
     let counts = totals.with_functions(tables.counted);
     let Some(ty) = arbitrary_type_ref(u, config, scopes, counts, true, false) else {
@@ -65,8 +64,7 @@ impl Progress {
             (ReadsImportValue self.old.config (stack_of self.old) (externs_of self.old.inner.sections.items))
             min max 0 [] u.old v.items u.new v.items) }
         ensures counts { IfOk result (λ v. Imported self.old v.items self.new) }
-        ensures memory { IfErr result (λ e. e ≡ Error.OutOfMemory) }
-        ensures tail { IsTail u.new u.old }
+        ensures input { Consumes result u.old u.new }
     {
         let scopes = &mut self.scopes;
         let totals = &mut self.totals;

@@ -1,6 +1,7 @@
 //! Sections that are added to the inner component.
 
 ghost use Rattle.std.specs.Prelude.{◌≡◌, ◌-◌, ◌≤◌, length, IfErr, IsTrue, None, OnOk};
+ghost use Rattle.smith_input.specs.Consumes.{Consumes};
 ghost use Rattle.smith_input.specs.Reading.{IsTail};
 ghost use Rattle.smith_core.specs.StandIn.{IsStandInRefusal};
 ghost use Rattle.smith_component.specs.Sound.{IsAddable, IsQuiet};
@@ -44,8 +45,7 @@ impl Progress {
     pub(crate) fn add_custom(&mut self, u: &mut Unstructured) -> Result<(), Error>
         requires sound { IsSound self.old }
         ensures does { OnOk result (DoesItem item.Custom self.old u.old self.new None u.new) }
-        ensures memory { IfErr result (λ e. e ≡ Error.OutOfMemory) }
-        ensures tail { IsTail u.new u.old }
+        ensures input { Consumes result u.old u.new }
     {
         let section = CustomSection::arbitrary(self.alloc, u)?;
         self.add_section(Section::Custom(section))?;
@@ -71,8 +71,7 @@ impl Progress {
     pub(crate) fn add_core_types(&mut self, u: &mut Unstructured) -> Result<(), Error>
         requires sound { IsSound self.old }
         ensures does { OnOk result (DoesItem item.CoreTypes self.old u.old self.new None u.new) }
-        ensures memory { IfErr result (λ e. e ≡ Error.OutOfMemory) }
-        ensures tail { IsTail u.new u.old }
+        ensures input { Consumes result u.old u.new }
     {
         let room = self.config.max_types - self.scopes.len_core(0);
         let types = self.read_entries::<Rc<CoreType>>(0, room, u)?;
@@ -85,8 +84,7 @@ impl Progress {
     pub(crate) fn add_exports(&mut self, u: &mut Unstructured) -> Result<(), Error>
         requires sound { IsSound self.old }
         ensures does { OnOk result (DoesItem item.Exports self.old u.old self.new None u.new) }
-        ensures memory { IfErr result (λ e. e ≡ Error.OutOfMemory) }
-        ensures tail { IsTail u.new u.old }
+        ensures input { Consumes result u.old u.new }
     {
         let room = self.config.max_exports - self.inner.tables.exports.len();
         let exports = read_exports(
@@ -108,8 +106,7 @@ impl Progress {
         ensures added { OnOk result
             (AddsTypeSection self.old.config min (building_of self.old) u.old (building_of self.new) u.new) }
         ensures grows { OnOk result (Grows self.old self.new) }
-        ensures memory { IfErr result (λ e. e ≡ Error.OutOfMemory) }
-        ensures tail { IsTail u.new u.old }
+        ensures input { Consumes result u.old u.new }
     {
         let room = self.config.max_types - self.scopes.own_len();
         let types = self.read_entries::<Rc<DefType>>(min, room, u)?;
@@ -125,8 +122,7 @@ impl Progress {
         ensures added { OnOk result
             (AddsImportSection self.old.config min (building_of self.old) u.old (building_of self.new) u.new) }
         ensures grows { OnOk result (Grows self.old self.new) }
-        ensures memory { IfErr result (λ e. e ≡ Error.OutOfMemory) }
-        ensures tail { IsTail u.new u.old }
+        ensures input { Consumes result u.old u.new }
     {
         let room = self.config.max_imports - self.inner.tables.imports.len();
         let imports = self.read_imports(min, room, u)?;

@@ -21,7 +21,7 @@ pub(crate) trait Simplest: Drop {
         ensures { IfOk result (λ x. shown x ≡ shown self.now) };
 }
 
-fn function(alloc: Global, ty: &FuncType) -> Result<FuncType, AllocError>
+fn copy_function(alloc: Global, ty: &FuncType) -> Result<FuncType, AllocError>
     ensures { IfOk result (λ f. shown_func f ≡ shown_func ty.now) }
 {
     let params = Vec::from_slice(alloc, &ty.params)?;
@@ -36,7 +36,7 @@ impl Simplest for ModuleNode {
 
     fn copied(&self, alloc: Global) -> Result<ModuleNode, AllocError> {
         match self {
-            ModuleNode::Func(ty) => Ok(ModuleNode::Func(function(alloc, ty)?)),
+            ModuleNode::Func(ty) => Ok(ModuleNode::Func(copy_function(alloc, ty)?)),
             ModuleNode::Import {
                 module,
                 name,
@@ -65,8 +65,8 @@ impl Simplest for CoreNode {
 
     fn copied(&self, alloc: Global) -> Result<CoreNode, AllocError> {
         match self {
-            CoreNode::Func(ty) => Ok(CoreNode::Func(function(alloc, ty)?)),
-            CoreNode::Module(nodes) => Ok(CoreNode::Module(all_copied(alloc, nodes)?)),
+            CoreNode::Func(ty) => Ok(CoreNode::Func(copy_function(alloc, ty)?)),
+            CoreNode::Module(nodes) => Ok(CoreNode::Module(copy_all(alloc, nodes)?)),
         }
     }
 }
@@ -93,7 +93,7 @@ impl Simplest for Func {
 }
 
 /// Copies of all.
-pub(crate) fn all_copied<T: Simplest>(alloc: Global, items: &[T]) -> Result<Vec<T>, AllocError>
+pub(crate) fn copy_all<T: Simplest>(alloc: Global, items: &[T]) -> Result<Vec<T>, AllocError>
     ensures { IfOk result (λ v. map T.shown v.items ≡ map T.shown items.now) }
 {
     let mut copies = Vec::new(alloc);

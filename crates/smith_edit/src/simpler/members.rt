@@ -81,7 +81,7 @@ impl Named for String {
 }
 
 /// Copies, each with the name that it has.
-pub(crate) fn copies<T: Named>(alloc: Global, items: &[T]) -> Result<Vec<T>, AllocError>
+pub(crate) fn copy_named<T: Named>(alloc: Global, items: &[T]) -> Result<Vec<T>, AllocError>
     ensures { IfOk result (λ v. map T.shown v.items ≡ map T.shown items.now) }
 {
     let mut copies = Vec::new(alloc);
@@ -93,7 +93,7 @@ pub(crate) fn copies<T: Named>(alloc: Global, items: &[T]) -> Result<Vec<T>, All
 }
 
 /// Copies, the one at that place with a new name; none if that is not shorter, or if there is no such place.
-pub(crate) fn renamed_at<T: Named>(
+pub(crate) fn rename_at<T: Named>(
     alloc: Global,
     known: &Names,
     items: &[T],
@@ -102,7 +102,7 @@ pub(crate) fn renamed_at<T: Named>(
     ensures { (names : List (List ℕ)) → Knows known.now names → IfOk result (λ r.
         option_map (λ v. map T.shown v.items) r ≡ renamed_at T.name T.rename names place (map T.shown items.now)) }
 {
-    let mut copies = copies(alloc, items)?;
+    let mut copies = copy_named(alloc, items)?;
     if place >= items.len() {
         return Ok(None);
     }
@@ -115,7 +115,7 @@ pub(crate) fn renamed_at<T: Named>(
 }
 
 /// The members of a type, the one that is sought with a new name; none if that is not shorter.
-pub(crate) fn members<T: Named>(
+pub(crate) fn simplify_members<T: Named>(
     alloc: Global,
     search: &mut Search,
     items: &[T],
@@ -125,17 +125,17 @@ pub(crate) fn members<T: Named>(
     ensures moved { IfOk result (λ r. IsSome r → search.new ≡ past (length items.now) search.old) }
 {
     match search.pass(items.len()) {
-        None => Ok(Some(copies(alloc, items)?)),
+        None => Ok(Some(copy_named(alloc, items)?)),
         Some(place) => {
             let mut known = Names::new(alloc);
             known.add_all(alloc, items)?;
-            renamed_at(alloc, &known, items, place)
+            rename_at(alloc, &known, items, place)
         }
     }
 }
 
 /// Copies of members without names; none if the one that is sought is among them.
-pub(crate) fn unnamed<T: Copy>(
+pub(crate) fn copy_unnamed<T: Copy>(
     alloc: Global,
     search: &mut Search,
     items: &[T],

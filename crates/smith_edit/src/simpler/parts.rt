@@ -12,18 +12,18 @@ ghost use Rattle.smith_edit.specs.Items.{core_items, part_items, row_items, tree
 ghost use Rattle.smith_edit.specs.Search.{past, sought};
 ghost use Rattle.smith_edit.specs.Simpler.{itself_or, part_simplified, renamed_at, sections_of, simpler_part};
 
-use crate::edits::names;
+use crate::edits::take_names;
 use crate::items::row_items;
-use crate::simpler::copies::{Simplest, all_copied};
-use crate::simpler::members::{copies, renamed_at};
+use crate::simpler::copies::{Simplest, copy_all};
+use crate::simpler::members::{copy_named, rename_at};
 use crate::simpler::search::Search;
-use crate::simpler::types::types;
+use crate::simpler::types::simplify_types;
 use smith_core::CORE_PREAMBLE;
 use smith_read::{CoreNode, CustomSection, Export, Func, ImportNode, PartNode};
 use std::alloc::{AllocError, Global};
 
 // Core types; none if what is sought is inside one of them, or is one.
-fn core_types(
+fn copy_core_types(
     alloc: Global,
     search: &mut Search,
     entries: &[CoreNode],
@@ -37,11 +37,11 @@ fn core_types(
     if search.pass(row_items(entries)?).is_some() {
         return Ok(None);
     }
-    Ok(Some(all_copied(alloc, entries)?))
+    Ok(Some(copy_all(alloc, entries)?))
 }
 
 // Canonical functions; none if what is sought is one of them.
-fn canons(
+fn copy_canons(
     alloc: Global,
     search: &mut Search,
     entries: &[Func],
@@ -55,11 +55,11 @@ fn canons(
     if search.pass(entries.len()).is_some() {
         return Ok(None);
     }
-    Ok(Some(all_copied(alloc, entries)?))
+    Ok(Some(copy_all(alloc, entries)?))
 }
 
 // Imports of a component with these sections, the one that is sought with a new name.
-fn imports(
+fn simplify_imports(
     alloc: Global,
     search: &mut Search,
     scope: &[PartNode],
@@ -73,16 +73,16 @@ fn imports(
         ≡ past (length (map shown_import_node entries.now)) search.old) }
 {
     match search.pass(entries.len()) {
-        None => Ok(Some(copies(alloc, entries)?)),
+        None => Ok(Some(copy_named(alloc, entries)?)),
         Some(place) => {
-            let taken = names(alloc, scope)?;
-            renamed_at(alloc, &taken.imports, entries, place)
+            let taken = take_names(alloc, scope)?;
+            rename_at(alloc, &taken.imports, entries, place)
         }
     }
 }
 
 // Exports of a component with these sections, the one that is sought with a new name.
-fn exports(
+fn simplify_exports(
     alloc: Global,
     search: &mut Search,
     scope: &[PartNode],
@@ -96,10 +96,10 @@ fn exports(
         ≡ past (length (map shown_export entries.now)) search.old) }
 {
     match search.pass(entries.len()) {
-        None => Ok(Some(copies(alloc, entries)?)),
+        None => Ok(Some(copy_named(alloc, entries)?)),
         Some(place) => {
-            let taken = names(alloc, scope)?;
-            renamed_at(alloc, &taken.exports, entries, place)
+            let taken = take_names(alloc, scope)?;
+            rename_at(alloc, &taken.exports, entries, place)
         }
     }
 }
@@ -137,7 +137,7 @@ fn simpler_part(alloc: Global, node: &PartNode) -> Result<Option<PartNode>, Allo
 // What is sought inside a section made simpler, in a component with these sections.
 #[cycle(simplifying_parts)]
 #[tactic(auto, using(crate::proofs::PartNodes::part_nodes))]
-fn inside_part(
+fn simplify_inside(
     alloc: Global,
     search: &mut Search,
     node: &PartNode,
@@ -158,27 +158,27 @@ fn inside_part(
         PartNode::CoreModule(text) => {
             Ok(Some(PartNode::CoreModule(Vec::from_slice(alloc, text)?)))
         }
-        PartNode::CoreTypes(entries) => match core_types(alloc, search, entries)? {
+        PartNode::CoreTypes(entries) => match copy_core_types(alloc, search, entries)? {
             Some(entries) => Ok(Some(PartNode::CoreTypes(entries))),
             None => Ok(None),
         },
-        PartNode::Component(nodes) => match parts(alloc, search, nodes)? {
+        PartNode::Component(nodes) => match simplify_parts(alloc, search, nodes)? {
             Some(nodes) => Ok(Some(PartNode::Component(nodes))),
             None => Ok(None),
         },
-        PartNode::Types(entries) => match types(alloc, search, entries)? {
+        PartNode::Types(entries) => match simplify_types(alloc, search, entries)? {
             Some(entries) => Ok(Some(PartNode::Types(entries))),
             None => Ok(None),
         },
-        PartNode::Canons(entries) => match canons(alloc, search, entries)? {
+        PartNode::Canons(entries) => match copy_canons(alloc, search, entries)? {
             Some(entries) => Ok(Some(PartNode::Canons(entries))),
             None => Ok(None),
         },
-        PartNode::Imports(entries) => match imports(alloc, search, scope, entries)? {
+        PartNode::Imports(entries) => match simplify_imports(alloc, search, scope, entries)? {
             Some(entries) => Ok(Some(PartNode::Imports(entries))),
             None => Ok(None),
         },
-        PartNode::Exports(entries) => match exports(alloc, search, scope, entries)? {
+        PartNode::Exports(entries) => match simplify_exports(alloc, search, scope, entries)? {
             Some(entries) => Ok(Some(PartNode::Exports(entries))),
             None => Ok(None),
         },
@@ -187,7 +187,7 @@ fn inside_part(
 
 // A section, with what is sought made simpler, in a component with these sections.
 #[cycle(simplifying_parts)]
-fn one_part(
+fn simplify_part(
     alloc: Global,
     search: &mut Search,
     node: &PartNode,
@@ -203,12 +203,12 @@ fn one_part(
     if search.step() {
         return simpler_part(alloc, node);
     }
-    inside_part(alloc, search, node, scope)
+    simplify_inside(alloc, search, node, scope)
 }
 
 /// Sections in order, with what is sought made simpler.
 #[cycle(simplifying_parts)]
-pub(crate) fn parts(
+pub(crate) fn simplify_parts(
     alloc: Global,
     search: &mut Search,
     nodes: &[PartNode],
@@ -221,7 +221,7 @@ pub(crate) fn parts(
 {
     let mut parts = Vec::new(alloc);
     for node in nodes {
-        let Some(part) = one_part(alloc, search, node, nodes)? else {
+        let Some(part) = simplify_part(alloc, search, node, nodes)? else {
             return Ok(None);
         };
         parts.push(part)?;

@@ -16,12 +16,12 @@ use crate::items::core_items;
 use crate::names::Taken;
 use crate::simpler::copies::Simplest;
 use crate::simpler::search::Search;
-use crate::simpler::values::{defined, function, simpler_value};
+use crate::simpler::values::{simpler_value, simplify_defined, simplify_signature};
 use smith_read::{CoreNode, DeclNode, TypeNode};
 use std::alloc::{AllocError, Global};
 
 /// A core type; none if what is sought is inside it.
-pub(crate) fn core_type(
+pub(crate) fn copy_core_type(
     alloc: Global,
     search: &mut Search,
     node: &CoreNode,
@@ -53,7 +53,7 @@ fn simpler_type(node: &TypeNode) -> Option<TypeNode>
 // What is sought inside a type made simpler.
 #[cycle(simplifying)]
 #[tactic(auto, using(smith_read::proofs::ShownNodes::shown_nodes))]
-fn inside_type(
+fn simplify_inside(
     alloc: Global,
     search: &mut Search,
     node: &TypeNode,
@@ -64,19 +64,19 @@ fn inside_type(
         ≡ past (entry_items (shown_type_node node.now)) search.old) }
 {
     match node {
-        TypeNode::Defined(ty) => match defined(alloc, search, ty)? {
+        TypeNode::Defined(ty) => match simplify_defined(alloc, search, ty)? {
             Some(ty) => Ok(Some(TypeNode::Defined(ty))),
             None => Ok(None),
         },
-        TypeNode::Func(ty) => match function(alloc, search, ty)? {
+        TypeNode::Func(ty) => match simplify_signature(alloc, search, ty)? {
             Some(ty) => Ok(Some(TypeNode::Func(ty))),
             None => Ok(None),
         },
-        TypeNode::Component(nodes) => match declarations(alloc, search, nodes)? {
+        TypeNode::Component(nodes) => match simplify_declarations(alloc, search, nodes)? {
             Some(nodes) => Ok(Some(TypeNode::Component(nodes))),
             None => Ok(None),
         },
-        TypeNode::Instance(nodes) => match declarations(alloc, search, nodes)? {
+        TypeNode::Instance(nodes) => match simplify_declarations(alloc, search, nodes)? {
             Some(nodes) => Ok(Some(TypeNode::Instance(nodes))),
             None => Ok(None),
         },
@@ -84,7 +84,7 @@ fn inside_type(
 }
 
 // A type, with what is sought made simpler.
-fn one_type(
+fn simplify_type(
     alloc: Global,
     search: &mut Search,
     node: &TypeNode,
@@ -98,11 +98,11 @@ fn one_type(
     if search.step() {
         return Ok(simpler_type(node));
     }
-    inside_type(alloc, search, node)
+    simplify_inside(alloc, search, node)
 }
 
 /// Types in order, with what is sought made simpler.
-pub(crate) fn types(
+pub(crate) fn simplify_types(
     alloc: Global,
     search: &mut Search,
     nodes: &[TypeNode],
@@ -115,7 +115,7 @@ pub(crate) fn types(
 {
     let mut types = Vec::new(alloc);
     for node in nodes {
-        let Some(ty) = one_type(alloc, search, node)? else {
+        let Some(ty) = simplify_type(alloc, search, node)? else {
             return Ok(None);
         };
         types.push(ty)?;
@@ -140,7 +140,7 @@ fn add_names(taken: &mut Taken, alloc: Global, node: &DeclNode) -> Result<(), Al
 }
 
 // The names that declarations import and export.
-fn declared_names(alloc: Global, nodes: &[DeclNode]) -> Result<Taken, AllocError>
+fn take_declared_names(alloc: Global, nodes: &[DeclNode]) -> Result<Taken, AllocError>
     ensures { let decls = in_order (map shown_decl_node nodes.now) in
         IfOk result (λ t. KnowsBoth t (names (decl_imports decls)) (names (decl_exports decls))) }
 {
@@ -168,14 +168,14 @@ fn simpler_declaration(
             None => Ok(None),
         },
         DeclNode::Import { name, to } => {
-            let known = declared_names(alloc, scope)?.imports;
+            let known = take_declared_names(alloc, scope)?.imports;
             match known.shorter_name(alloc, name.as_str())? {
                 Some(name) => Ok(Some(DeclNode::Import { name, to: *to })),
                 None => Ok(None),
             }
         }
         DeclNode::Export { name, to } => {
-            let known = declared_names(alloc, scope)?.exports;
+            let known = take_declared_names(alloc, scope)?.exports;
             match known.shorter_name(alloc, name.as_str())? {
                 Some(name) => Ok(Some(DeclNode::Export { name, to: *to })),
                 None => Ok(None),
@@ -188,7 +188,7 @@ fn simpler_declaration(
 // What is sought inside a declaration made simpler.
 #[cycle(simplifying)]
 #[tactic(auto, using(smith_read::proofs::ShownNodes::shown_nodes))]
-fn inside_declaration(
+fn simplify_inside_declaration(
     alloc: Global,
     search: &mut Search,
     node: &DeclNode,
@@ -200,11 +200,11 @@ fn inside_declaration(
         ≡ past (decl_items (shown_decl_node node.now)) search.old) }
 {
     match node {
-        DeclNode::Core(ty) => match core_type(alloc, search, ty)? {
+        DeclNode::Core(ty) => match copy_core_type(alloc, search, ty)? {
             Some(ty) => Ok(Some(DeclNode::Core(ty))),
             None => Ok(None),
         },
-        DeclNode::Type(ty) => match inside_type(alloc, search, ty)? {
+        DeclNode::Type(ty) => match simplify_inside(alloc, search, ty)? {
             Some(ty) => Ok(Some(DeclNode::Type(ty))),
             None => Ok(None),
         },
@@ -229,7 +229,7 @@ fn inside_declaration(
 
 // A declaration among these, with what is sought made simpler.
 #[cycle(simplifying)]
-fn one_declaration(
+fn simplify_declaration(
     alloc: Global,
     search: &mut Search,
     node: &DeclNode,
@@ -245,12 +245,12 @@ fn one_declaration(
     if search.step() {
         return simpler_declaration(alloc, node, scope);
     }
-    inside_declaration(alloc, search, node)
+    simplify_inside_declaration(alloc, search, node)
 }
 
 // Declarations in order, with what is sought made simpler.
 #[cycle(simplifying)]
-fn declarations(
+fn simplify_declarations(
     alloc: Global,
     search: &mut Search,
     nodes: &[DeclNode],
@@ -264,7 +264,7 @@ fn declarations(
 {
     let mut declarations = Vec::new(alloc);
     for node in nodes {
-        let Some(declaration) = one_declaration(alloc, search, node, nodes)? else {
+        let Some(declaration) = simplify_declaration(alloc, search, node, nodes)? else {
             return Ok(None);
         };
         declarations.push(declaration)?;

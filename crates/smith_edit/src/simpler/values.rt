@@ -8,7 +8,7 @@ ghost use Rattle.smith_edit.specs.Search.{past, sought};
 ghost use Rattle.smith_edit.specs.Simpler.{signature_simplified, simpler_value, value_simplified};
 
 use crate::members::{enum_of, flags_of, record_of, tuple_of, variant_of};
-use crate::simpler::members::{members, unnamed};
+use crate::simpler::members::{copy_unnamed, simplify_members};
 use crate::simpler::search::Search;
 use smith_syntax::{DefinedType, FuncType, ListType, OptionType, PrimitiveValType, ResultType};
 use std::alloc::{AllocError, Global};
@@ -23,7 +23,7 @@ pub(crate) fn simpler_value(ty: &DefinedType) -> Option<DefinedType>
     }
 }
 
-fn result(search: &mut Search, ty: &ResultType) -> Option<DefinedType>
+fn copy_result(search: &mut Search, ty: &ResultType) -> Option<DefinedType>
     ensures ty { option_map shown_defined result ≡ sought (value_items (shown_defined (DefinedType.Result ty.now)))
         search.old (λ k. None) (shown_defined (DefinedType.Result ty.now)) }
     ensures moved { search.new ≡ past (value_items (shown_defined (DefinedType.Result ty.now))) search.old }
@@ -39,7 +39,7 @@ fn result(search: &mut Search, ty: &ResultType) -> Option<DefinedType>
 }
 
 /// A type of values, the member that is sought with a new name.
-pub(crate) fn defined(
+pub(crate) fn simplify_defined(
     alloc: Global,
     search: &mut Search,
     ty: &DefinedType,
@@ -50,25 +50,25 @@ pub(crate) fn defined(
 {
     match ty {
         DefinedType::Primitive(ty) => Ok(Some(DefinedType::Primitive(*ty))),
-        DefinedType::Record(ty) => Ok(record_of(members(alloc, search, &ty.fields)?)),
-        DefinedType::Variant(ty) => Ok(variant_of(members(alloc, search, &ty.cases)?)),
+        DefinedType::Record(ty) => Ok(record_of(simplify_members(alloc, search, &ty.fields)?)),
+        DefinedType::Variant(ty) => Ok(variant_of(simplify_members(alloc, search, &ty.cases)?)),
         DefinedType::List(ty) => {
             let elem_ty = ty.elem_ty;
             Ok(Some(DefinedType::List(ListType { elem_ty })))
         }
-        DefinedType::Tuple(ty) => Ok(tuple_of(unnamed(alloc, search, &ty.fields)?)),
-        DefinedType::Flags(ty) => Ok(flags_of(members(alloc, search, &ty.fields)?)),
-        DefinedType::Enum(ty) => Ok(enum_of(members(alloc, search, &ty.variants)?)),
+        DefinedType::Tuple(ty) => Ok(tuple_of(copy_unnamed(alloc, search, &ty.fields)?)),
+        DefinedType::Flags(ty) => Ok(flags_of(simplify_members(alloc, search, &ty.fields)?)),
+        DefinedType::Enum(ty) => Ok(enum_of(simplify_members(alloc, search, &ty.variants)?)),
         DefinedType::Option(ty) => {
             let inner_ty = ty.inner_ty;
             Ok(Some(DefinedType::Option(OptionType { inner_ty })))
         }
-        DefinedType::Result(ty) => Ok(result(search, ty)),
+        DefinedType::Result(ty) => Ok(copy_result(search, ty)),
     }
 }
 
 /// A type of functions, the parameter that is sought with a new name.
-pub(crate) fn function(
+pub(crate) fn simplify_signature(
     alloc: Global,
     search: &mut Search,
     ty: &FuncType,
@@ -77,7 +77,7 @@ pub(crate) fn function(
         ≡ sought (signature_items ty.now) search.old (λ k. signature_simplified k ty.now) ty.now) }
     ensures moved { IfOk result (λ r. IsSome r → search.new ≡ past (signature_items ty.now) search.old) }
 {
-    let Some(params) = members(alloc, search, &ty.params)? else {
+    let Some(params) = simplify_members(alloc, search, &ty.params)? else {
         return Ok(None);
     };
     if search.pass(usize::from(ty.result.is_some())).is_some() {

@@ -100,7 +100,8 @@ fn put_component(out: &mut Vec<u8>, nodes: &[PartNode]) -> Result<(), Error>
 /// The bytes that spell the component.
 ///
 /// It takes time in proportion to them, however deep sections are in one another, and stack in proportion to the depth
-/// of the tree. A component that no bytes spell is refused with `NoEncoding`; otherwise it fails only when out of memory.
+/// of the tree. A component that no bytes spell is refused with `NoEncoding`; otherwise it fails only when out of
+/// memory.
 pub fn write(alloc: Global, tree: &ComponentTree) -> Result<Vec<u8>, WriteError>
     ensures written { IfOk result (λ b. Spells (shown_tree tree.now) b.items) }
     ensures refuses { IfErr result (λ e. e ≡ NoEncoding → component_text (shown_tree tree.now) ≡ None) }

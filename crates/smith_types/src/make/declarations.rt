@@ -3,17 +3,16 @@
 ghost use Rattle.std.specs.Prelude.{◌≡◌, ◌<◌, ◌≤◌, List, [], ◌∷◌, ◌++◌, true, length, nat_lt};
 ghost use Rattle.std.specs.Prelude.{IfOk, OnOk, IfErr};
 ghost use Rattle.smith_input.specs.Choices.{ReadsAmong};
-ghost use Rattle.smith_input.specs.Reading.{IsTail};
+ghost use Rattle.smith_input.specs.Consumes.{Consumes};
 ghost use Rattle.smith_syntax.specs.ShownDecls.{full_alias, full_instance_decl};
-ghost use Rattle.smith_syntax.specs.WellFormed.{export_of, import_of, FormedRef};
+ghost use Rattle.smith_syntax.specs.WellFormed.{FormedRef};
 ghost use Rattle.smith_types.specs.Declarations.{NamedExtern, ReadsAlias, ReadsExportDecl};
 ghost use Rattle.smith_tree.specs.TypeOffers.{declaration_items, has_export, has_reference, occupied};
-ghost use Rattle.smith_types.specs.MakingTypes.{Declares, HasTarget, HoldsExterns, IsNameless};
-ghost use Rattle.smith_types.specs.MakingTypes.{MadeItem, MaybeImport, SameOuter};
+ghost use Rattle.smith_types.specs.MakingTypes.{DeclaresInLast, ExportsOnly, HasAtMost, HasRoom, HasTarget};
+ghost use Rattle.smith_types.specs.MakingTypes.{HoldsExterns, IsNameless, MadeCoreTypeDecl, MaybeImport, SameOuter};
 ghost use Rattle.smith_types.specs.MakingTypes.{IsAliased, imported_by, shown_import_decl};
 ghost use Rattle.smith_syntax.specs.Marked.{scope_in, with_exported};
 ghost use Rattle.smith_scopes.specs.Scopes.{inward_marked, own_marked, outer_marked};
-ghost use Rattle.smith_tree.specs.declared.choices.DeclarationItem.TheVariants as item;
 
 use super::externs::{ExternNames, named_extern};
 use super::making::Making;
@@ -100,8 +99,7 @@ pub(super) fn import(
         (shown_import_decl i) u.new) }
     ensures names { (so_far : List NamedExtern) → HoldsExterns imports.old so_far
         → IfOk result (λ i. HoldsExterns imports.new (so_far ++ imported_by (shown_import_decl i))) }
-    ensures memory { IfErr result (λ e. e ≡ Error.OutOfMemory) }
-    ensures tail { IsTail u.new u.old }
+    ensures input { Consumes result u.old u.new }
 {
     if !scopes.last().has_reference() || u.int_in_range(0, 3) != 0 {
         return Ok(None);
@@ -144,13 +142,9 @@ pub(super) fn export(
     ensures reads { (so_far : List NamedExtern) → HoldsExterns exports.old so_far
         → IfOk result (λ d. ReadsExportDecl making.now.config.now (own_marked scopes.old) so_far u.old
         (full_instance_decl d) u.new) }
-    ensures names { (so_far : List NamedExtern) → HoldsExterns exports.old so_far
-        → IfOk result (λ d. HoldsExterns exports.new (so_far ++ export_of (full_instance_decl d))) }
-    ensures no_import { IfOk result (λ d. import_of (full_instance_decl d) ≡ []) }
-    ensures declares { IfOk result (λ d. Declares scopes.old scopes.new (full_instance_decl d)) }
-    ensures outer { SameOuter scopes.old scopes.new }
-    ensures memory { IfErr result (λ e. e ≡ Error.OutOfMemory) }
-    ensures tail { IsTail u.new u.old }
+    ensures names { IfOk result (λ d. ExportsOnly exports.old exports.new (full_instance_decl d)) }
+    ensures scopes { DeclaresInLast result full_instance_decl scopes.old scopes.new }
+    ensures input { Consumes result u.old u.new }
 {
     let Some(ty) = arbitrary_type_ref(u, making.config, scopes, UNCOUNTED, false, true) else {
         unreachable!();
@@ -166,8 +160,7 @@ fn alias_choice(u: &mut Unstructured, scopes: &Scopes, counts: &[u32]) -> Result
     requires some { 0 < length counts.now }
     ensures reads { IfOk result (λ a. ReadsAlias (inward_marked scopes.now) u.old (full_alias a) u.new) }
     ensures scope { IfOk result (λ a. a.count < length scopes.now) }
-    ensures memory { IfErr result (λ e. e ≡ Error.OutOfMemory) }
-    ensures tail { IsTail u.new u.old }
+    ensures input { Consumes result u.old u.new }
 {
     let count = *u.choose(counts);
     let types = scopes.len(count);
@@ -184,12 +177,10 @@ fn alias_choice(u: &mut Unstructured, scopes: &Scopes, counts: &[u32]) -> Result
 
 // What an alias names is in the last scope too.
 fn add_aliased(scopes: &mut Scopes, alias: &Alias) -> Result<(), Error>
-    requires types { length (own_marked scopes.old).types ≤ 100 }
-    requires core_types { length (own_marked scopes.old).core_types ≤ 100 }
+    requires few { HasAtMost 100 (own_marked scopes.old) }
     requires scope { alias.now.count < length scopes.old }
     requires named { IsAliased (inward_marked scopes.old) (full_alias alias.now) }
-    ensures declares { OnOk result (Declares scopes.old scopes.new (full_alias alias.now)) }
-    ensures outer { SameOuter scopes.old scopes.new }
+    ensures scopes { DeclaresInLast result (λ _. full_alias alias.now) scopes.old scopes.new }
     ensures memory { IfErr result (λ e. e ≡ Error.OutOfMemory) }
 {
     match &alias.kind {
@@ -213,16 +204,12 @@ pub(super) fn outer_alias(
     u: &mut Unstructured,
     scopes: &mut Scopes,
 ) -> Result<InstanceTypeDecl, Error>
-    requires shallow { length scopes.old ≤ 1002 }
+    requires room { HasRoom scopes.old }
     requires some { 0 < length (occupied (own_marked scopes.old ∷ outer_marked scopes.old)) }
-    requires types { length (own_marked scopes.old).types ≤ 100 }
-    requires core_types { length (own_marked scopes.old).core_types ≤ 100 }
     ensures reads { IfOk result (λ d. ReadsAlias (inward_marked scopes.old) u.old (full_instance_decl d) u.new) }
     ensures nameless { IfOk result (λ d. IsNameless (full_instance_decl d)) }
-    ensures declares { IfOk result (λ d. Declares scopes.old scopes.new (full_instance_decl d)) }
-    ensures outer { SameOuter scopes.old scopes.new }
-    ensures memory { IfErr result (λ e. e ≡ Error.OutOfMemory) }
-    ensures tail { IsTail u.new u.old }
+    ensures scopes { DeclaresInLast result full_instance_decl scopes.old scopes.new }
+    ensures input { Consumes result u.old u.new }
 {
     let counts = occupied_scopes(alloc, scopes)?;
     let alias = alias_choice(u, scopes, &counts)?;
@@ -238,14 +225,11 @@ pub(super) fn core_type_decl(
     fuel: &mut u32,
 ) -> Result<InstanceTypeDecl, Error>
     requires room { length (own_marked scopes.old).core_types ≤ 100 }
-    ensures made { (exports : List NamedExtern) → IfOk result (λ d. MadeItem making.now.config.now
-        (own_marked scopes.old) (outer_marked scopes.old) exports item.CoreType u.old fuel.old
+    ensures made { IfOk result (λ d. MadeCoreTypeDecl making.now.config.now (own_marked scopes.old) u.old fuel.old
         (full_instance_decl d) u.new fuel.new) }
     ensures nameless { IfOk result (λ d. IsNameless (full_instance_decl d)) }
-    ensures declares { IfOk result (λ d. Declares scopes.old scopes.new (full_instance_decl d)) }
-    ensures outer { SameOuter scopes.old scopes.new }
-    ensures memory { IfErr result (λ e. e ≡ Error.OutOfMemory) }
-    ensures tail { IsTail u.new u.old }
+    ensures scopes { DeclaresInLast result full_instance_decl scopes.old scopes.new }
+    ensures input { Consumes result u.old u.new }
 {
     let ty = arbitrary_core_type(
         making.alloc,

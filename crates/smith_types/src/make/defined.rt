@@ -1,6 +1,7 @@
 //! Defined types from the input.
 
-ghost use Rattle.std.specs.Prelude.{◌≡◌, ◌+◌, ◌-◌, ℕ, List, map, string_bytes, IfOk, IfErr};
+ghost use Rattle.std.specs.Prelude.{◌≡◌, ◌+◌, ◌-◌, ℕ, List, map, string_bytes, IfOk};
+ghost use Rattle.smith_input.specs.Consumes.{Consumes};
 ghost use Rattle.smith_input.specs.Reading.{IsTail};
 ghost use Rattle.smith_syntax.specs.Entries.{primitive_type, record_type, variant_type};
 ghost use Rattle.smith_syntax.specs.Entries.{tuple_type, flags_type, enum_type};
@@ -99,19 +100,18 @@ fn type_of_kind(
 ) -> Result<DefinedType, Error>
     ensures made { IfOk result (λ t.
         MadeAs (own_marked scopes.now) kind u.old fuel.old (shown_defined t) u.new fuel.new) }
-    ensures memory { IfErr result (λ e. e ≡ Error.OutOfMemory) }
-    ensures tail { IsTail u.new u.old }
+    ensures input { Consumes result u.old u.new }
 {
     match kind {
         DefinedKind::Primitive => Ok(DefinedType::Primitive(primitive_type(u))),
-        DefinedKind::Record => Ok(record_type(members(alloc, u, scopes, fuel, 1, 100)?)),
-        DefinedKind::Variant => Ok(variant_type(members(alloc, u, scopes, fuel, 1, 100)?)),
+        DefinedKind::Record => Ok(record_type(members(alloc, u, scopes, fuel, (1, 100))?)),
+        DefinedKind::Variant => Ok(variant_type(members(alloc, u, scopes, fuel, (1, 100))?)),
         DefinedKind::List => Ok(DefinedType::List(ListType {
             elem_ty: value_type(u, scopes),
         })),
-        DefinedKind::Tuple => Ok(tuple_type(members(alloc, u, scopes, fuel, 1, 100)?)),
-        DefinedKind::Flags => Ok(flags_type(members(alloc, u, scopes, fuel, 1, 32)?)),
-        DefinedKind::Enum => Ok(enum_type(members(alloc, u, scopes, fuel, 1, 100)?)),
+        DefinedKind::Tuple => Ok(tuple_type(members(alloc, u, scopes, fuel, (1, 100))?)),
+        DefinedKind::Flags => Ok(flags_type(members(alloc, u, scopes, fuel, (1, 32))?)),
+        DefinedKind::Enum => Ok(enum_type(members(alloc, u, scopes, fuel, (1, 100))?)),
         DefinedKind::Option => Ok(DefinedType::Option(OptionType {
             inner_ty: value_type(u, scopes),
         })),
@@ -128,8 +128,7 @@ pub(super) fn defined_type(
 ) -> Result<DefinedType, Error>
     ensures made { IfOk result (λ t.
         MadeDefined (own_marked scopes.now) u.old fuel.old (shown_defined t) u.new fuel.new) }
-    ensures memory { IfErr result (λ e. e ≡ Error.OutOfMemory) }
-    ensures tail { IsTail u.new u.old }
+    ensures input { Consumes result u.old u.new }
 {
     let kind = *u.choose(defined_kinds());
     type_of_kind(alloc, u, scopes, fuel, kind)

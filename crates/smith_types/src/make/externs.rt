@@ -1,7 +1,7 @@
 //! Names of imports and exports, from the input.
 
-ghost use Rattle.std.specs.Prelude.{◌≡◌, List, [], ◌∷◌, ◌++◌, length, string_bytes, IfOk, IfErr, OnErr};
-ghost use Rattle.smith_input.specs.Reading.{IsTail};
+ghost use Rattle.std.specs.Prelude.{◌≡◌, List, [], ◌∷◌, ◌++◌, length, string_bytes, IfOk, OnErr};
+ghost use Rattle.smith_input.specs.Consumes.{Consumes};
 ghost use Rattle.smith_syntax.specs.Shown.{shown_url};
 ghost use Rattle.smith_types.specs.Declarations.{NamedExtern, ReadsMaybeUrl, ReadsNamedExtern, url_name};
 ghost use Rattle.smith_types.specs.MakingTypes.{HoldsExterns};
@@ -38,6 +38,13 @@ impl ExternNames {
     }
 }
 
+// The names of what a component type imports, and of what it exports.
+#[derive(Drop)]
+pub(super) struct ComponentNames {
+    pub(super) imports: ExternNames,
+    pub(super) exports: ExternNames,
+}
+
 // A boolean, and a URL if it is true, which has a name that no URL has so far.
 fn maybe_url(
     alloc: Global,
@@ -49,8 +56,7 @@ fn maybe_url(
     ensures names { (used : List _) → Holds urls.old used
         → IfOk result (λ url. Holds urls.new (used ++ url_name (shown_url url))) }
     ensures refused { OnErr result (urls.new.keys ≡ urls.old.keys) }
-    ensures memory { IfErr result (λ e. e ≡ Error.OutOfMemory) }
-    ensures tail { IsTail u.new u.old }
+    ensures input { Consumes result u.old u.new }
 {
     if !u.arbitrary_bool() {
         return Ok(None);
@@ -73,8 +79,7 @@ pub fn named_extern(
         → IfOk result (λ n. HoldsExterns externs.new (so_far ++ (string_bytes n.0, shown_url n.1) ∷ [])) }
     ensures refused { (so_far : List NamedExtern) → HoldsExterns externs.old so_far
         → OnErr result (HoldsExterns externs.new so_far) }
-    ensures memory { IfErr result (λ e. e ≡ Error.OutOfMemory) }
-    ensures tail { IsTail u.new u.old }
+    ensures input { Consumes result u.old u.new }
 {
     let name = unique_kebab_string(alloc, MAX_NAME_LEN, &mut externs.names, u)?;
     match maybe_url(alloc, u, &mut externs.urls) {

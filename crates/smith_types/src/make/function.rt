@@ -1,6 +1,7 @@
 //! Function types from the input.
 
-ghost use Rattle.std.specs.Prelude.{◌≡◌, [], IfOk, IfErr};
+ghost use Rattle.std.specs.Prelude.{[], IfOk};
+ghost use Rattle.smith_input.specs.Consumes.{Consumes};
 ghost use Rattle.smith_input.specs.Reading.{IsTail};
 ghost use Rattle.smith_types.specs.Made.{MadeFunction, ReadsResult};
 ghost use Rattle.smith_scopes.specs.Scopes.{own_marked};
@@ -36,10 +37,9 @@ pub(super) fn function_type(
     fuel: &mut u32,
 ) -> Result<FuncType, Error>
     ensures made { IfOk result (λ f. MadeFunction (own_marked scopes.now) u.old fuel.old f u.new fuel.new) }
-    ensures memory { IfErr result (λ e. e ≡ Error.OutOfMemory) }
-    ensures tail { IsTail u.new u.old }
+    ensures input { Consumes result u.old u.new }
 {
-    let params = members(alloc, u, scopes, fuel, 0, 16)?;
+    let params = members(alloc, u, scopes, fuel, (0, 16))?;
     let result = result_of(u, scopes, fuel);
     Ok(FuncType { params, result })
 }

@@ -1,8 +1,9 @@
 //! A type of each kind, from the input.
 
 ghost use Rattle.std.specs.Prelude.{◌≡◌, ◌≤◌, ◌<◌};
-ghost use Rattle.std.specs.Prelude.{length, IfOk, IfErr};
+ghost use Rattle.std.specs.Prelude.{length, IfOk};
 ghost use Rattle.smith_input.specs.Choices.{ReadsAmong};
+ghost use Rattle.smith_input.specs.Consumes.{Consumes};
 ghost use Rattle.smith_input.specs.Reading.{IsTail};
 ghost use Rattle.smith_syntax.specs.Shown.{full_type};
 ghost use Rattle.smith_types.specs.Made.{Made};
@@ -48,8 +49,7 @@ fn type_of(
         kind u.old fuel.old (full_type t.0) u.new fuel.new) }
     ensures mark { IfOk result (λ t. IsMarkOf scopes.old (full_type t.0) t.1) }
     ensures scopes { scopes.new ≡ scopes.old }
-    ensures memory { IfErr result (λ e. e ≡ Error.OutOfMemory) }
-    ensures tail { IsTail u.new u.old }
+    ensures input { Consumes result u.old u.new }
 {
     match kind {
         TypeKind::Defined => {
@@ -80,8 +80,7 @@ pub(super) fn made_type(
         u.old fuel.old (full_type t.0.value) u.new fuel.new) }
     ensures mark { IfOk result (λ t. IsMarkOf scopes.old (full_type t.0.value) t.1) }
     ensures scopes { scopes.new ≡ scopes.old }
-    ensures memory { IfErr result (λ e. e ≡ Error.OutOfMemory) }
-    ensures tail { IsTail u.new u.old }
+    ensures input { Consumes result u.old u.new }
 {
     burn(fuel);
     let kind = type_kind(u, *fuel);

@@ -1,8 +1,8 @@
 //! Members of a type from the input: a loop that takes fuel.
 
-ghost use Rattle.std.specs.Prelude.{◌≡◌, ◌≤◌, ℕ, List, map, string_bytes, IfOk, IfErr};
+ghost use Rattle.std.specs.Prelude.{◌≤◌, ℕ, List, map, string_bytes, IfOk};
 ghost use Rattle.smith_input.specs.Names.{ReadsNew};
-ghost use Rattle.smith_input.specs.Reading.{IsTail};
+ghost use Rattle.smith_input.specs.Consumes.{Consumes};
 ghost use Rattle.smith_syntax.specs.Entries.{Field, Case};
 ghost use Rattle.smith_types.specs.Made.{ReadsVal, ReadsMaybe, ReadsNamed, ReadsMembers};
 ghost use Rattle.smith_syntax.specs.Marked.{Marked};
@@ -34,28 +34,25 @@ pub(super) trait Member: Drop {
     ) -> Result<Self, Error>
         ensures read { IfOk result
             (λ m. reads_member (own_marked scopes.now) (map shown so_far.now) u.old (shown m) u.new) }
-        ensures memory { IfErr result (λ e. e ≡ Error.OutOfMemory) }
-        ensures tail { IsTail u.new u.old };
+        ensures input { Consumes result u.old u.new };
 }
 
-// The members of a type: at least `min` if the fuel lasts, and at most `max`.
+// The members of a type: at least `counts.0` if the fuel lasts, and at most `counts.1`.
 pub(super) fn members<M: Member>(
     alloc: Global,
     u: &mut Unstructured,
     scopes: &Scopes,
     fuel: &mut u32,
-    min: usize,
-    max: usize,
+    counts: (usize, usize),
 ) -> Result<Vec<M>, Error>
-    requires { min ≤ max }
-    ensures reads { IfOk result (λ v. ReadsMembers (M.reads_member (own_marked scopes.now)) min max u.old fuel.old
-        (map M.shown v.items) u.new fuel.new) }
-    ensures memory { IfErr result (λ e. e ≡ Error.OutOfMemory) }
-    ensures tail { IsTail u.new u.old }
+    requires { counts.0 ≤ counts.1 }
+    ensures reads { IfOk result (λ v. ReadsMembers (M.reads_member (own_marked scopes.now)) counts.0 counts.1 u.old
+        fuel.old (map M.shown v.items) u.new fuel.new) }
+    ensures input { Consumes result u.old u.new }
 {
     let mut members = Vec::new(alloc);
-    for done in 0..max {
-        if !u.more(done, min, max) {
+    for done in 0..counts.1 {
+        if !u.more(done, counts.0, counts.1) {
             return Ok(members);
         }
         burn(fuel);

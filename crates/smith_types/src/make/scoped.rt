@@ -1,18 +1,17 @@
 //! Types of components and of instances, from the input.
 
-ghost use Rattle.std.specs.Prelude.{◌≡◌, ◌+◌, ◌≤◌, [], ◌∷◌, ◌++◌, List, true, false};
+ghost use Rattle.std.specs.Prelude.{◌≡◌, ◌≤◌, [], List, true, false};
 ghost use Rattle.std.specs.Prelude.{length, IfOk, IfErr, OnOk, OnErr};
-ghost use Rattle.smith_input.specs.Reading.{IsTail};
+ghost use Rattle.smith_input.specs.Consumes.{Consumes};
 ghost use Rattle.smith_syntax.specs.Entries.{in_order};
 ghost use Rattle.smith_syntax.specs.Shown.{full_type};
-ghost use Rattle.smith_syntax.specs.Marked.{Marked, empty_marked, marked_after_all};
+ghost use Rattle.smith_syntax.specs.Marked.{Marked};
 ghost use Rattle.smith_types.specs.Declarations.{SoFar, nothing_so_far};
-ghost use Rattle.smith_types.specs.Made.{MadeDeclarations};
-ghost use Rattle.smith_types.specs.MakingTypes.{AddsDeclaration, HasAtMost, HoldsNames, IsMarkOf};
-ghost use Rattle.smith_types.specs.MakingTypes.{MadeScoped, SameOuter, declaring, defs_in, is_importing};
-ghost use Rattle.smith_scopes.specs.Scopes.{last_of, own_marked, outer_marked};
+ghost use Rattle.smith_types.specs.MakingTypes.{AddsDeclaration, DeclaresAll, HasRoom, HoldsNames, IsMarkOf};
+ghost use Rattle.smith_types.specs.MakingTypes.{MadeScoped, OpensInner, SameOuter, declaring, defs_in, is_importing};
+ghost use Rattle.smith_scopes.specs.Scopes.{own_marked, outer_marked};
 
-use super::externs::ExternNames;
+use super::externs::{ComponentNames, ExternNames};
 use super::items::{component_declaration, declaration};
 use super::making::Making;
 use smith_format::burn;
@@ -25,11 +24,7 @@ use std::alloc::Global;
 
 // An empty scope is opened in the last one.
 fn open_inner(scopes: &mut Scopes) -> Result<(), Error>
-    ensures opened { OnOk result (scopes.new ≡ scopes.old ++ empty_marked (last_of scopes.old).keeps ∷ []) }
-    ensures deep { OnOk result (2 ≤ length scopes.new) }
-    ensures depth { OnOk result (length scopes.new ≡ length scopes.old + 1) }
-    ensures fresh { OnOk result (own_marked scopes.new ≡ empty_marked (own_marked scopes.old).keeps) }
-    ensures around { OnOk result (outer_marked scopes.new ≡ own_marked scopes.old ∷ outer_marked scopes.old) }
+    ensures ok { OnOk result (OpensInner scopes.old scopes.new) }
     ensures err { OnErr result (scopes.new ≡ scopes.old) }
     ensures memory { IfErr result (λ e. e ≡ Error.OutOfMemory) }
 {
@@ -39,8 +34,7 @@ fn open_inner(scopes: &mut Scopes) -> Result<(), Error>
 // What a component type declares so far, in order, and the names of its imports and exports.
 #[derive(Drop)]
 struct ComponentBody {
-    imports: ExternNames,
-    exports: ExternNames,
+    names: ComponentNames,
     defs: Vec<ComponentTypeDef>,
 }
 
@@ -67,9 +61,9 @@ impl TypeBody {
     {
         let exports = ExternNames::new(alloc);
         if importing {
+            let imports = ExternNames::new(alloc);
             return TypeBody::Component(ComponentBody {
-                imports: ExternNames::new(alloc),
-                exports,
+                names: ComponentNames { imports, exports },
                 defs: Vec::new(alloc),
             });
         }
@@ -99,20 +93,16 @@ fn declare(
     fuel: &mut u32,
     declared: &mut TypeBody,
 ) -> Result<(), Error>
-    requires shallow { length scopes.old ≤ 1002 }
-    requires few { HasAtMost 100 (own_marked scopes.old) }
+    requires room { HasRoom scopes.old }
     ensures made { (so_far : SoFar) → own_marked scopes.old ≡ so_far.own → HoldsNames declared.old so_far
         → OnOk result (AddsDeclaration making.now.config.now scopes.old scopes.new so_far declared.old declared.new
         u.old fuel.old u.new fuel.new) }
     ensures outer { SameOuter scopes.old scopes.new }
-    ensures memory { IfErr result (λ e. e ≡ Error.OutOfMemory) }
-    ensures tail { IsTail u.new u.old }
+    ensures input { Consumes result u.old u.new }
 {
     match declared {
         TypeBody::Component(body) => {
-            let imports = &mut body.imports;
-            let exports = &mut body.exports;
-            let def = component_declaration(making, u, scopes, fuel, imports, exports)?;
+            let def = component_declaration(making, u, scopes, fuel, &mut body.names)?;
             body.defs.push(def)?;
         }
         TypeBody::Instance(body) => {
@@ -134,14 +124,10 @@ fn declarations(
 ) -> Result<TypeBody, Error>
     requires shallow { length scopes.old ≤ 1002 }
     requires fresh { own_marked scopes.old ≡ (nothing_so_far (outer_marked scopes.old)).own }
-    ensures made { IfOk result (λ d. MadeDeclarations making.now.config.now importing (outer_marked scopes.old)
-        0 (nothing_so_far (outer_marked scopes.old)) u.old fuel.old (in_order (defs_in d)) u.new fuel.new) }
-    ensures closed { IfOk result (λ d. own_marked scopes.new
-        ≡ marked_after_all (in_order (defs_in d)) (outer_marked scopes.old) (own_marked scopes.old)) }
-    ensures importing { IfOk result (λ d. is_importing d ≡ importing) }
+    ensures made { IfOk result (λ d. DeclaresAll making.now.config.now importing (outer_marked scopes.old) u.old
+        fuel.old d (own_marked scopes.new) u.new fuel.new) }
     ensures outer { SameOuter scopes.old scopes.new }
-    ensures memory { IfErr result (λ e. e ≡ Error.OutOfMemory) }
-    ensures tail { IsTail u.new u.old }
+    ensures input { Consumes result u.old u.new }
 {
     let mut declared = TypeBody::new(making.alloc, importing);
     for done in 0..100 {
@@ -171,8 +157,7 @@ pub(super) fn scoped_type(
         importing u.old fuel.old (full_type t.0) u.new fuel.new) }
     ensures mark { IfOk result (λ t. IsMarkOf scopes.old (full_type t.0) t.1) }
     ensures scopes { scopes.new ≡ scopes.old }
-    ensures memory { IfErr result (λ e. e ≡ Error.OutOfMemory) }
-    ensures tail { IsTail u.new u.old }
+    ensures input { Consumes result u.old u.new }
 {
     open_inner(scopes)?;
     let made = declarations(making, u, scopes, fuel, importing);

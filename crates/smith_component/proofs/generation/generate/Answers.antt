@@ -17,11 +17,13 @@ returns-clause-made c = c.in_ok-component.ensures.made
 pub returns-clause-validates : goal.returns-clause-validates
 returns-clause-validates c valid = c.in_ok-component.ensures.validates valid
 
-pub returns-clause-accepts : goal.returns-clause-accepts
-returns-clause-accepts c = c.in_ok-component.ensures.accepts
-
-pub returns-clause-unread : goal.returns-clause-unread
-returns-clause-unread c = c.new.ensures.unread
+pub returns-clause-input : goal.returns-clause-input
+returns-clause-input c = record {
+  accepts = c.in_ok-component.ensures.input.accepts;
+  refuses = tt;
+  unread = c.new.ensures.input.unread;
+  tail = c.new.ensures.input.tail;
+}
 
 pub returns-clause-reach : goal.returns-clause-reach
 returns-clause-reach c plan rest w e =
@@ -34,4 +36,5 @@ returns-in_err-component-clause-answers c plan rest consistent w e =
     let left = c.new.new.u in
     let lacks = plan_lacks_none c.args.config c.args.u.now plan rest consistent w e left in
     let no_module = plan_refuses_no_module c.args.config c.args.u.now plan rest consistent w e left in
-    refused _ _ P c.from_residual.ensures.1 (refused_accepted c.args.config left c.args.u.now consistent lacks no_module _ c.in_err-component.ensures.refuses)
+    let why = c.in_err-component.ensures.input.refuses in
+    refused _ _ P c.from_residual.ensures.1 (refused_accepted c.args.config left c.args.u.now consistent lacks no_module _ why)

@@ -24,9 +24,6 @@ returns-then-fuel-eq0-clause-reads c =
           (no_fuel none (ap (so_far c.loop-done.declared) c.if-fuel-eq0.true)) c.loop-done.invariant.onward,
     )
 
-pub returns-in_err-turn-clause-tail : goal.returns-in_err-turn-clause-tail
-returns-in_err-turn-clause-tail c = tail_trans c.in_err-turn.ensures.tail (tail_trans (more_tail c.more.ensures) c.loop-done.invariant.tail)
-
 pub returns-then-not-branch-clause-reads : goal.returns-then-not-branch-clause-reads
 returns-then-not-branch-clause-reads c =
     let around = own_of (inward c.args.scopes.now) in
@@ -36,9 +33,6 @@ returns-then-not-branch-clause-reads c =
     let turned = c.in_ok-turn.ensures.turns fuel (omega (arith, c.burn.ensures, c.if-fuel-eq0.false)) in
     let ends = subst (T false) (sym c.burn.ensures) (subst (λ b. T b (fuel - 1)) c.if-not-branch.true turned) in
     (c.loop-done.invariant.read, ends_early _ _ _ _ _ _ _ _ _ _ _ _ _ _ c.if-not-more.false c.more.ensures ends c.loop-done.invariant.onward)
-
-pub returns-then-not-branch-clause-tail : goal.returns-then-not-branch-clause-tail
-returns-then-not-branch-clause-tail c = tail_trans c.in_ok-turn.ensures.tail (tail_trans (more_tail c.more.ensures) c.loop-done.invariant.tail)
 
 pub loop-done-preserved : goal.loop-done-preserved
 loop-done-preserved c =
@@ -50,7 +44,7 @@ loop-done-preserved c =
     let turned = c.in_ok-turn.ensures.turns fuel (omega (arith, c.burn.ensures, c.if-fuel-eq0.false)) in
     let one = subst (T true) (sym c.burn.ensures) (subst (λ b. T b (fuel - 1)) c.if-not-branch.false turned) in
     record {
-      tail = tail_trans c.in_ok-turn.ensures.tail (tail_trans (more_tail c.more.ensures) v.tail);
+      tail = tail_trans c.in_ok-turn.ensures.input.tail (tail_trans (more_tail c.more.ensures) v.tail);
       few = omega (arith, c.in_ok-turn.ensures.own, v.few);
       kept = λ k. c.in_ok-turn.ensures.kept (v.kept k);
       read = v.read ++ one.0 ∷ [];

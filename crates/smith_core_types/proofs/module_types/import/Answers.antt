@@ -1,6 +1,5 @@
 use Rattle.std.proofs.Common.{ℕ, ◌-◌, List, refl, sym, subst, append-nil, string_bytes, map}
 use Rattle.smith_input.specs.Texts.{ReadsNewText, ReadsText}
-use Rattle.smith_input.proofs.Reading.{tail_trans}
 use Rattle.smith_syntax.specs.Entries.{imports}
 use Rattle.smith_core_types.specs.MadeCore.{ReadsImportNames}
 use Rattle.smith_core_types.specs.MakingCore.{MaybeEntity, shown_funcs, so_far}
@@ -21,9 +20,6 @@ returns-in-None-clause-adds c around fuel =
     × ReadsNewText 100 (names_from from (map shown_decl ds)) mid name c.import_names.new.u in
     let R : List ℕ → Type 0 = λ r. ReadsImportNames s c.args.u.now from name r in
     ((from, name, subst R (sym none.1) (subst N c.deref.ensures.value c.in_ok-module.ensures.reads), none.0), refl)
-
-pub returns-in-None-clause-tail : goal.returns-in-None-clause-tail
-returns-in-None-clause-tail c = tail_trans c.entity.ensures.tail c.in_ok-module.ensures.tail
 
 pub returns-in_ok-push-in-Some-clause-adds : goal.returns-in_ok-push-in-Some-clause-adds
 returns-in_ok-push-in-Some-clause-adds c around fuel =
@@ -47,12 +43,6 @@ returns-in_ok-push-in-Some-clause-adds c around fuel =
       ),
       same_state (fuel - 1) (fuel - 1) (sym (append-nil (shown_funcs old.own.items))) decls refl,
     )
-
-pub returns-in_ok-push-in-Some-clause-tail : goal.returns-in_ok-push-in-Some-clause-tail
-returns-in_ok-push-in-Some-clause-tail c = tail_trans c.entity.ensures.tail c.in_ok-module.ensures.tail
-
-pub returns-in_err-push-in-Some-clause-tail : goal.returns-in_err-push-in-Some-clause-tail
-returns-in_err-push-in-Some-clause-tail c = tail_trans c.entity.ensures.tail c.in_ok-module.ensures.tail
 
 pub returns-in_ok-push-in-Some-clause-kept : goal.returns-in_ok-push-in-Some-clause-kept
 returns-in_ok-push-in-Some-clause-kept c around k =

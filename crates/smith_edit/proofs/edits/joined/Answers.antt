@@ -15,7 +15,7 @@ pub loop-node-init : goal.loop-node-init
 loop-node-init c =
     let left : Tree = tree_of (map shown_part_node c.args.left.parts.items) in
     let right : Tree = tree_of (map shown_part_node c.deref-node-items.result.now) in
-    let own : c.in_ok-own.own ≡ following (spaces_of left) = c.in_ok-own.ensures (spaces_of left) (rw c.deref.ensures.value at c.in_ok-counts.ensures) in
+    let own : c.in_ok-own.own ≡ following (spaces_of left) = c.in_ok-own.ensures (spaces_of left) (rw c.deref.ensures.value at c.in_ok-count_entries.ensures) in
     let walk : shown_walk c.new-walk.result ≡ record { removal = Nothing; own = following (spaces_of left); outer = [] } =
     c.new-walk.ensures ∙ ap (λ (s : Scope). record { removal = Nothing; own = s; outer = [] }) own in (
       import_names (imports_of left),
@@ -36,7 +36,7 @@ loop-node-preserved c =
       c.in_ok-renamed.ensures.knows is es knows,
       ap (λ v. v.removal) c.in_ok-moved.ensures.walk ∙ unremoved_after (shown_part_node c.node-item.result) w none,
       rw c.in_ok-push.ensures.items
-          (joined_step w (shown_walk c.part.new.walk) is es c.deref-node-items.result.now c.loop-node.parts.items c.loop-node.node-index
+          (joined_step w (shown_walk c.edit_part.new.walk) is es c.deref-node-items.result.now c.loop-node.parts.items c.loop-node.node-index
           c.node-item.result c.in_ok-moved.moved c.in_ok-renamed.field-0 _ c.loop-node-test.true c.node-item.is
           none c.in_ok-moved.ensures.edited c.in_ok-moved.ensures.walk (c.in_ok-renamed.ensures.part is es knows) more),
     )

@@ -1,4 +1,4 @@
-use Rattle.smith_edit.proofs.Goes.{canon_goes, decl_goes, entry_goes, export_goes, import_goes, module_decl_goes}
+use Rattle.smith_edit.proofs.Goes.{canon_goes, entry_goes, export_goes, import_goes}
 use Rattle.smith_edit.proofs.laws.entries_go_with_what_they_refer_to.Goals as goal
 
 pub returns-clause-core_types : goal.returns-clause-core_types
@@ -15,9 +15,3 @@ returns-clause-exports c w e gone = export_goes w e gone
 
 pub returns-clause-canons : goal.returns-clause-canons
 returns-clause-canons c w f gone = canon_goes w f gone
-
-pub returns-clause-declarations : goal.returns-clause-declarations
-returns-clause-declarations c d w gone = decl_goes d w gone
-
-pub returns-clause-module_declarations : goal.returns-clause-module_declarations
-returns-clause-module_declarations c d w gone = module_decl_goes d w gone

@@ -1,4 +1,4 @@
-use Rattle.smith_edit.proofs.Told.{canon_told, core_told, decl_told, export_told, import_told, module_decl_told, told_before, type_told}
+use Rattle.smith_edit.proofs.Told.{canon_told, core_told, export_told, import_told, told_before, type_told}
 use Rattle.smith_edit.proofs.laws.what_is_left_is_not_gone.Goals as goal
 
 pub returns-clause-types : goal.returns-clause-types
@@ -15,12 +15,6 @@ returns-clause-exports c w x new e = export_told w x new e
 
 pub returns-clause-canons : goal.returns-clause-canons
 returns-clause-canons c s f new = canon_told s f new
-
-pub returns-clause-declarations : goal.returns-clause-declarations
-returns-clause-declarations c s d new = decl_told s d new
-
-pub returns-clause-module_declarations : goal.returns-clause-module_declarations
-returns-clause-module_declarations c s d new = module_decl_told s d new
 
 pub returns-clause-before : goal.returns-clause-before
 returns-clause-before c s f i h = told_before s f i h

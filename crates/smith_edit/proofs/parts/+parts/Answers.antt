@@ -1,27 +1,28 @@
-use Rattle.std.proofs.Common.{◌∙◌, sym}
+use Rattle.std.proofs.Common.{◌∙◌, ap, sym}
 use Rattle.smith_read.specs.PartNodes.{shown_part_node}
+use Rattle.smith_edit.specs.Edited.{within}
 use Rattle.smith_edit.specs.Walk.{shown_walk}
-use Rattle.smith_edit.proofs.AfterRows.{after_kept}
-use Rattle.smith_edit.proofs.Trees.{outer_step, removal_end, removal_step, trees_end, trees_step}
+use Rattle.smith_edit.proofs.AfterRows.{after_kept, part_outer}
+use Rattle.smith_edit.proofs.Editing.{edited_end, edited_step, part_editing, removal_end, removal_step}
 use Rattle.smith_edit.proofs.parts.+parts.Goals as goal
 
-pub parts-loop-node-preserved : goal.parts-loop-node-preserved
-parts-loop-node-preserved t c =
-    let is = c.in_ok-new.ensures.edited in
+pub edit_parts-loop-node-preserved : goal.edit_parts-loop-node-preserved
+edit_parts-loop-node-preserved t c =
     let on = c.in_ok-new.ensures.walk in
     record {
-      left = trees_step _ _ _ _ _ _ c.loop-node-test.true c.node-item.is is on _ _ _ c.in_ok-push_some.ensures c.loop-node.invariant.left;
-      removal = removal_step _ _ _ _ _ _ c.loop-node-test.true c.node-item.is is on _ c.loop-node.invariant.removal;
-      outer = outer_step _ _ _ _ _ _ c.loop-node-test.true c.node-item.is is on ∙ c.loop-node.invariant.outer;
+      left = edited_step part_editing _ _ _ _ _ c.loop-node-test.true c.node-item.is on _ _ _ _ c.in_ok-new.ensures.edited
+          c.in_ok-push_some.ensures c.loop-node.invariant.left;
+      removal = removal_step part_editing _ _ _ _ _ c.loop-node-test.true c.node-item.is on _ c.loop-node.invariant.removal;
+      outer = ap (λ w. w.outer) on ∙ part_outer (within (shown_walk c.loop-node.walk)) (shown_part_node c.node-item.result) ∙ c.loop-node.invariant.outer;
     }
 
-pub parts-returns-clause-left : goal.parts-returns-clause-left
-parts-returns-clause-left t c = trees_end _ _ _ _ _ c.loop-node-test.false c.loop-node.invariant.left
+pub edit_parts-returns-clause-left : goal.edit_parts-returns-clause-left
+edit_parts-returns-clause-left t c = edited_end part_editing _ _ _ _ _ c.loop-node-test.false c.loop-node.invariant.left
 
-pub parts-returns-clause-removal : goal.parts-returns-clause-removal
-parts-returns-clause-removal t c = removal_end _ _ _ _ c.loop-node-test.false c.loop-node.invariant.removal
+pub edit_parts-returns-clause-removal : goal.edit_parts-returns-clause-removal
+edit_parts-returns-clause-removal t c = removal_end part_editing _ _ _ _ c.loop-node-test.false c.loop-node.invariant.removal
 
-pub one-returns-clause-walk : goal.one-returns-clause-walk
-one-returns-clause-walk t c =
-    after_kept (shown_walk c.args.walk.now) (shown_walk c.part.new.walk) (shown_part_node c.args.node.now) (sym c.if-removed.ensures)
+pub edit_one-returns-clause-walk : goal.edit_one-returns-clause-walk
+edit_one-returns-clause-walk t c =
+    after_kept (shown_walk c.args.walk.now) (shown_walk c.edit_part.new.walk) (shown_part_node c.args.node.now) (sym c.if-removed.ensures)
     (rw c.inside-walk.ensures at c.in_ok-new.ensures.walk)

@@ -27,7 +27,7 @@ returns-else-is_empty-clause-bytes c = are_bytes c.args.input.now (λ i. omega (
 
 pub returns-in-Err-clause-refuses : goal.returns-in-Err-clause-refuses
 returns-in-Err-clause-refuses c =
-    let why = rw c.new-left.ensures at c.in-Err.ensures.refuses in
+    let why = rw c.new-left.ensures at c.in-Err.ensures.input.refuses in
     IfOk-weaker c.refused.result _ _ (λ is h other t spells given. h.1 (
     given_or_memory c.args.config.now t c.args.input.now c.args.bytes.now spells given c.in-Err.error _ why
     )) c.refused.ensures

@@ -19,7 +19,7 @@ loop-ty-preserved c =
     let more = pushed named items c.push.new.self.items param c.in_ok-push.ensures.items in
     let read = new_named items (rw c.as_slice.ensures.value at c.in_ok-name.ensures.read) in
     record {
-      tail = tail_trans c.lifted_primitive-primitive.ensures.tail (tail_trans c.in_ok-name.ensures.tail c.loop-ty.invariant.tail);
+      tail = tail_trans c.lifted_primitive-primitive.ensures.tail (tail_trans c.in_ok-name.ensures.input.tail c.loop-ty.invariant.tail);
       onward = one_more _ _ c.loop-ty.ty-index _ _ _ _ _ I32 _ (map named items) next c.loop-ty-test.true refl read c.lifted_primitive-primitive.ensures.reads
           more c.loop-ty.invariant.onward;
     }

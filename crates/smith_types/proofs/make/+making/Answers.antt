@@ -1,4 +1,4 @@
-use Rattle.std.proofs.Common.{◌≡◌, refl, sym, ap, ◌∙◌, subst, arith, true, false, append-nil, length}
+use Rattle.std.proofs.Common.{◌≡◌, ◌<◌, refl, sym, ap, ◌∙◌, subst, arith, true, false, append-nil, length, length-drop}
 use Rattle.std.proofs.lemmas.Result.{IfOk-weaker}
 use Rattle.smith_input.proofs.Reading.{tail_trans, more_tail}
 use Rattle.smith_syntax.specs.Entries.{FullDecl, function, in_order}
@@ -9,16 +9,16 @@ use Rattle.smith_syntax.specs.declared.deftype.DefType.{DefType}
 use Rattle.smith_syntax.specs.declared.deftype.DefType.TheVariants.{Func}
 use Rattle.smith_syntax.proofs.Shown.{component_import, full_defined, full_func, instance_type_decl}
 use Rattle.smith_types.specs.Declarations.{in_instance}
-use Rattle.smith_types.specs.Made.{Made, MadeDeclaration, made_import}
-use Rattle.smith_scopes.specs.Scopes.{AddsMarked, own_marked, outer_marked}
+use Rattle.smith_types.specs.Made.{Made, MadeDeclaration, made_alias, made_core_type, made_export, made_import, made_type}
+use Rattle.smith_scopes.specs.Scopes.{AddsMarked, inward_marked, own_marked, outer_marked}
 use Rattle.smith_types.specs.MakingTypes.{AddsDeclaration, Declares, HoldsNames, IsMarkOf, declaring, defs_in}
 use Rattle.smith_types.specs.declared.make.scoped.TypeBody.{TypeBody}
 use Rattle.smith_types.specs.declared.make.scoped.TypeBody.TheVariants.{Component, Instance}
-use Rattle.smith_types.proofs.Declaring.{closed_again, import_declared, length-last_types, same_trans, type_declared}
+use Rattle.smith_types.proofs.Declaring.{closed_again, import_declared, length-last_types, same_changed, same_trans, type_declared}
 use Rattle.smith_types.proofs.MadeTypes.{declaration_size}
-use Rattle.smith_types.proofs.MakingTypes.{item_made, scoped_marked, type_made, names_stay}
-use Rattle.smith_types.proofs.Progressing.{adds_to_component, adds_to_instance, closes, stops, spends, is_full, goes_on}
-use Rattle.smith_scopes.proofs.Stack.{keeps_last}
+use Rattle.smith_types.proofs.MakingTypes.{alias_within, exports_nothing, names_stay, scoped_marked, type_made}
+use Rattle.smith_types.proofs.Progressing.{adds_to_component, adds_to_instance, stops, spends, is_full, goes_on}
+use Rattle.smith_scopes.proofs.Stack.{keeps_last, length-inward_marked}
 use Rattle.smith_types.proofs.make.+making.Goals as goal
 
 pub items::component_declaration-returns-in-Some-clause-made : goal.items::component_declaration-returns-in-Some-clause-made
@@ -31,38 +31,44 @@ items::component_declaration-returns-in-Some-clause-made t c = λ imported expor
 pub items::component_declaration-returns-clause-imports : goal.items::component_declaration-returns-clause-imports
 items::component_declaration-returns-clause-imports t c = λ imported held.
     let none = rw c.in_default.is at (c.in_ok-import.ensures.names imported held) in
-    names_stay c.import.new.imports imported _ (ap import_of c.from.ensures.shown ∙ c.in_ok-decl.ensures.no_import) (rw (append-nil imported) at none)
+    names_stay c.import.new.imports imported _ (ap import_of c.from.ensures.shown ∙ c.in_ok-decl.ensures.names.no_import) (rw (append-nil imported) at none)
 
-pub items::declaration-returns-clause-made : goal.items::declaration-returns-clause-made
-items::declaration-returns-clause-made t c = λ importing so_far imports start held none.
-    IfOk-weaker c.declaration_of.result _ _
-    (λ d m. item_made c.args.making.now.config.now importing (record { own = own_marked c.args.scopes.now; imports = imports; exports = so_far })
-    (outer_marked c.args.scopes.now) start _ _ _ _ _ _ _ none c.declaration_item-item.ensures.reads m)
-    (c.declaration_of.ensures.made so_far held)
+pub items::declaration-type_decl-requires : goal.items::declaration-type_decl-requires
+items::declaration-type_decl-requires t c =
+    let scopes = c.args.scopes.now in
+    let possible = rw c.in-Type.is at c.declaration_item.ensures.possible in
+    let shallow : length scopes < c.args.making.now.config.now.max_nesting_depth =
+    omega (arith, possible, length-drop 1 (inward_marked scopes), length-inward_marked scopes) in
+    (omega arith, (shallow, c.requires.room.few.types))
 
-pub items::declaration_of-returns-in-Alias-clause-names : goal.items::declaration_of-returns-in-Alias-clause-names
-items::declaration_of-returns-in-Alias-clause-names t c = λ so_far held. IfOk-weaker c.outer_alias.result _ _
-    (λ d n. names_stay c.args.exports.now so_far _ n.no_export held) c.outer_alias.ensures.nameless
+pub items::declaration-returns-in-Export-clause-made : goal.items::declaration-returns-in-Export-clause-made
+items::declaration-returns-in-Export-clause-made t c = λ importing so_far imports start held none.
+    IfOk-weaker c.export.result _ _
+    (λ d r. made_export none (rw c.in-Export.is at c.declaration_item.ensures.reads) r refl) (c.export.ensures.reads so_far held)
 
-pub items::declaration_of-returns-in-CoreType-clause-names : goal.items::declaration_of-returns-in-CoreType-clause-names
-items::declaration_of-returns-in-CoreType-clause-names t c = λ so_far held. IfOk-weaker c.core_type_decl.result _ _
-    (λ d n. names_stay c.args.exports.now so_far _ n.no_export held) c.core_type_decl.ensures.nameless
+pub items::declaration-returns-in-Alias-clause-made : goal.items::declaration-returns-in-Alias-clause-made
+items::declaration-returns-in-Alias-clause-made t c = λ importing so_far imports start held none.
+    IfOk-weaker c.outer_alias.result _ _
+    (λ d r. made_alias none (rw c.in-Alias.is at c.declaration_item.ensures.reads) (alias_within _ _ _ _ r) refl) c.outer_alias.ensures.reads
 
-pub items::declaration_of-returns-in-CoreType-clause-made : goal.items::declaration_of-returns-in-CoreType-clause-made
-items::declaration_of-returns-in-CoreType-clause-made t c = λ so_far held. rw c.in-CoreType.is (c.core_type_decl.ensures.made so_far)
+pub items::declaration-returns-in-CoreType-clause-made : goal.items::declaration-returns-in-CoreType-clause-made
+items::declaration-returns-in-CoreType-clause-made t c = λ importing so_far imports start held none.
+    IfOk-weaker c.core_type_decl.result _ _
+    (λ d m. made_core_type none (rw c.in-CoreType.is at c.declaration_item.ensures.reads) m.1 m.2) c.core_type_decl.ensures.made
 
-pub items::declaration_of-returns-in-Type-clause-names : goal.items::declaration_of-returns-in-Type-clause-names
-items::declaration_of-returns-in-Type-clause-names t c = λ so_far held. IfOk-weaker c.type_decl.result _ _
-    (λ d n. names_stay c.args.exports.now so_far _ n.no_export held) c.type_decl.ensures.nameless
+pub items::declaration-returns-in-Type-clause-made : goal.items::declaration-returns-in-Type-clause-made
+items::declaration-returns-in-Type-clause-made t c = λ importing so_far imports start held none.
+    IfOk-weaker c.type_decl.result _ _
+    (λ d m. made_type none (rw c.in-Type.is at c.declaration_item.ensures.reads) m.1 m.2) c.type_decl.ensures.made
 
-pub items::declaration_of-returns-in-Type-clause-made : goal.items::declaration_of-returns-in-Type-clause-made
-items::declaration_of-returns-in-Type-clause-made t c = λ so_far held. rw c.in-Type.is (c.type_decl.ensures.made so_far)
+pub items::declaration-returns-in-Alias-clause-names : goal.items::declaration-returns-in-Alias-clause-names
+items::declaration-returns-in-Alias-clause-names t c = IfOk-weaker c.outer_alias.result _ _ (λ d. exports_nothing _ _) c.outer_alias.ensures.nameless
 
-pub kinds::made_type-returns-in_err-shared-clause-tail : goal.kinds::made_type-returns-in_err-shared-clause-tail
-kinds::made_type-returns-in_err-shared-clause-tail t c = tail_trans c.in_ok-made.ensures.tail c.type_kind-kind.ensures.tail
+pub items::declaration-returns-in-CoreType-clause-names : goal.items::declaration-returns-in-CoreType-clause-names
+items::declaration-returns-in-CoreType-clause-names t c = IfOk-weaker c.core_type_decl.result _ _ (λ d. exports_nothing _ _) c.core_type_decl.ensures.nameless
 
-pub kinds::made_type-returns-clause-tail : goal.kinds::made_type-returns-clause-tail
-kinds::made_type-returns-clause-tail t c = tail_trans c.in_ok-made.ensures.tail c.type_kind-kind.ensures.tail
+pub items::declaration-returns-in-Type-clause-names : goal.items::declaration-returns-in-Type-clause-names
+items::declaration-returns-in-Type-clause-names t c = IfOk-weaker c.type_decl.result _ _ (λ d. exports_nothing _ _) c.type_decl.ensures.nameless
 
 pub kinds::made_type-returns-clause-made : goal.kinds::made_type-returns-clause-made
 kinds::made_type-returns-clause-made t c =
@@ -80,12 +86,15 @@ items::type_decl-push_marked-requires t c = omega (
   c.requires.room,
 )
 
-pub items::type_decl-returns-clause-declares : goal.items::type_decl-returns-clause-declares
-items::type_decl-returns-clause-declares t c =
-    let same = c.in_ok-ty.ensures.scopes in
-    type_declared c.args.scopes.now c.push_marked.new.self _ c.in_ok-ty.ty.value c.in_ok-ty.mark _
-    (subst (λ s. AddsMarked s c.in_ok-entry.entry.value c.in_ok-ty.mark c.push_marked.new.self) same c.in_ok-push_marked.ensures.ok)
-    c.in_ok-entry.ensures.cases (instance_type_decl c.in_ok-ty.ty) c.in_ok-ty.ensures.mark
+pub items::type_decl-returns-clause-scopes : goal.items::type_decl-returns-clause-scopes
+items::type_decl-returns-clause-scopes t c =
+    let adds = subst (λ s. AddsMarked s c.in_ok-entry.entry.value c.in_ok-ty.mark c.push_marked.new.self) c.in_ok-ty.ensures.scopes
+    c.in_ok-push_marked.ensures.ok in
+    record {
+      declares = type_declared c.args.scopes.now c.push_marked.new.self _ c.in_ok-ty.ty.value c.in_ok-ty.mark _ adds c.in_ok-entry.ensures.cases
+          (instance_type_decl c.in_ok-ty.ty) c.in_ok-ty.ensures.mark;
+      outer = same_changed adds;
+    }
 
 pub scoped::declarations-returns-then-not-more-clause-made : goal.scoped::declarations-returns-then-not-more-clause-made
 scoped::declarations-returns-then-not-more-clause-made t c = stops c.loop-done.invariant.progress _ c.more.result c.more.ensures c.if-not-more.true
@@ -93,10 +102,6 @@ scoped::declarations-returns-then-not-more-clause-made t c = stops c.loop-done.i
 pub scoped::declarations-returns-then-fuel-eq0-clause-made : goal.scoped::declarations-returns-then-fuel-eq0-clause-made
 scoped::declarations-returns-then-fuel-eq0-clause-made t c =
     spends c.loop-done.invariant.progress _ c.more.result c.burn.new.fuel c.more.ensures c.if-not-more.false c.burn.ensures c.if-fuel-eq0.true
-
-pub scoped::declarations-returns-in_err-declare-clause-tail : goal.scoped::declarations-returns-in_err-declare-clause-tail
-scoped::declarations-returns-in_err-declare-clause-tail t c = tail_trans c.declare.ensures.tail
-    (tail_trans (more_tail c.more.ensures) c.loop-done.invariant.tail)
 
 pub scoped::declarations-loop-done-preserved : goal.scoped::declarations-loop-done-preserved
 scoped::declarations-loop-done-preserved t c =
@@ -107,7 +112,7 @@ scoped::declarations-loop-done-preserved t c =
       progress = goes_on p _ _ c.more.result c.burn.new.fuel _ _ _ c.more.ensures c.if-not-more.false c.burn.ensures (omega (arith, c.if-fuel-eq0.false)) adds;
       outer = same_trans c.loop-done.invariant.outer c.in_ok-declare.ensures.outer;
       fuel = omega (arith, size, c.burn.ensures, c.loop-done.invariant.fuel);
-      tail = tail_trans c.in_ok-declare.ensures.tail (tail_trans (more_tail c.more.ensures) c.loop-done.invariant.tail);
+      tail = tail_trans c.in_ok-declare.ensures.input.tail (tail_trans (more_tail c.more.ensures) c.loop-done.invariant.tail);
     }
 
 pub scoped::declarations-returns-clause-made : goal.scoped::declarations-returns-clause-made
@@ -118,10 +123,10 @@ scoped::declare-returns-in_ok-push-in-Component-clause-made t c = λ s own held.
     let k = c.in_ok-def-in-Component.ensures {u = tt} in
     let h = subst (λ (d : TypeBody). HoldsNames d s) c.in-Component.is held in
     let P : TypeBody → Type 0 = λ d. AddsDeclaration c.args.making.now.config.now c.args.scopes.now c.component_declaration.new.scopes s d
-    (Component record { imports = c.component_declaration.new.imports; exports = c.component_declaration.new.exports; defs = c.push.new.self })
+    (Component record { names = c.component_declaration.new.names; defs = c.push.new.self })
     c.args.u.now c.args.fuel.now c.component_declaration.new.u c.component_declaration.new.fuel in
     subst P (sym c.in-Component.is)
-    (adds_to_component _ _ _ s c.in-Component.body _ c.in_ok-def-in-Component.def _ _ _ _ own (k.made s.imports s.exports h.0 h.1) k.declares
+    (adds_to_component _ _ _ s c.in-Component.body _ c.in_ok-def-in-Component.def _ _ _ _ own (k.made s.imports s.exports h.0 h.1) k.scopes.declares
     (k.imports s.imports h.0) (k.exports s.exports h.1) (c.in_ok-push-in-Component.ensures {u = tt}).items)
 
 pub scoped::declare-returns-in_ok-push-in-Instance-clause-made : goal.scoped::declare-returns-in_ok-push-in-Instance-clause-made
@@ -133,29 +138,23 @@ scoped::declare-returns-in_ok-push-in-Instance-clause-made t c = λ s own held.
     c.args.u.now c.args.fuel.now c.declaration.new.u c.declaration.new.fuel in
     subst P (sym c.in-Instance.is)
     (adds_to_instance _ _ _ s c.in-Instance.body _ c.in_ok-decl-in-Instance.decl _ _ _ _ own (k.made false s.exports s.imports _ h (in_instance refl))
-    k.declares (k.names s.exports h) (c.in_ok-push-in-Instance.ensures {u = tt}).items)
+    k.scopes.declares (k.names.gains s.exports h) (c.in_ok-push-in-Instance.ensures {u = tt}).items)
 
 pub scoped::scoped_type-returns-in_err-made-clause-scopes : goal.scoped::scoped_type-returns-in_err-made-clause-scopes
 scoped::scoped_type-returns-in_err-made-clause-scopes t c = closed_again c.args.scopes.now c.open_inner.new.scopes c.declarations-made.new.scopes
-    c.close_scope.new.self _ _ c.in_ok-open_inner.ensures.opened c.declarations-made.ensures.outer c.close_scope.ensures.value
+    c.close_scope.new.self _ _ c.in_ok-open_inner.ensures.ok.opened c.declarations-made.ensures.outer c.close_scope.ensures.value
 
 pub scoped::scoped_type-returns-clause-scopes : goal.scoped::scoped_type-returns-clause-scopes
 scoped::scoped_type-returns-clause-scopes t c = closed_again c.args.scopes.now c.open_inner.new.scopes c.declarations-made.new.scopes
-    c.close_scope.new.self _ _ c.in_ok-open_inner.ensures.opened c.declarations-made.ensures.outer c.close_scope.ensures.value
+    c.close_scope.new.self _ _ c.in_ok-open_inner.ensures.ok.opened c.declarations-made.ensures.outer c.close_scope.ensures.value
 
-pub scoped::declarations-returns-then-not-more-clause-closed : goal.scoped::declarations-returns-then-not-more-clause-closed
-scoped::declarations-returns-then-not-more-clause-closed t c = closes c.loop-done.invariant.progress c.requires.fresh
-
-pub scoped::declarations-returns-then-fuel-eq0-clause-closed : goal.scoped::declarations-returns-then-fuel-eq0-clause-closed
-scoped::declarations-returns-then-fuel-eq0-clause-closed t c = closes c.loop-done.invariant.progress c.requires.fresh
-
-pub scoped::declarations-returns-clause-closed : goal.scoped::declarations-returns-clause-closed
-scoped::declarations-returns-clause-closed t c = closes c.loop-done.invariant.progress c.requires.fresh
-
-pub items::component_declaration-returns-in-Some-clause-declares : goal.items::component_declaration-returns-in-Some-clause-declares
-items::component_declaration-returns-in-Some-clause-declares t c =
+pub items::component_declaration-returns-in-Some-clause-scopes : goal.items::component_declaration-returns-in-Some-clause-scopes
+items::component_declaration-returns-in-Some-clause-scopes t c =
     let P : FullDecl → Type 0 = λ d. Declares c.args.scopes.now c.note_import.new.self d in
-    subst P (sym (component_import c.in-Some.import)) (import_declared _ _ _ _ c.in-Some.import.ty c.note_import.ensures)
+    record {
+      declares = subst P (sym (component_import c.in-Some.import)) (import_declared _ _ _ _ c.in-Some.import.ty c.note_import.ensures);
+      outer = same_changed c.note_import.ensures;
+    }
 
 pub kinds::type_of-returns-in_ok-ty-in-Defined-clause-mark : goal.kinds::type_of-returns-in_ok-ty-in-Defined-clause-mark
 kinds::type_of-returns-in_ok-ty-in-Defined-clause-mark t c = λ keeps.
@@ -177,7 +176,7 @@ kinds::made_type-returns-clause-mark t c =
 
 pub scoped::scoped_type-returns-clause-mark : goal.scoped::scoped_type-returns-clause-mark
 scoped::scoped_type-returns-clause-mark t c =
-    let made = c.in_ok-made.ensures in
-    scoped_marked c.args.importing c.args.scopes.now c.open_inner.new.scopes c.declarations-made.new.scopes _ _ _ c.in_ok-open_inner.ensures.fresh
-    c.in_ok-open_inner.ensures.around made.closed c.closed_mark-mark.ensures
-    (c.finish.ensures ∙ ap (λ b. declaring b (in_order (defs_in c.in_ok-made.field-0))) made.importing)
+    let made = c.in_ok-made.ensures.made in
+    scoped_marked c.args.importing c.args.scopes.now c.open_inner.new.scopes c.declarations-made.new.scopes _ _ _
+    c.in_ok-open_inner.ensures.ok.around made.closed c.closed_mark-mark.ensures
+    (c.finish.ensures ∙ ap (λ b. declaring b (in_order (defs_in c.in_ok-made.field-0))) made.of)

@@ -10,9 +10,6 @@ decreases-kinds::made_type l = 9 * l.fuel.now + 8
 abbrev pub decreases-items::type_decl : goal.decreases-items::type_decl
 decreases-items::type_decl l = 9 * l.fuel.now + 9
 
-abbrev pub decreases-items::declaration_of : goal.decreases-items::declaration_of
-decreases-items::declaration_of l = 9 * l.fuel.now + 10
-
 abbrev pub decreases-items::declaration : goal.decreases-items::declaration
 decreases-items::declaration l = 9 * l.fuel.now + 11
 

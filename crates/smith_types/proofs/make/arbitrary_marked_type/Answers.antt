@@ -13,32 +13,28 @@ use Rattle.smith_types.proofs.MarkedPlain.{mark_plain}
 use Rattle.smith_types.proofs.ScopedScript.{type_scripted}
 use Rattle.smith_types.proofs.make.arbitrary_marked_type.Goals as goal
 
-pub returns-clause-formed : goal.returns-clause-formed
-returns-clause-formed c =
+pub returns-clause-made : goal.returns-clause-made
+returns-clause-made c =
     let scopes = c.args.scopes.now in
+    let config = c.args.config.now in
+    let made = c.in_ok-made.ensures.made in
     let e = shown_shared c.in_ok-made.made.0 in
     let Own : Scope → Type 0 = λ s. FormedEntry e s (outer_scopes scopes) in
     let Outer : List Scope → Type 0 = λ ss. FormedEntry e (scope_in (own_marked scopes)) ss in
-    subst Own (sym (own_scope_is scopes)) (subst Outer (sym (outer_scopes_are scopes)) (made_formed _ _ _ _ _ _ _ _ c.in_ok-made.ensures.made))
-
-pub returns-clause-offered : goal.returns-clause-offered
-returns-clause-offered c = made_offered _ _ _ _ _ _ _ _ c.in_ok-made.ensures.made
+    let Nests : ℕ → Type 0 = λ n. n + nesting e ≤ max (n + 1) config.max_nesting_depth in
+    record {
+      made = made;
+      formed = subst Own (sym (own_scope_is scopes)) (subst Outer (sym (outer_scopes_are scopes)) (made_formed _ _ _ _ _ _ _ _ made));
+      offered = made_offered _ _ _ _ _ _ _ _ made;
+      limits = made_limits _ _ _ _ _ _ _ _ made;
+      nesting = subst Nests (length-inward_marked scopes) (stack_nesting config (inward_marked scopes) _ _ _ _ _ made);
+      size = made_size _ _ _ _ _ _ _ _ made;
+    }
 
 pub returns-clause-mark : goal.returns-clause-mark
 returns-clause-mark c = λ keeps.
     c.in_ok-made.ensures.mark keeps
     ∙ sym (mark_plain (full_type c.in_ok-made.made.0.value) (own_marked c.args.scopes.now) (outer_marked c.args.scopes.now))
-
-pub returns-clause-limits : goal.returns-clause-limits
-returns-clause-limits c = made_limits _ _ _ _ _ _ _ _ c.in_ok-made.ensures.made
-
-pub returns-clause-nesting : goal.returns-clause-nesting
-returns-clause-nesting c =
-    let P : ℕ → Type 0 = λ n. n + nesting (shown_shared c.in_ok-made.made.0) ≤ max (n + 1) c.args.config.now.max_nesting_depth in
-    subst P (length-inward_marked c.args.scopes.now) (stack_nesting c.args.config.now (inward_marked c.args.scopes.now) _ _ _ _ _ c.in_ok-made.ensures.made)
-
-pub returns-clause-size : goal.returns-clause-size
-returns-clause-size c = made_size _ _ _ _ _ _ _ _ c.in_ok-made.ensures.made
 
 pub returns-clause-script : goal.returns-clause-script
 returns-clause-script c e rest said begins = type_scripted c.args.config.now c.requires.consistent.nesting _ _ _ _ e _ _ rest _ said begins

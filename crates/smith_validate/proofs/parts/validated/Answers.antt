@@ -1,8 +1,9 @@
 use Rattle.std.proofs.Common.{◌≡◌, [], List, ap, length, sym}
 use Rattle.smith_read.specs.PartNodes.{shown_tree}
-use Rattle.smith_validate.proofs.DeclSteps.{in_start}
+use Rattle.smith_validate.specs.Parts.{IsBegun}
 use Rattle.smith_validate.specs.declared.known.Scope.{Scope}
 use Rattle.smith_validate.specs.declared.error.Stop.TheVariants.{Invalid, OutOfMemory}
+use Rattle.smith_validate.proofs.DeclSteps.{in_start}
 use Rattle.smith_validate.proofs.PlaceSteps.{falls_short, moved}
 use Rattle.smith_validate.proofs.PartsExactly.{start_known}
 use Rattle.smith_validate.proofs.Usually.{formed_usual}
@@ -11,24 +12,24 @@ use Rattle.smith_validate.proofs.parts.validated.Goals as goal
 pub returns-in-Ok : goal.returns-in-Ok
 returns-in-Ok c =
     let k = c.new-known.ensures in
-    rw c.deref.ensures.value at (c.in-Ok.ensures.judged [] [] [] (in_start c.new-known.result k.own k.types k.outer k.instances))
+    (rw c.deref.ensures.value at c.in-Ok.ensures.walks).steps.judged tt [] [] [] (in_start c.new-known.result k.own k.types k.outer k.instances)
 
 pub returns-in-Err-Invalid : goal.returns-in-Err-Invalid
 returns-in-Err-Invalid c =
     let k = c.new-known.ensures in
     let start = in_start c.new-known.result k.own k.types k.outer k.instances in
-    let known = start_known c.new-known.result k.types k.outer k.instances in
-    let long = ap (λ (os : List Scope). length os) (sym k.outer) in
+    let begun : IsBegun c.new-known.result [] [] [] = record {
+      names = [];
+      covered = [];
+      is = start;
+      known = start_known c.new-known.result k.types k.outer k.instances;
+      depth_is = ap (λ (os : List Scope). length os) (sym k.outer);
+    } in
     let e = c.in-Err-Invalid.ensures in
+    let walks = rw c.deref.ensures.value at (rw c.in-Err-Invalid.field-0-is at e.walks) in
+    let exactly = rw c.deref.ensures.value at (rw c.in-Err-Invalid.field-0-is at e.exactly) in
+    let usual = formed_usual (shown_tree c.args.component.now) in
     falls_short c.in-Err-Invalid.demand c.add_parts.new.track (shown_tree c.args.component.now)
-    (moved c.new-track.ensures
-    ((rw c.deref.ensures.value at (rw c.in-Err-Invalid.field-0-is at e.place [] [] [] start))
-    (λ m. let z : Invalid c.in-Err-Invalid.demand ≡ OutOfMemory = m in cc)))
-    (rw c.deref.ensures.value at (rw c.in-Err-Invalid.field-0-is at e.judged [] [] [] start))
-    (λ n formed.
-    (rw c.deref.ensures.value at (rw c.in-Err-Invalid.field-0-is at e.refused [] [] [] [] [] start known long))
-    (formed_usual (shown_tree c.args.component.now) formed) n)
-    (λ n formed.
-    moved c.new-track.ensures
-    ((rw c.deref.ensures.value at (rw c.in-Err-Invalid.field-0-is at e.unnamed [] [] [] [] [] start known long))
-    (formed_usual (shown_tree c.args.component.now) formed) n))
+    (moved c.new-track.ensures (walks.place tt [] [] [] start (λ m. let z : Invalid c.in-Err-Invalid.demand ≡ OutOfMemory = m in cc)))
+    (walks.steps.judged tt [] [] [] start) (λ n formed. exactly.steps.refused tt [] [] [] begun (usual formed) n)
+    (λ n formed. moved c.new-track.ensures (exactly.unnamed tt [] [] [] begun (usual formed) n))

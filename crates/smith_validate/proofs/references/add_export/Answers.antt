@@ -70,5 +70,5 @@ returns-clause-exact c = λ asks b outer named table h.
     on_by c.add_exported.result
     (λ types. subst (λ r. IsKeptBody asks c.add_exported.new.known r (after_export outer b to) outer named table) (sym role)
     (export_exactly asks k c.args.body.now.role b outer named table h c.add_exported.new.known c.name_export.new.role to
-    c.add_exported.ensures.outer c.add_exported.ensures.instances types named_then))
+    c.add_exported.ensures.beside.outer c.add_exported.ensures.beside.instances types named_then))
     c.add_exported.ensures.types

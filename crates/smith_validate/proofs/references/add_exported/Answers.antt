@@ -34,7 +34,7 @@ returns-in_default-clause-counts c = λ own outer here names table s.
 pub returns-in_default-type_at-clause-judged : goal.returns-in_default-type_at-clause-judged
 returns-in_default-type_at-clause-judged c = λ own outer here names table s v.
     let i = c.in-TypeEq.index in
-    let none = none_beside (IsKept table (here ∷ names)) c.args.known.now.own.types.items own.types i s.types_are.0 c.in_default-type_at.ensures.facts in
+    let none = none_beside (IsKept table (here ∷ names)) c.args.known.now.scopes.own.types.items own.types i s.types_are.0 c.in_default-type_at.ensures.facts in
     rw (c.in-TypeEq.is)
     (subst (λ fs. ValidCounts (with_type_count (counted c.args.counts.now) (length fs))) (sym (exported_none own outer i none))
     (subst ValidCounts (count_none (counted c.args.counts.now)) v))
@@ -42,7 +42,7 @@ returns-in_default-type_at-clause-judged c = λ own outer here names table s v.
 pub returns-in_default-type_at-clause-added : goal.returns-in_default-type_at-clause-added
 returns-in_default-type_at-clause-added c = λ own outer here names table s.
     let i = c.in-TypeEq.index in
-    let none = none_beside (IsKept table (here ∷ names)) c.args.known.now.own.types.items own.types i s.types_are.0 c.in_default-type_at.ensures.facts in
+    let none = none_beside (IsKept table (here ∷ names)) c.args.known.now.scopes.own.types.items own.types i s.types_are.0 c.in_default-type_at.ensures.facts in
     rw (c.in-TypeEq.is)
     (let ids = names_of (externs_at own outer (to.TypeEq i)) in
     in_none c.args.known.now own outer here (here ++ ids) names table s (sub_left here ids) _ (exported_none own outer i none))
@@ -50,7 +50,7 @@ returns-in_default-type_at-clause-added c = λ own outer here names table s.
 pub returns-in_default-type_at-clause-counts : goal.returns-in_default-type_at-clause-counts
 returns-in_default-type_at-clause-counts c = λ own outer here names table s.
     let i = c.in-TypeEq.index in
-    let none = none_beside (IsKept table (here ∷ names)) c.args.known.now.own.types.items own.types i s.types_are.0 c.in_default-type_at.ensures.facts in
+    let none = none_beside (IsKept table (here ∷ names)) c.args.known.now.scopes.own.types.items own.types i s.types_are.0 c.in_default-type_at.ensures.facts in
     rw (c.in-TypeEq.is)
     (count_none (counted c.args.counts.now)
     ∙ ap (λ fs. with_type_count (counted c.args.counts.now) (length fs)) (sym (exported_none own outer i none)))
@@ -58,7 +58,7 @@ returns-in_default-type_at-clause-counts c = λ own outer here names table s.
 pub returns-in_err-add_type-clause-judged : goal.returns-in_err-add_type-clause-judged
 returns-in_err-add_type-clause-judged c = λ own outer here names table s v.
     let i = c.in-TypeEq.index in
-    let f = beside (IsKept table (here ∷ names)) c.args.known.now.own.types.items own.types i c.in-Some.facts s.types_are.0 c.in-Some.ensures.facts in
+    let f = beside (IsKept table (here ∷ names)) c.args.known.now.scopes.own.types.items own.types i c.in-Some.facts s.types_are.0 c.in-Some.ensures.facts in
     rw (c.in-TypeEq.is)
     (passed_on _ _ c.from_residual.ensures.1
     (refuted_at (λ fs d. Keeps d.counts (ValidCounts (with_type_count (counted c.args.counts.now) (length fs)))) _ _
@@ -68,7 +68,7 @@ pub returns-clause-added : goal.returns-clause-added
 returns-clause-added c = λ own outer here names table s.
     let i = c.in-TypeEq.index in
     let k = c.in-Some.facts in
-    let f = beside (IsKept table (here ∷ names)) c.args.known.now.own.types.items own.types i k s.types_are.0 c.in-Some.ensures.facts in
+    let f = beside (IsKept table (here ∷ names)) c.args.known.now.scopes.own.types.items own.types i k s.types_are.0 c.in-Some.ensures.facts in
     let id = id_at (own ∷ outer) in
     rw (c.in-TypeEq.is)
     (let ids = names_of (externs_at own outer (to.TypeEq i)) in
@@ -84,7 +84,7 @@ returns-clause-added c = λ own outer here names table s.
     (kept_named table here there names (sub_left here ids) k f.item id f.is has) in
     on_both c.add_type-2.result
     (λ sizes types.
-    in_one c.args.known.now own outer here there names table s (sub_left here ids) new c.add_type-2.ensures.outer c.add_type-2.ensures.instances
+    in_one c.args.known.now own outer here there names table s (sub_left here ids) new c.add_type-2.ensures.beside.outer c.add_type-2.ensures.beside.instances
     (exported_facts own outer (to.TypeEq i)) (equal_facts id f.item) kf (exported_one own outer i f.item f.at) sizes
     (size ∙ size_at c.args.known.now own i k.size f.item s.own_is c.in-Some.ensures.size f.at) types kept)
     c.add_type-2.ensures.own c.add_type-2.ensures.types)
@@ -92,7 +92,7 @@ returns-clause-added c = λ own outer here names table s.
 pub returns-clause-counts : goal.returns-clause-counts
 returns-clause-counts c = λ own outer here names table s.
     let i = c.in-TypeEq.index in
-    let f = beside (IsKept table (here ∷ names)) c.args.known.now.own.types.items own.types i c.in-Some.facts s.types_are.0 c.in-Some.ensures.facts in
+    let f = beside (IsKept table (here ∷ names)) c.args.known.now.scopes.own.types.items own.types i c.in-Some.facts s.types_are.0 c.in-Some.ensures.facts in
     rw (c.in-TypeEq.is)
     (on_by c.add_type-2.result
     (λ e. (c.in_ok-add_type.ensures {u = tt}).added

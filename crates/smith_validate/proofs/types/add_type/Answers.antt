@@ -15,8 +15,8 @@ returns-clause-added c = λ asks b outer names table f s size kept.
     let valid = subst ValidCounts counts ((c.in_ok-add_type.ensures {u = tt}).judged (subst ValidCounts (sym s.counts_are) s.small.1)) in
     on_both c.add_type-2.result
     (λ own types. record {
-      scopes = in_one c.args.known.now b.own outer here here names table s.scopes (sub_same here) c.add_type-2.new.self c.add_type-2.ensures.outer
-          c.add_type-2.ensures.instances (f ∷ []) f c.args.ty refl own size types kept;
+      scopes = in_one c.args.known.now b.own outer here here names table s.scopes (sub_same here) c.add_type-2.new.self c.add_type-2.ensures.beside.outer
+          c.add_type-2.ensures.beside.instances (f ∷ []) f c.args.ty refl own size types kept;
       size_is = s.size_is;
       counts_are = (c.in_ok-add_type.ensures {u = tt}).added ∙ counts;
       small = (s.small.0, valid);

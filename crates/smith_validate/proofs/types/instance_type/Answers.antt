@@ -14,7 +14,7 @@ returns-clause-kept c = λ id b here names table ts d role.
     let old = c.args.known.now in
     let e = c.in-Exports.exported in
     let depth = c.depth.result in
-    let new : Known = record { own = old.own; outer = old.outer; instances = c.push.new.self } in
+    let new : Known = record { scopes = old.scopes; instances = c.push.new.self } in
     let are = (rw c.in-Exports.is at role).1 in
     let number : c.len-number.result ≡ length old.instances.items = omega (arith, c.len-number.ensures, old.instances.ok.0) in
     rw (c.instance.ensures)
@@ -34,7 +34,7 @@ returns-clause-exact c = λ b own outer named table j d.
     let old = c.args.known.now in
     let e = c.in-Exports.exported in
     let depth = c.depth.result in
-    let new : Known = record { own = old.own; outer = old.outer; instances = c.push.new.self } in
+    let new : Known = record { scopes = old.scopes; instances = c.push.new.self } in
     let are = (rw c.in-Exports.is at j.role_is).1 in
     let number : c.len-number.result ≡ length j.new = omega (arith, c.len-number.ensures, old.instances.ok.0, j.long) in
     let of : depth ≡ length outer = c.depth.ensures ∙ sym d in

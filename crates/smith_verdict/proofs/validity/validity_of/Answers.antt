@@ -1,6 +1,6 @@
 use Rattle.std.proofs.Common.{rules}
 use Rattle.smith_read.specs.PartNodes.{shown_tree}
-use Rattle.smith_verdict.proofs.ValidOffsets.{found_short}
+use Rattle.smith_verdict.proofs.Offsets.{found_short}
 use Rattle.smith_verdict.proofs.validity.validity_of.Goals as goal
 
 pub returns-in_ok-offset-in-Invalid : goal.returns-in_ok-offset-in-Invalid

@@ -1,9 +1,8 @@
 use Rattle.std.proofs.Common.{◌≡◌, Some, true, sym, subst}
 use Rattle.smith_input.specs.declared.error.Error.{Error}
 use Rattle.smith_input.specs.declared.error.Error.TheVariants.{MinimumNotMet}
-use Rattle.smith_component.specs.Building.{Building, open_of}
+use Rattle.smith_component.specs.Building.{Building}
 use Rattle.smith_component.specs.BuilderView.{building_of, stack_of}
-use Rattle.smith_component.specs.Filling.{CanFill}
 use Rattle.smith_component.specs.Refusals.{IsStepRefusal}
 use Rattle.smith_component.specs.Steps.{next_of, step_of, IsTurn, SoundUnlessDone}
 use Rattle.smith_component.specs.Turn.{Turn}
@@ -14,20 +13,18 @@ use Rattle.smith_component.proofs.Stepped.{read_after, step_after, step_validate
 use Rattle.smith_component.proofs.Turn.{falls}
 use Rattle.smith_component.proofs.builder.Builder.step.Goals as goal
 
-pub returns-in_err-done-clause-refuses : goal.returns-in_err-done-clause-refuses
-returns-in_err-done-clause-refuses c =
-    let b = c.self.inside.progress in
-    let P : Error → Type 0 = λ e. IsStepRefusal b.config (stack_of b) c.args.u.now e c.turn.new.u in
-    rw (← c.self.view_is) (refused _ _ P c.from_residual.ensures.1 c.in_err-done.ensures.refuses)
-
-pub returns-in_err-done-clause-fills : goal.returns-in_err-done-clause-fills
-returns-in_err-done-clause-fills c can =
+pub returns-in_err-done-clause-refusals : goal.returns-in_err-done-clause-refusals
+returns-in_err-done-clause-refusals c =
     let b = c.self.inside.progress in
     let i = c.self.invariant.sound in
-    let C : Building → Type 0 = λ v. CanFill v.config (open_of v).outer (open_of v).inner in
-    refused _ _ (λ e. e ≡ MinimumNotMet → ⊥) c.from_residual.ensures.1
-    (never_minimum b.config (stack_of b) c.args.u.now c.turn.new.u i.0.sound i.1.0.tabled.grounded (subst C (sym c.self.view_is) can) _
-    c.in_err-done.ensures.refuses)
+    let e = c.in_err-done.ensures in
+    let P : Error → Type 0 = λ x. IsStepRefusal b.config (stack_of b) c.args.u.now x c.turn.new.u in
+    rw (← c.self.view_is) (record {
+      refuses = refused _ _ P c.from_residual.ensures.1 e.refuses;
+      alone = λ ready. absurd (e.alone ready);
+      fills = λ can. refused _ _ (λ x. x ≡ MinimumNotMet → ⊥) c.from_residual.ensures.1
+          (never_minimum b.config (stack_of b) c.args.u.now c.turn.new.u i.0.sound i.1.0.tabled.grounded can _ e.refuses);
+    })
 
 pub returns-in-None-clause-steps : goal.returns-in-None-clause-steps
 returns-in-None-clause-steps c =

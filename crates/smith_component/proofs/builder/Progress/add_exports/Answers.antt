@@ -90,9 +90,10 @@ returns-clause-does c =
     let count : c.len.result ≡ length (exports_of stack.inner) = omega (arith, c.len.ensures, names_held b i) in
     let room : b.config.max_exports - c.len.result ≡ b.config.max_exports - length (exports_of stack.inner) =
     ap (λ n. b.config.max_exports - n) count in
+    let exported = c.in_ok-exports.ensures.reads b.config stack.outer stack.inner (first b i) in
     let reads : ReadsExports b.config stack.outer stack.inner c.args.u.now es c.read_exports.new.u =
-    subst R room (c.in_ok-exports.ensures.reads b.config stack.outer stack.inner (first b i)) in
-    let after = c.in_ok-exports.ensures.holds b.config stack.outer stack.inner (first b i) in
+    subst R room exported.reads in
+    let after = exported.state in
     let items = ap externs_of c.in_ok-push.ensures.items ∙ externs_push b.inner.sections.items section in
     let same : externs_of c.push.new.self.sections.items ≡ externs_of b.inner.sections.items = items ∙ append-nil (externs_of b.inner.sections.items) in
     let held : HoldsExterns c.read_exports.new.tables.imports (externs_of b.inner.sections.items) =
@@ -110,7 +111,6 @@ returns-clause-does c =
       externs = subst (λ (tb : Tables). HoldsExterns tb.imports (externs_of c.push.new.self.sections.items)) (sym c.push.ensures.tables)
           (subst (HoldsExterns c.read_exports.new.tables.imports) (sym same) held);
     } in
-    let grown = grows b scopes b.totals c.push.new.self (section ∷ []) i c.in_ok-push.ensures.items sound own c.in_ok-exports.ensures.around
-    c.in_ok-exports.ensures.depth totalled tabled in
+    let grown = grows b scopes b.totals c.push.new.self (section ∷ []) i c.in_ok-push.ensures.items sound own c.in_ok-exports.ensures.around totalled tabled in
     grown_does item.Exports b made c.args.u.now c.read_exports.new.u grown
     (es, reads, part_added b made section (record { grows = grown; last = c.in_ok-push.ensures.items })) tt

@@ -33,10 +33,11 @@ returns-in_err-check_minimum-clause-refuses c =
     refused _ _ P c.from_residual-in_err-check_minimum.ensures.1 (subst P (sym e.0) (of_imports t.filled filled few))
 
 pub returns-in_err-check_minimum-clause-tail : goal.returns-in_err-check_minimum-clause-tail
-returns-in_err-check_minimum-clause-tail c = tail_trans c.in_ok-fill_one-2.ensures.tail c.in_ok-fill_one.ensures.tail
+returns-in_err-check_minimum-clause-tail c = tail_trans c.in_ok-fill_one-2.ensures.input.tail c.in_ok-fill_one.ensures.input.tail
 
 pub returns-in_err-fill_one-3-clause-tail : goal.returns-in_err-fill_one-3-clause-tail
-returns-in_err-fill_one-3-clause-tail c = tail_trans c.in_err-fill_one-3.ensures.tail (tail_trans c.in_ok-fill_one-2.ensures.tail c.in_ok-fill_one.ensures.tail)
+returns-in_err-fill_one-3-clause-tail c =
+    tail_trans c.in_err-fill_one-3.ensures.input.tail (tail_trans c.in_ok-fill_one-2.ensures.input.tail c.in_ok-fill_one.ensures.input.tail)
 
 pub returns-in_err-check_minimum-2-clause-refuses : goal.returns-in_err-check_minimum-2-clause-refuses
 returns-in_err-check_minimum-2-clause-refuses c =
@@ -57,8 +58,8 @@ returns-in_err-check_minimum-2-clause-refuses c =
     refused _ _ P c.from_residual-in_err-check_minimum-2.ensures.1 (subst P (sym e.0) (of_functions t.filled is enough fs few))
 
 pub returns-in_err-check_minimum-2-clause-tail : goal.returns-in_err-check_minimum-2-clause-tail
-returns-in_err-check_minimum-2-clause-tail c = tail_trans c.in_ok-fill_one-3.ensures.tail
-    (tail_trans c.in_ok-fill_one-2.ensures.tail c.in_ok-fill_one.ensures.tail)
+returns-in_err-check_minimum-2-clause-tail c = tail_trans c.in_ok-fill_one-3.ensures.input.tail
+    (tail_trans c.in_ok-fill_one-2.ensures.input.tail c.in_ok-fill_one.ensures.input.tail)
 
 -- all that is filled, at the end
 all_filled : (c : goal.In_ok-check_minimum-2) → FillsAll c.args.self.now.config (stack_of c.args.self.now) c.args.u.now (stack_of c.fill_one-3.new.self).inner
@@ -87,15 +88,12 @@ all_filled c =
           c.in_ok-check_minimum-2.ensures;
     }
 
-pub returns-clause-filled : goal.returns-clause-filled
-returns-clause-filled c = all_filled c
-
-pub returns-clause-minima : goal.returns-clause-minima
-unfolding all_filled
-returns-clause-minima c = filled_minima _ _ _ _ _ c.requires.sound.0.sound.consistent (all_filled c)
-
-pub returns-clause-grows : goal.returns-clause-grows
-returns-clause-grows c = grows_trans c.in_ok-fill_one.ensures.grows (grows_trans c.in_ok-fill_one-2.ensures.grows c.in_ok-fill_one-3.ensures.grows)
+pub returns-clause-fills : goal.returns-clause-fills
+returns-clause-fills c = record {
+  filled = all_filled c;
+  minima = filled_minima _ _ _ _ _ c.requires.sound.0.sound.consistent (all_filled c);
+  grows = grows_trans c.in_ok-fill_one.ensures.grows (grows_trans c.in_ok-fill_one-2.ensures.grows c.in_ok-fill_one-3.ensures.grows);
+}
 
 pub returns-clause-tail : goal.returns-clause-tail
-returns-clause-tail c = tail_trans c.in_ok-fill_one-3.ensures.tail (tail_trans c.in_ok-fill_one-2.ensures.tail c.in_ok-fill_one.ensures.tail)
+returns-clause-tail c = tail_trans c.in_ok-fill_one-3.ensures.input.tail (tail_trans c.in_ok-fill_one-2.ensures.input.tail c.in_ok-fill_one.ensures.input.tail)

@@ -1,9 +1,10 @@
-use Rattle.std.proofs.Common.{List, subst, ◌∙◌, refl, arith}
+use Rattle.std.proofs.Common.{List, subst, refl, arith, rules}
 use Rattle.smith_input.proofs.Loops.{begins, stops, ends_full, goes_on}
 use Rattle.smith_input.proofs.Reading.{tail_same, tail_trans, more_tail}
 use Rattle.smith_syntax.specs.Marked.{Marked}
 use Rattle.smith_scopes.specs.Scopes.{own_marked}
 use Rattle.smith_scopes.proofs.Stack.{length-inward_marked}
+use Rattle.smith_component.proofs.EntriesState.{around_then}
 use Rattle.smith_component.proofs.Sound.{scopes_few}
 use Rattle.smith_component.proofs.builder.Progress.read_entries.Goals as goal
 
@@ -11,8 +12,7 @@ pub loop-done-init : goal.loop-done-init
 loop-done-init g c = record {
   tail = tail_same c.args.u.now;
   count = omega arith;
-  outer = refl;
-  depth = refl;
+  around = record { outer = refl; depth = refl };
   onward = begins _ _ _ _ _ _ _ c.new-entries.ensures.items;
 }
 
@@ -20,16 +20,19 @@ pub returns-then-not-more-clause-entries : goal.returns-then-not-more-clause-ent
 returns-then-not-more-clause-entries g c = stops _ _ _ _ _ _ _ _ _ _ _ _ c.if-not-more.true c.more.ensures c.loop-done.invariant.onward
 
 pub returns-then-not-more-clause-scopes : goal.returns-then-not-more-clause-scopes
-returns-then-not-more-clause-scopes g c = record { only = refl; outer = c.loop-done.invariant.outer; depth = c.loop-done.invariant.depth }
+returns-then-not-more-clause-scopes g c = record { only = refl; around = c.loop-done.invariant.around }
 
-pub returns-in_err-push-clause-tail : goal.returns-in_err-push-clause-tail
-returns-in_err-push-clause-tail g c = tail_trans c.read.ensures.tail (tail_trans (more_tail c.more.ensures) c.loop-done.invariant.tail)
+pub returns-in_err-push-clause-input : goal.returns-in_err-push-clause-input
+returns-in_err-push-clause-input g c = record {
+  tail = tail_trans c.read.ensures.input.tail (tail_trans (more_tail c.more.ensures) c.loop-done.invariant.tail);
+  memory = search rules;
+}
 
 pub returns-clause-entries : goal.returns-clause-entries
 returns-clause-entries g c = ends_full _ _ _ _ _ _ _ _ _ _ c.loop-done-test.false c.loop-done.invariant.onward
 
 pub returns-clause-scopes : goal.returns-clause-scopes
-returns-clause-scopes g c = record { only = refl; outer = c.loop-done.invariant.outer; depth = c.loop-done.invariant.depth }
+returns-clause-scopes g c = record { only = refl; around = c.loop-done.invariant.around }
 
 pub read-requires : goal.read-requires
 read-requires g c =
@@ -40,7 +43,7 @@ read-requires g c =
       ready = record {
         configured = c.valtypes_of-valtypes.ensures;
         consistent = i.sound.consistent;
-        shallow = omega (arith, c.loop-done.invariant.depth, length-inward_marked b.scopes, scopes_few _ _ _ i.sound i.scopes_are);
+        shallow = omega (arith, c.loop-done.invariant.around.depth, length-inward_marked b.scopes, scopes_few _ _ _ i.sound i.scopes_are);
       };
     }
 
@@ -53,18 +56,20 @@ loop-done-preserved g c =
     let R : List Marked → Type 0 = λ o. E.reads c.args.self.now.config o (own_marked c.loop-done.scopes) c.more.new.self entry c.read.new.u
     (own_marked c.read.new.scopes) in
     record {
-      tail = tail_trans c.read.ensures.tail (tail_trans (more_tail c.more.ensures) i.tail);
+      tail = tail_trans c.read.ensures.input.tail (tail_trans (more_tail c.more.ensures) i.tail);
       count = omega (arith, e.count, i.count);
-      outer = e.outer ∙ i.outer;
-      depth = e.depth ∙ i.depth;
-      onward = goes_on _ _ _ _ _ _ _ _ _ _ _ _ _ _ _ _ c.if-not-more.false c.more.ensures (subst R i.outer e.read) c.in_ok-push.ensures.items i.onward;
+      around = around_then i.around e.around;
+      onward = goes_on _ _ _ _ _ _ _ _ _ _ _ _ _ _ _ _ c.if-not-more.false c.more.ensures (subst R i.around.outer e.read) c.in_ok-push.ensures.items i.onward;
     }
 
-pub returns-then-not-more-clause-tail : goal.returns-then-not-more-clause-tail
-returns-then-not-more-clause-tail g c = tail_trans (more_tail c.more.ensures) c.loop-done.invariant.tail
+pub returns-then-not-more-clause-input : goal.returns-then-not-more-clause-input
+returns-then-not-more-clause-input g c = record { tail = tail_trans (more_tail c.more.ensures) c.loop-done.invariant.tail; memory = tt }
 
-pub returns-in_err-entry-clause-tail : goal.returns-in_err-entry-clause-tail
-returns-in_err-entry-clause-tail g c = tail_trans c.read.ensures.tail (tail_trans (more_tail c.more.ensures) c.loop-done.invariant.tail)
+pub returns-in_err-entry-clause-input : goal.returns-in_err-entry-clause-input
+returns-in_err-entry-clause-input g c = record {
+  tail = tail_trans c.read.ensures.input.tail (tail_trans (more_tail c.more.ensures) c.loop-done.invariant.tail);
+  memory = search rules;
+}
 
-pub returns-clause-tail : goal.returns-clause-tail
-returns-clause-tail g c = c.loop-done.invariant.tail
+pub returns-clause-input : goal.returns-clause-input
+returns-clause-input g c = record { tail = c.loop-done.invariant.tail; memory = tt }

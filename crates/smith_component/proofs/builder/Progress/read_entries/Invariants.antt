@@ -1,8 +1,9 @@
-use Rattle.std.proofs.Common.{◌≡◌, ◌+◌, length}
+use Rattle.std.proofs.Common.{◌≡◌, ◌+◌}
 use Rattle.smith_input.specs.Loops.{Never}
 use Rattle.smith_input.specs.Reading.{IsTail}
 use Rattle.smith_input.proofs.Loops.{Onward}
 use Rattle.smith_scopes.specs.Scopes.{own_marked, outer_marked}
+use Rattle.smith_component.specs.EntriesState.{KeepsAround}
 use Rattle.smith_component.proofs.builder.Progress.read_entries.Given as goal
 
 -- The last scope has as many more as were read.
@@ -13,8 +14,7 @@ invariant-loop-done g l =
     record {
       tail : IsTail l.u l.fn.u;
       count : E.count (own_marked l.scopes) ≡ E.count (own_marked b.scopes) + l.done;
-      outer : outer_marked l.scopes ≡ outer_marked b.scopes;
-      depth : length l.scopes ≡ length b.scopes;
+      around : KeepsAround b.scopes l.scopes;
       onward : Onward Never (E.reads b.config (outer_marked b.scopes)) l.min l.max (own_marked b.scopes) l.fn.u l.entries.items l.done
           (own_marked l.scopes) l.u;
     }

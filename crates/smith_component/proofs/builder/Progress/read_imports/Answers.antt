@@ -1,4 +1,4 @@
-use Rattle.std.proofs.Common.{◌∙◌, List, [], length, refl, sym, subst, ap, arith, append-nil}
+use Rattle.std.proofs.Common.{◌∙◌, List, [], length, refl, sym, subst, ap, arith, append-nil, rules}
 use Rattle.std.specs.Prelude.{Option}
 use Rattle.smith_input.proofs.Loops.{Onward, begins, ends_early, ends_full, goes_on, stops}
 use Rattle.smith_input.proofs.Reading.{more_tail, tail_same, tail_trans}
@@ -14,6 +14,7 @@ use Rattle.smith_tree.specs.Open.{Open}
 use Rattle.smith_component.specs.SectionValues.{NoImportValue, ReadsImportValue, externs_of}
 use Rattle.smith_tree.specs.Tree.{imports}
 use Rattle.smith_component.specs.declared.builder.Progress.{Progress}
+use Rattle.smith_component.proofs.EntriesState.{around_then}
 use Rattle.smith_component.proofs.Growth.{functions_counted}
 use Rattle.smith_component.proofs.Sound.{own_limits_of, totalled_part}
 use Rattle.smith_component.proofs.TracksStack.{tabled_added}
@@ -48,8 +49,7 @@ loop-done-init c =
       tail = tail_same c.args.u.now;
       within = omega (arith, spaces.most, o.exports, tabled.counts, ap length tabled.functions);
       onward = subst O (sym none) (begins _ _ _ _ _ _ [] refl);
-      around = refl;
-      depth = refl;
+      around = record { outer = refl; depth = refl };
       importing = subst S (sym none) (first b i);
     }
 
@@ -60,8 +60,7 @@ pub returns-then-not-more-clause-reads : goal.returns-then-not-more-clause-reads
 returns-then-not-more-clause-reads c = stops _ _ _ _ _ _ _ _ _ _ _ _ c.if-not-more.true c.more.ensures c.loop-done.invariant.onward
 
 pub returns-then-not-more-clause-counts : goal.returns-then-not-more-clause-counts
-returns-then-not-more-clause-counts c = record
-    { only = refl; outer = c.loop-done.invariant.around; depth = c.loop-done.invariant.depth; counted = c.loop-done.invariant.importing }
+returns-then-not-more-clause-counts c = record { only = refl; around = c.loop-done.invariant.around; counted = c.loop-done.invariant.importing }
 
 pub returns-in_default-clause-reads : goal.returns-in_default-clause-reads
 returns-in_default-clause-reads c =
@@ -85,20 +84,21 @@ returns-in_default-clause-counts c =
     (c.in_ok-import.ensures.imports (stack_of b) (externs_of b.inner.sections.items) l.imports.items l.invariant.importing) in
     record {
       only = refl;
-      outer = c.in_ok-import.ensures.around ∙ l.invariant.around;
-      depth = c.in_ok-import.ensures.depth ∙ l.invariant.depth;
+      around = around_then l.invariant.around c.in_ok-import.ensures.around;
       counted = none.1;
     }
 
-pub returns-in_err-push-clause-tail : goal.returns-in_err-push-clause-tail
-returns-in_err-push-clause-tail c = tail_trans c.in_ok-import.ensures.tail (tail_trans (more_tail c.more.ensures) c.loop-done.invariant.tail)
+pub returns-in_err-push-clause-input : goal.returns-in_err-push-clause-input
+returns-in_err-push-clause-input c = record {
+  tail = tail_trans c.in_ok-import.ensures.input.tail (tail_trans (more_tail c.more.ensures) c.loop-done.invariant.tail);
+  memory = search rules;
+}
 
 pub returns-clause-reads : goal.returns-clause-reads
 returns-clause-reads c = ends_full _ _ _ _ _ _ _ _ _ _ c.loop-done-test.false c.loop-done.invariant.onward
 
 pub returns-clause-counts : goal.returns-clause-counts
-returns-clause-counts c = record
-    { only = refl; outer = c.loop-done.invariant.around; depth = c.loop-done.invariant.depth; counted = c.loop-done.invariant.importing }
+returns-clause-counts c = record { only = refl; around = c.loop-done.invariant.around; counted = c.loop-done.invariant.importing }
 
 pub loop-done-preserved : goal.loop-done-preserved
 loop-done-preserved c =
@@ -114,23 +114,28 @@ loop-done-preserved c =
     let one = subst P c.in-Some.is (c.in_ok-import.ensures.imports stack before so_far l.invariant.importing) in
     let R : List Import → Type 0 = λ z. ReadsImportValue b.config stack before so_far c.more.new.self c.in-Some.import c.read_import.new.u z in
     record {
-      tail = tail_trans c.in_ok-import.ensures.tail (tail_trans (more_tail c.more.ensures) l.invariant.tail);
+      tail = tail_trans c.in_ok-import.ensures.input.tail (tail_trans (more_tail c.more.ensures) l.invariant.tail);
       within = c.in_ok-import.ensures.within;
       onward = goes_on _ _ _ _ _ _ _ _ _ _ _ _ _ _ _ _ c.if-not-more.false c.more.ensures (subst R (sym all) one.0) all l.invariant.onward;
-      around = c.in_ok-import.ensures.around ∙ l.invariant.around;
-      depth = c.in_ok-import.ensures.depth ∙ l.invariant.depth;
+      around = around_then l.invariant.around c.in_ok-import.ensures.around;
       importing = subst (λ z. ImportsState b.config stack before z (own_marked c.read_import.new.scopes) c.read_import.new.totals c.read_import.new.tables)
           (sym all) one.1;
     }
 
-pub returns-then-not-more-clause-tail : goal.returns-then-not-more-clause-tail
-returns-then-not-more-clause-tail c = tail_trans (more_tail c.more.ensures) c.loop-done.invariant.tail
+pub returns-then-not-more-clause-input : goal.returns-then-not-more-clause-input
+returns-then-not-more-clause-input c = record { tail = tail_trans (more_tail c.more.ensures) c.loop-done.invariant.tail; memory = tt }
 
-pub returns-in_err-import-clause-tail : goal.returns-in_err-import-clause-tail
-returns-in_err-import-clause-tail c = tail_trans c.read_import.ensures.tail (tail_trans (more_tail c.more.ensures) c.loop-done.invariant.tail)
+pub returns-in_err-import-clause-input : goal.returns-in_err-import-clause-input
+returns-in_err-import-clause-input c = record {
+  tail = tail_trans c.read_import.ensures.input.tail (tail_trans (more_tail c.more.ensures) c.loop-done.invariant.tail);
+  memory = search rules;
+}
 
-pub returns-in_default-clause-tail : goal.returns-in_default-clause-tail
-returns-in_default-clause-tail c = tail_trans c.read_import.ensures.tail (tail_trans (more_tail c.more.ensures) c.loop-done.invariant.tail)
+pub returns-in_default-clause-input : goal.returns-in_default-clause-input
+returns-in_default-clause-input c = record {
+  tail = tail_trans c.read_import.ensures.input.tail (tail_trans (more_tail c.more.ensures) c.loop-done.invariant.tail);
+  memory = tt;
+}
 
-pub returns-clause-tail : goal.returns-clause-tail
-returns-clause-tail c = c.loop-done.invariant.tail
+pub returns-clause-input : goal.returns-clause-input
+returns-clause-input c = record { tail = c.loop-done.invariant.tail; memory = tt }

@@ -1,8 +1,9 @@
-use Rattle.std.proofs.Common.{◌≡◌, ◌+◌, ◌≤◌, [], length}
+use Rattle.std.proofs.Common.{◌+◌, ◌≤◌, [], length}
 use Rattle.smith_input.specs.Reading.{IsTail}
 use Rattle.smith_input.proofs.Loops.{Onward}
-use Rattle.smith_scopes.specs.Scopes.{outer_marked, own_marked}
+use Rattle.smith_scopes.specs.Scopes.{own_marked}
 use Rattle.smith_component.specs.BuilderView.{stack_of}
+use Rattle.smith_component.specs.EntriesState.{KeepsAround}
 use Rattle.smith_component.specs.ImportsState.{ImportsState}
 use Rattle.smith_component.specs.SectionValues.{NoImportValue, ReadsImportValue, externs_of}
 use Rattle.smith_component.proofs.builder.Progress.read_imports.Given as goal
@@ -17,7 +18,6 @@ invariant-loop-done l =
       tail : IsTail l.u l.fn.u;
       within : length l.tables.functions.items ≤ l.tables.counted + b.config.max_exports;
       onward : Onward (NoImportValue b.config stack) (ReadsImportValue b.config stack before) l.min l.max [] l.fn.u l.imports.items l.done l.imports.items l.u;
-      around : outer_marked l.scopes ≡ outer_marked b.scopes;
-      depth : length l.scopes ≡ length b.scopes;
+      around : KeepsAround b.scopes l.scopes;
       importing : ImportsState b.config stack before l.imports.items (own_marked l.scopes) l.totals l.tables;
     }

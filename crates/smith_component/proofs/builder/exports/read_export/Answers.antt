@@ -1,4 +1,4 @@
-use Rattle.std.proofs.Common.{◌≡◌, ℕ, ◌<◌, List, [], ◌∷◌, length, arith, ap, refl, subst, sym, ◌∙◌}
+use Rattle.std.proofs.Common.{◌≡◌, ℕ, ◌<◌, List, [], ◌∷◌, length, length-append, arith, ap, refl, subst, sym, ◌∙◌, rules}
 use Rattle.std.proofs.lemmas.Grind.{common_steps}
 use Rattle.std.proofs.lemmas.Option.{slice_get-get_or}
 use Rattle.std.specs.Prelude.{Some, false, nat_le, slice_get}
@@ -36,10 +36,17 @@ no_items : (xs : List ℕ) → length xs ≡ 0 → xs ≡ []
 no_items [] e = refl
 no_items (x ∷ xs) e = absurd (omega (arith, e))
 
-pub returns-clause-known : goal.returns-clause-known
-returns-clause-known c =
-    subst (λ s. IsKnown s c.add_exported.new.self) (sym (same_scope c.args.scopes.now c.note_export.new.self c.index-ty.result.now c.note_export.ensures))
-    (known_more (type_known c) c.in_ok-add_exported.ensures.ok c.requires.known)
+pub returns-clause-tables : goal.returns-clause-tables
+returns-clause-tables c =
+    let adds = c.in_ok-add_exported.ensures.ok in
+    let old : Tables = c.args.tables.now in
+    let ty : ℕ = c.index-ty.result.now in
+    record {
+      known = subst (λ s. IsKnown s c.add_exported.new.self) (sym (same_scope c.args.scopes.now c.note_export.new.self ty c.note_export.ensures))
+          (known_more (type_known c) adds c.requires.known);
+      imports = adds.imports;
+      most = omega (arith, ap length adds.functions, length-append old.functions.items (ty ∷ []));
+    }
 
 pub returns-clause-exports : goal.returns-clause-exports
 returns-clause-exports c config outer t es h =
@@ -76,20 +83,25 @@ returns-then-not-has_room-clause-exports c config outer t es h =
     ((no_room config outer t es (own_marked c.args.scopes.now) c.args.tables.now h full, refl, refl), h)
 
 pub returns-clause-around : goal.returns-clause-around
-returns-clause-around c = (grown_export c.args.scopes.now c.note_export.new.self (to.Func c.index-ty.result.now) c.note_export.ensures).outer
+returns-clause-around c = record {
+  outer = (grown_export c.args.scopes.now c.note_export.new.self (to.Func c.index-ty.result.now) c.note_export.ensures).outer;
+  depth = length-changed (λ d. with_export d (to.Func c.index-ty.result.now)) c.args.scopes.now c.note_export.new.self c.note_export.ensures;
+}
 
-pub returns-clause-depth : goal.returns-clause-depth
-returns-clause-depth c =
-    length-changed (λ d. with_export d (to.Func c.index-ty.result.now)) c.args.scopes.now c.note_export.new.self c.note_export.ensures
+pub returns-then-is_empty-clause-input : goal.returns-then-is_empty-clause-input
+returns-then-is_empty-clause-input c = record { tail = tail_same _; memory = tt }
 
-pub returns-then-is_empty-clause-tail : goal.returns-then-is_empty-clause-tail
-returns-then-is_empty-clause-tail c = tail_same _
+pub returns-in_err-name-clause-input : goal.returns-in_err-name-clause-input
+returns-in_err-name-clause-input c = record {
+  tail = tail_trans c.unique_kebab_string.ensures.input.tail (reads_tail c.choose_index-func_index.ensures);
+  memory = search rules;
+}
 
-pub returns-in_err-name-clause-tail : goal.returns-in_err-name-clause-tail
-returns-in_err-name-clause-tail c = tail_trans c.unique_kebab_string.ensures.tail (reads_tail c.choose_index-func_index.ensures)
+pub returns-in_err-add_exported-clause-input : goal.returns-in_err-add_exported-clause-input
+returns-in_err-add_exported-clause-input c = record {
+  tail = tail_trans c.unique_kebab_string.ensures.input.tail (reads_tail c.choose_index-func_index.ensures);
+  memory = search rules;
+}
 
-pub returns-in_err-add_exported-clause-tail : goal.returns-in_err-add_exported-clause-tail
-returns-in_err-add_exported-clause-tail c = tail_trans c.unique_kebab_string.ensures.tail (reads_tail c.choose_index-func_index.ensures)
-
-pub returns-clause-tail : goal.returns-clause-tail
-returns-clause-tail c = tail_trans c.unique_kebab_string.ensures.tail (reads_tail c.choose_index-func_index.ensures)
+pub returns-clause-input : goal.returns-clause-input
+returns-clause-input c = record { tail = tail_trans c.unique_kebab_string.ensures.input.tail (reads_tail c.choose_index-func_index.ensures); memory = tt }

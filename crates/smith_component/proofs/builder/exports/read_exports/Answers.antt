@@ -1,4 +1,4 @@
-use Rattle.std.proofs.Common.{◌≡◌, List, [], ◌∷◌, ◌++◌, length, length-append, map, refl, sym, subst, ap, ◌∙◌, arith}
+use Rattle.std.proofs.Common.{◌≡◌, List, [], ◌∷◌, ◌++◌, length, length-append, map, refl, sym, subst, ap, ◌∙◌, arith, rules}
 use Rattle.std.proofs.lemmas.List.{map-append}
 use Rattle.std.specs.Prelude.{Option}
 use Rattle.smith_input.proofs.Loops.{Onward, begins, ends_early, ends_full, goes_on, stops}
@@ -10,6 +10,7 @@ use Rattle.smith_component.specs.ExportsState.{ExportsOne, ExportsState}
 use Rattle.smith_tree.specs.Shown.{shown_export}
 use Rattle.smith_tree.specs.Tree.{ExportEntry, Tree}
 use Rattle.smith_tree.specs.declared.entries.Export.{Export}
+use Rattle.smith_component.proofs.EntriesState.{around_then}
 use Rattle.smith_component.proofs.builder.exports.read_exports.Goals as goal
 
 pub loop-done-init : goal.loop-done-init
@@ -21,8 +22,7 @@ loop-done-init c =
       imports = refl;
       known = c.requires.known;
       room = omega (arith, c.requires.room);
-      around = refl;
-      depth = refl;
+      around = record { outer = refl; depth = refl };
       onward = λ config outer t h.
           let O : List ExportEntry → Type 0 =
           λ z. Onward (NoExport config outer t) (ReadsExport config outer t) 0 c.args.max [] c.args.u.now z 0 z c.args.u.now in
@@ -31,8 +31,10 @@ loop-done-init c =
     }
 
 pub returns-then-not-more-clause-reads : goal.returns-then-not-more-clause-reads
-returns-then-not-more-clause-reads c config outer t h =
-    stops _ _ _ _ _ _ _ _ _ _ _ _ c.if-not-more.true c.more.ensures (c.loop-done.invariant.onward config outer t h)
+returns-then-not-more-clause-reads c config outer t h = record {
+  reads = stops _ _ _ _ _ _ _ _ _ _ _ _ c.if-not-more.true c.more.ensures (c.loop-done.invariant.onward config outer t h);
+  state = c.loop-done.invariant.exporting config outer t h;
+}
 
 pub returns-in_default-clause-reads : goal.returns-in_default-clause-reads
 returns-in_default-clause-reads c config outer t h =
@@ -41,21 +43,25 @@ returns-in_default-clause-reads c config outer t h =
     let P : Option Export → Type 0 =
     λ e. ExportsOne config outer t es (own_marked c.read_export.new.scopes) c.read_export.new.tables c.more.new.self e c.read_export.new.u in
     let none = subst P c.in_default.is (c.in_ok-export.ensures.exports config outer t es (l.invariant.exporting config outer t h)) in
-    ends_early _ _ _ _ _ _ _ _ _ _ _ _ _ _ c.if-not-more.false c.more.ensures none.0 (l.invariant.onward config outer t h)
+    record {
+      reads = ends_early _ _ _ _ _ _ _ _ _ _ _ _ _ _ c.if-not-more.false c.more.ensures none.0 (l.invariant.onward config outer t h);
+      state = none.1;
+    }
 
-pub returns-in_default-clause-holds : goal.returns-in_default-clause-holds
-returns-in_default-clause-holds c config outer t h =
-    let l = c.loop-done in
-    let es : List ExportEntry = map shown_export l.exports.items in
-    let P : Option Export → Type 0 =
-    λ e. ExportsOne config outer t es (own_marked c.read_export.new.scopes) c.read_export.new.tables c.more.new.self e c.read_export.new.u in
-    (subst P c.in_default.is (c.in_ok-export.ensures.exports config outer t es (l.invariant.exporting config outer t h))).1
+pub returns-in_default-clause-around : goal.returns-in_default-clause-around
+returns-in_default-clause-around c = around_then c.loop-done.invariant.around c.in_ok-export.ensures.around
 
-pub returns-in_err-push-clause-tail : goal.returns-in_err-push-clause-tail
-returns-in_err-push-clause-tail c = tail_trans c.in_ok-export.ensures.tail (tail_trans (more_tail c.more.ensures) c.loop-done.invariant.tail)
+pub returns-in_err-push-clause-input : goal.returns-in_err-push-clause-input
+returns-in_err-push-clause-input c = record {
+  tail = tail_trans c.in_ok-export.ensures.input.tail (tail_trans (more_tail c.more.ensures) c.loop-done.invariant.tail);
+  memory = search rules;
+}
 
 pub returns-clause-reads : goal.returns-clause-reads
-returns-clause-reads c config outer t h = ends_full _ _ _ _ _ _ _ _ _ _ c.loop-done-test.false (c.loop-done.invariant.onward config outer t h)
+returns-clause-reads c config outer t h = record {
+  reads = ends_full _ _ _ _ _ _ _ _ _ _ c.loop-done-test.false (c.loop-done.invariant.onward config outer t h);
+  state = c.loop-done.invariant.exporting config outer t h;
+}
 
 pub loop-done-preserved : goal.loop-done-preserved
 loop-done-preserved c =
@@ -72,13 +78,12 @@ loop-done-preserved c =
     subst (P config outer t) c.in-Some.is
     (c.in_ok-export.ensures.exports config outer t es (l.invariant.exporting config outer t h)) in
     record {
-      tail = tail_trans c.in_ok-export.ensures.tail (tail_trans (more_tail c.more.ensures) l.invariant.tail);
+      tail = tail_trans c.in_ok-export.ensures.input.tail (tail_trans (more_tail c.more.ensures) l.invariant.tail);
       few = omega (arith, ap length items, length-append l.exports.items (x ∷ []), l.invariant.few);
-      imports = c.in_ok-export.ensures.imports ∙ l.invariant.imports;
-      known = c.in_ok-export.ensures.known;
-      room = omega (arith, c.in_ok-export.ensures.most, l.invariant.room, c.loop-done-test.true);
-      around = c.in_ok-export.ensures.around ∙ l.invariant.around;
-      depth = c.in_ok-export.ensures.depth ∙ l.invariant.depth;
+      imports = c.in_ok-export.ensures.tables.imports ∙ l.invariant.imports;
+      known = c.in_ok-export.ensures.tables.known;
+      room = omega (arith, c.in_ok-export.ensures.tables.most, l.invariant.room, c.loop-done-test.true);
+      around = around_then l.invariant.around c.in_ok-export.ensures.around;
       onward = λ config outer t h.
           let R : List ExportEntry → Type 0 = λ z. ReadsExport config outer t es c.more.new.self (shown_export x) c.read_export.new.u z in
           goes_on _ _ _ _ _ _ _ _ _ _ _ _ _ _ _ _ c.if-not-more.false c.more.ensures (subst R (sym all) (one config outer t h).0) all
@@ -86,14 +91,20 @@ loop-done-preserved c =
       exporting = λ config outer t h. subst (λ z. ExportsState config outer t z own c.read_export.new.tables) (sym all) (one config outer t h).1;
     }
 
-pub returns-then-not-more-clause-tail : goal.returns-then-not-more-clause-tail
-returns-then-not-more-clause-tail c = tail_trans (more_tail c.more.ensures) c.loop-done.invariant.tail
+pub returns-then-not-more-clause-input : goal.returns-then-not-more-clause-input
+returns-then-not-more-clause-input c = record { tail = tail_trans (more_tail c.more.ensures) c.loop-done.invariant.tail; memory = tt }
 
-pub returns-in_err-export-clause-tail : goal.returns-in_err-export-clause-tail
-returns-in_err-export-clause-tail c = tail_trans c.read_export.ensures.tail (tail_trans (more_tail c.more.ensures) c.loop-done.invariant.tail)
+pub returns-in_err-export-clause-input : goal.returns-in_err-export-clause-input
+returns-in_err-export-clause-input c = record {
+  tail = tail_trans c.read_export.ensures.input.tail (tail_trans (more_tail c.more.ensures) c.loop-done.invariant.tail);
+  memory = search rules;
+}
 
-pub returns-in_default-clause-tail : goal.returns-in_default-clause-tail
-returns-in_default-clause-tail c = tail_trans c.read_export.ensures.tail (tail_trans (more_tail c.more.ensures) c.loop-done.invariant.tail)
+pub returns-in_default-clause-input : goal.returns-in_default-clause-input
+returns-in_default-clause-input c = record {
+  tail = tail_trans c.read_export.ensures.input.tail (tail_trans (more_tail c.more.ensures) c.loop-done.invariant.tail);
+  memory = tt;
+}
 
-pub returns-clause-tail : goal.returns-clause-tail
-returns-clause-tail c = c.loop-done.invariant.tail
+pub returns-clause-input : goal.returns-clause-input
+returns-clause-input c = record { tail = c.loop-done.invariant.tail; memory = tt }

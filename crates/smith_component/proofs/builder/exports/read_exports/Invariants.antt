@@ -3,7 +3,8 @@ use Rattle.smith_input.specs.Reading.{IsTail}
 use Rattle.smith_input.proofs.Loops.{Onward}
 use Rattle.smith_format.specs.Consistency.{max_u32}
 use Rattle.smith_format.specs.declared.config.Config.{Config}
-use Rattle.smith_scopes.specs.Scopes.{outer_marked, own_marked, own_scope}
+use Rattle.smith_scopes.specs.Scopes.{own_marked, own_scope}
+use Rattle.smith_component.specs.EntriesState.{KeepsAround}
 use Rattle.smith_component.specs.Exports.{NoExport, ReadsExport}
 use Rattle.smith_component.specs.ExportsState.{ExportsState}
 use Rattle.smith_tree.specs.Shown.{shown_export}
@@ -20,8 +21,7 @@ invariant-loop-done l =
       imports : l.tables.imports ≡ l.fn.tables.imports;
       known : IsKnown (own_scope l.scopes) l.tables;
       room : length l.tables.functions.items + (l.max - l.done) ≤ max_u32;
-      around : outer_marked l.scopes ≡ outer_marked l.fn.scopes;
-      depth : length l.scopes ≡ length l.fn.scopes;
+      around : KeepsAround l.fn.scopes l.scopes;
       onward : (config : Config) (outer : List Tree) (t : Tree) → ExportsState config outer t [] (own_marked l.fn.scopes) l.fn.tables
           → Onward (NoExport config outer t) (ReadsExport config outer t) 0 l.max [] l.fn.u (map shown_export l.exports.items) l.done
           (map shown_export l.exports.items) l.u;

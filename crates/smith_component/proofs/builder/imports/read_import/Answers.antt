@@ -1,5 +1,5 @@
 use Rattle.std.proofs.Common.{◌≡◌, ℕ, ◌+◌, ◌<◌, ◌≤◌, max, List, [], ◌∷◌, ◌++◌, length, arith, ap, sym, subst, ◌∙◌, refl, true, false, append-nil, append_assoc}
-use Rattle.std.proofs.Common.{map}
+use Rattle.std.proofs.Common.{map, rules}
 use Rattle.std.proofs.lemmas.List.{map-append}
 use Rattle.std.specs.List.{AllByRecursion}
 use Rattle.std.specs.Prelude.{if◌then◌else◌}
@@ -26,6 +26,7 @@ use Rattle.smith_types.specs.declared.make.externs.ExternNames.{ExternNames}
 use Rattle.smith_tree.specs.declared.totals.RefTotals.{RefTotals}
 use Rattle.smith_types.proofs.References.{ref_formed}
 use Rattle.smith_tree.specs.Offers.{is_scalar_type, marked_with_imports, totals_of, with_imports}
+use Rattle.smith_component.specs.EntriesState.{KeepsAround}
 use Rattle.smith_component.specs.ImportsState.{ImportsState}
 use Rattle.smith_component.specs.Sound.{Totalled}
 use Rattle.smith_tree.specs.Open.{Open}
@@ -282,28 +283,28 @@ returns-clause-imports c =
           refl refl refl refl refl refl))
     ]
 
-pub returns-clause-tail : goal.returns-clause-tail
-returns-clause-tail c = tail_trans c.in_ok-name.ensures.tail c.in-Some.ensures.tail
+pub returns-clause-input : goal.returns-clause-input
+returns-clause-input c = record { tail = tail_trans c.in_ok-name.ensures.input.tail c.in-Some.ensures.tail; memory = tt }
 
-pub returns-in_default-clause-tail : goal.returns-in_default-clause-tail
-returns-in_default-clause-tail c = c.arbitrary_type_ref.ensures.tail
+pub returns-in_default-clause-input : goal.returns-in_default-clause-input
+returns-in_default-clause-input c = record { tail = c.arbitrary_type_ref.ensures.tail; memory = tt }
 
-pub returns-in_err-name-clause-tail : goal.returns-in_err-name-clause-tail
-returns-in_err-name-clause-tail c = tail_trans c.named_extern.ensures.tail c.arbitrary_type_ref.ensures.tail
+pub returns-in_err-name-clause-input : goal.returns-in_err-name-clause-input
+returns-in_err-name-clause-input c = record { tail = tail_trans c.named_extern.ensures.input.tail c.arbitrary_type_ref.ensures.tail; memory = search rules }
 
-pub returns-in_err-add_function-clause-tail : goal.returns-in_err-add_function-clause-tail
-returns-in_err-add_function-clause-tail c = tail_trans c.named_extern.ensures.tail c.arbitrary_type_ref.ensures.tail
+pub returns-in_err-add_function-clause-input : goal.returns-in_err-add_function-clause-input
+returns-in_err-add_function-clause-input c = record {
+  tail = tail_trans c.named_extern.ensures.input.tail c.arbitrary_type_ref.ensures.tail;
+  memory = search rules;
+}
 
 -- The scopes around stay, and their number.
 
-pub returns-clause-around : goal.returns-clause-around
-returns-clause-around c = (grown_import c.args.scopes.now c.note_import.new.self c.in-Some.ty c.note_import.ensures).outer
+import_around : (old new : List Contents) (r : ComponentTypeRef) → Changes (λ d. with_import d r) old new → KeepsAround old new
+import_around old new r noted = record { outer = (grown_import old new r noted).outer; depth = length-changed (λ d. with_import d r) old new noted }
 
-pub returns-clause-depth : goal.returns-clause-depth
-returns-clause-depth c = length-changed (λ d. with_import d c.in-Some.ty) c.args.scopes.now c.note_import.new.self c.note_import.ensures
+pub returns-clause-around : goal.returns-clause-around
+returns-clause-around c = import_around c.args.scopes.now c.note_import.new.self c.in-Some.ty c.note_import.ensures
 
 pub returns-in_err-add_function-clause-around : goal.returns-in_err-add_function-clause-around
-returns-in_err-add_function-clause-around c = (grown_import c.args.scopes.now c.note_import.new.self c.in-Some.ty c.note_import.ensures).outer
-
-pub returns-in_err-add_function-clause-depth : goal.returns-in_err-add_function-clause-depth
-returns-in_err-add_function-clause-depth c = length-changed (λ d. with_import d c.in-Some.ty) c.args.scopes.now c.note_import.new.self c.note_import.ensures
+returns-in_err-add_function-clause-around c = import_around c.args.scopes.now c.note_import.new.self c.in-Some.ty c.note_import.ensures

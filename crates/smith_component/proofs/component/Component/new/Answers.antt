@@ -1,4 +1,4 @@
-use Rattle.std.proofs.Common.{IfErr, IfOk, subst}
+use Rattle.std.proofs.Common.{IfErr, IfOk, refl, rules, subst}
 use Rattle.smith_input.proofs.Reading.{tail_same}
 use Rattle.smith_format.specs.Consistency.{IsConsistent}
 use Rattle.smith_format.specs.declared.config.Config.{Config}
@@ -46,9 +46,16 @@ returns-clause-reach c plan rest w e =
     let run = subst (λ (k : Config). IfOk c.run.result (λ x. RunsTo k c.args.u.now x c.run.new.u)) is c.run.ensures.run in
     ok_by c.run.result (λ x r. run_is_plan c.args.config c.args.u.now plan rest consistent w e _ _ r) run
 
-pub returns-clause-refuses : goal.returns-clause-refuses
-returns-clause-refuses c =
-    subst (λ (k : Config). IfErr c.run.result (λ e. IsRefusal k c.args.u.now e c.run.new.u)) c.new-progress.ensures.made.0 c.run.ensures.refuses
+pub returns-clause-input : goal.returns-clause-input
+returns-clause-input c =
+    let is = c.new-progress.ensures.made.0 in
+    let consistent = subst IsConsistent is c.new-progress.ensures.sound.0.sound.consistent in
+    record {
+      accepts = search rules;
+      refuses = subst (λ (k : Config). IfErr c.run.result (λ e. IsRefusal k c.args.u.now e c.run.new.u)) is c.run.ensures.refuses;
+      unread = λ inconsistent. absurd (inconsistent consistent);
+      tail = c.run.ensures.tail;
+    }
 
 pub returns-clause-answers : goal.returns-clause-answers
 returns-clause-answers c plan rest consistent w e =
@@ -59,9 +66,5 @@ returns-clause-answers c plan rest consistent w e =
     (λ x r. refused_accepted c.args.config left input consistent (plan_lacks_none c.args.config input plan rest consistent w e left)
     (plan_refuses_no_module c.args.config input plan rest consistent w e left) x r) refusal
 
-pub returns-in_err-check-clause-tail : goal.returns-in_err-check-clause-tail
-returns-in_err-check-clause-tail c = tail_same _
-
-pub returns-clause-unread : goal.returns-clause-unread
-returns-clause-unread c inconsistent =
-    absurd (inconsistent (subst IsConsistent c.new-progress.ensures.made.0 c.new-progress.ensures.sound.0.sound.consistent))
+pub returns-in_err-check-clause-input : goal.returns-in_err-check-clause-input
+returns-in_err-check-clause-input c = record { accepts = search rules; refuses = search rules; unread = λ _. refl; tail = tail_same _ }

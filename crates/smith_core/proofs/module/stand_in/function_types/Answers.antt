@@ -13,11 +13,11 @@ returns-then-not-more-clause-tail c = tail_trans (more_tail c.more.ensures) c.lo
 
 pub returns-in_err-func-clause-tail : goal.returns-in_err-func-clause-tail
 returns-in_err-func-clause-tail c =
-    tail_trans c.configured_func_type.ensures.tail (tail_trans (more_tail c.more.ensures) c.loop-done.invariant.tail)
+    tail_trans c.configured_func_type.ensures.input.tail (tail_trans (more_tail c.more.ensures) c.loop-done.invariant.tail)
 
 pub returns-in_err-reserve-clause-tail : goal.returns-in_err-reserve-clause-tail
 returns-in_err-reserve-clause-tail c =
-    tail_trans c.configured_func_type.ensures.tail (tail_trans (more_tail c.more.ensures) c.loop-done.invariant.tail)
+    tail_trans c.configured_func_type.ensures.input.tail (tail_trans (more_tail c.more.ensures) c.loop-done.invariant.tail)
 
 pub loop-done-preserved : goal.loop-done-preserved
 loop-done-preserved c =
@@ -25,7 +25,7 @@ loop-done-preserved c =
     let read = (c.in_ok-func.ensures {u = tt}).reads in
     let items = rw ((c.in_ok-reserve.ensures {u = tt}).items) at c.push_reserved.ensures.items in
     record {
-      tail = tail_trans c.configured_func_type.ensures.tail (tail_trans (more_tail more) c.loop-done.invariant.tail);
+      tail = tail_trans c.configured_func_type.ensures.input.tail (tail_trans (more_tail more) c.loop-done.invariant.tail);
       onward = goes_on _ _ _ _ _ _ _ _ _ _ _ _ _ _ _ _ c.if-not-more.false more read items c.loop-done.invariant.onward;
     }
 

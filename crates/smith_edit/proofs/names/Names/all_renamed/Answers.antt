@@ -1,11 +1,11 @@
 use Rattle.std.proofs.Common.{◌≡◌, ℕ, ◌++◌, List, ◌∙◌, ap, map, refl, string_bytes}
+use Rattle.std.proofs.Common.{append-nil}
 use Rattle.smith_edit.specs.Edits.{new_name}
 use Rattle.smith_edit.proofs.KnownNames.{renamed_end, renamed_names, renamed_step}
-use Rattle.smith_edit.proofs.Lists.{append_nil}
 use Rattle.smith_edit.proofs.names.Names.all_renamed.Goals as goal
 
 pub loop-item-init : goal.loop-item-init
-loop-item-init g c = λ names known. rw (c.new-renamed.ensures.items, append_nil names) (known, refl)
+loop-item-init g c = λ names known. rw (c.new-renamed.ensures.items, append-nil names) (known, refl)
 
 pub loop-item-preserved : goal.loop-item-preserved
 loop-item-preserved g c = λ names known.

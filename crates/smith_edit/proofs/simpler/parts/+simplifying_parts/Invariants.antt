@@ -8,8 +8,8 @@ use Rattle.smith_edit.proofs.InTurn.{after_these, seek}
 use Rattle.smith_edit.proofs.SimplerRows.{part_row}
 use Rattle.smith_edit.proofs.simpler.parts.+simplifying_parts.Given as goal
 
-abbrev pub invariant-parts-loop-node : goal.invariant-parts-loop-node
-invariant-parts-loop-node l =
+abbrev pub invariant-simplify_parts-loop-node : goal.invariant-simplify_parts-loop-node
+invariant-simplify_parts-loop-node l =
     let all = tree_of (map shown_part_node l.nodes) in
     let row = part_row (import_names (imports_of all)) (export_names (exports_of all)) in
     record {

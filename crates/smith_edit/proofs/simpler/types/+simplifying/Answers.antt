@@ -12,19 +12,19 @@ use Rattle.smith_edit.proofs.simpler.types.+simplifying.Goals as goal
 abbrev row_of : List DeclNode → InRow DeclNode Decl Decls
 row_of nodes = decl_row (names (decl_imports (in_order (map shown_decl_node nodes)))) (names (decl_exports (in_order (map shown_decl_node nodes))))
 
-pub declarations-loop-node-preserved : goal.declarations-loop-node-preserved
-declarations-loop-node-preserved t c =
+pub simplify_declarations-loop-node-preserved : goal.simplify_declarations-loop-node-preserved
+simplify_declarations-loop-node-preserved t c =
     let is = sym (ap (option_map shown_decl_node) c.in-Some.is) ∙ c.in_ok-declaration.ensures.declaration in
     let on = c.in_ok-declaration.ensures.moved (subst IsSome (sym c.in-Some.is) refl) in
     record {
       declarations = seek_step (row_of c.args.nodes.now) c.loop-node.search c.args.nodes.now c.loop-node.node-index c.node-item.result
-          c.loop-node-test.true c.node-item.is c.one_declaration.new.search c.loop-node.declarations.items c.push.new.self.items c.in-Some.declaration _
+          c.loop-node-test.true c.node-item.is c.simplify_declaration.new.search c.loop-node.declarations.items c.push.new.self.items c.in-Some.declaration _
           is on c.in_ok-push.ensures.items c.loop-node.invariant.declarations;
       moved = moved_step (row_of c.args.nodes.now) c.loop-node.search c.args.nodes.now c.loop-node.node-index c.node-item.result
-          c.loop-node-test.true c.node-item.is c.one_declaration.new.search _ on c.loop-node.invariant.moved;
+          c.loop-node-test.true c.node-item.is c.simplify_declaration.new.search _ on c.loop-node.invariant.moved;
     }
 
-pub declarations-returns-clause-declarations : goal.declarations-returns-clause-declarations
-declarations-returns-clause-declarations t c =
+pub simplify_declarations-returns-clause-declarations : goal.simplify_declarations-returns-clause-declarations
+simplify_declarations-returns-clause-declarations t c =
     seek_end (row_of c.args.nodes.now) c.loop-node.search c.args.nodes.now c.loop-node.node-index (map shown_decl_node c.loop-node.declarations.items) _
     c.loop-node-test.false c.loop-node.invariant.declarations

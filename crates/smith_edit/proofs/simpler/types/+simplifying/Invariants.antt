@@ -8,8 +8,8 @@ use Rattle.smith_edit.proofs.InTurn.{after_these, seek}
 use Rattle.smith_edit.proofs.SimplerRows.{decl_row}
 use Rattle.smith_edit.proofs.simpler.types.+simplifying.Given as goal
 
-abbrev pub invariant-declarations-loop-node : goal.invariant-declarations-loop-node
-invariant-declarations-loop-node l =
+abbrev pub invariant-simplify_declarations-loop-node : goal.invariant-simplify_declarations-loop-node
+invariant-simplify_declarations-loop-node l =
     let all = in_order (map shown_decl_node l.nodes) in
     let row = decl_row (names (decl_imports all)) (names (decl_exports all)) in
     record {

@@ -43,4 +43,5 @@ put_component-returns-in_err-put_part t c =
 
 pub put_component-returns : goal.put_component-returns
 put_component-returns t c =
-    rw text_shown (ends_front c.put_preamble.result _ _ (put_all _ _ _ _ _ c.loop-index.invariant (omega (arith, c.loop-index-test.false))) c.put_preamble.ensures)
+    rw text_shown
+    (ends_front c.put_preamble.result _ _ (put_all _ _ _ _ _ c.loop-index.invariant (omega (arith, c.loop-index-test.false))) c.put_preamble.ensures)

@@ -10,10 +10,10 @@ returns-clause-script c name bytes rest utf8 short begins =
     custom_same (subst P begins (c.limited_string.new.u, c.in_ok-name.ensures.read, c.in_ok-bytes.ensures.read)) (custom_read name bytes rest utf8 short)
 
 pub returns-in_err-name-clause-tail : goal.returns-in_err-name-clause-tail
-returns-in_err-name-clause-tail c = c.limited_string.ensures.tail
+returns-in_err-name-clause-tail c = c.limited_string.ensures.input.tail
 
 pub returns-in_err-bytes-clause-tail : goal.returns-in_err-bytes-clause-tail
-returns-in_err-bytes-clause-tail c = tail_trans c.arbitrary_bytes.ensures.tail c.limited_string.ensures.tail
+returns-in_err-bytes-clause-tail c = tail_trans c.arbitrary_bytes.ensures.input.tail c.limited_string.ensures.input.tail
 
 pub returns-clause-tail : goal.returns-clause-tail
-returns-clause-tail c = tail_trans c.arbitrary_bytes.ensures.tail c.limited_string.ensures.tail
+returns-clause-tail c = tail_trans c.arbitrary_bytes.ensures.input.tail c.limited_string.ensures.input.tail

@@ -1,8 +1,8 @@
-use Rattle.std.proofs.Common.{◌++◌, sym, subst}
-use Rattle.smith_input.proofs.Reading.{tail_trans}
+use Rattle.std.proofs.Common.{◌≡◌, List, [], ◌++◌, refl, sym, subst}
 use Rattle.smith_syntax.specs.Entries.{FullDecl}
-use Rattle.smith_syntax.specs.WellFormed.{export_of}
+use Rattle.smith_syntax.specs.WellFormed.{export_of, import_of}
 use Rattle.smith_syntax.proofs.Shown.{instance_export}
+use Rattle.smith_types.specs.Declarations.{NamedExtern}
 use Rattle.smith_types.specs.MakingTypes.{HoldsExterns}
 use Rattle.smith_scopes.specs.Scopes.{own_marked}
 use Rattle.smith_types.proofs.Importing.{export_possible, export_read}
@@ -17,9 +17,6 @@ pub add_exported-requires-clause-formed : goal.add_exported-requires-clause-form
 add_exported-requires-clause-formed c = ref_formed c.args.making.now.config.now (own_marked c.args.scopes.now) _ _ _ _ c.in-Some.ty _
     (rw c.in-Some.is at c.arbitrary_type_ref.ensures.reads)
 
-pub returns-in_err-name-clause-tail : goal.returns-in_err-name-clause-tail
-returns-in_err-name-clause-tail c = tail_trans c.in_err-name.ensures.tail c.arbitrary_type_ref.ensures.tail
-
 pub returns-clause-reads : goal.returns-clause-reads
 returns-clause-reads c = λ so_far held.
     export_read c.args.making.now.config.now (own_marked c.args.scopes.now) so_far c.in-Some.ty _ _ _ _ _
@@ -27,9 +24,10 @@ returns-clause-reads c = λ so_far held.
     (c.in_ok-name.ensures.reads so_far held) (instance_export _ _ _)
 
 pub returns-clause-names : goal.returns-clause-names
-returns-clause-names c = λ so_far held.
-    let P : FullDecl → Type 0 = λ d. HoldsExterns c.named_extern.new.externs (so_far ++ export_of d) in
-    subst P (sym (instance_export c.in_ok-name.name c.in_ok-name.url c.in-Some.ty)) (c.in_ok-name.ensures.names so_far held)
-
-pub returns-clause-tail : goal.returns-clause-tail
-returns-clause-tail c = tail_trans c.in_ok-name.ensures.tail c.arbitrary_type_ref.ensures.tail
+returns-clause-names c =
+    let is = sym (instance_export c.in_ok-name.name c.in_ok-name.url c.in-Some.ty) in
+    let P : List NamedExtern → FullDecl → Type 0 = λ so_far d. HoldsExterns c.named_extern.new.externs (so_far ++ export_of d) in
+    record {
+      no_import = subst (λ d. import_of d ≡ []) is refl;
+      gains = λ so_far held. subst (P so_far) is (c.in_ok-name.ensures.names so_far held);
+    }

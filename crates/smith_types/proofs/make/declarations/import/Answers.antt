@@ -1,5 +1,4 @@
 use Rattle.std.proofs.Common.{sym, ap, ◌∙◌, refl, arith}
-use Rattle.smith_input.proofs.Reading.{reads_tail, tail_trans}
 use Rattle.smith_tree.specs.TypeOffers.{has_reference}
 use Rattle.smith_types.specs.Declarations.{nothing_there}
 use Rattle.smith_types.proofs.Importing.{import_not_asked, import_fits_none, import_read}
@@ -25,9 +24,6 @@ returns-in_default-clause-reads c = λ so_far held.
     rw none.1
     (import_fits_none _ _ _ _ c.int_in_range.result some c.int_in_range.ensures c.if-int_in_range-ne0.false none.0)
 
-pub returns-in_err-name-clause-tail : goal.returns-in_err-name-clause-tail
-returns-in_err-name-clause-tail c = tail_trans c.in_err-name.ensures.tail (tail_trans c.arbitrary_type_ref.ensures.tail (reads_tail c.int_in_range.ensures.2))
-
 pub returns-clause-reads : goal.returns-clause-reads
 returns-clause-reads c = λ so_far held.
     let some = sym (c.has_reference.ensures ∙ ap has_reference c.last.ensures.marked) ∙ c.if-not-has_reference.false in
@@ -35,6 +31,3 @@ returns-clause-reads c = λ so_far held.
     c.if-int_in_range-ne0.false
     (rw c.in-Some.is at c.arbitrary_type_ref.ensures.reads)
     (c.in_ok-name.ensures.reads so_far held)
-
-pub returns-clause-tail : goal.returns-clause-tail
-returns-clause-tail c = tail_trans c.in_ok-name.ensures.tail (tail_trans c.arbitrary_type_ref.ensures.tail (reads_tail c.int_in_range.ensures.2))

@@ -18,7 +18,10 @@ alias_choice-requires-clause-some c = omega (
 pub add_aliased-requires-clause-named : goal.add_aliased-requires-clause-named
 add_aliased-requires-clause-named c = alias_kept _ _ _ _ c.in_ok-alias.ensures.reads
 
-pub returns-clause-declares : goal.returns-clause-declares
-returns-clause-declares c =
+pub returns-clause-scopes : goal.returns-clause-scopes
+returns-clause-scopes c =
     let P : FullDecl → Type 0 = λ d. Declares c.args.scopes.now c.add_aliased.new.scopes d in
-    subst P (sym (instance_alias c.in_ok-alias.alias)) c.in_ok-add_aliased.ensures.declares
+    record {
+      declares = subst P (sym (instance_alias c.in_ok-alias.alias)) c.in_ok-add_aliased.ensures.scopes.declares;
+      outer = c.in_ok-add_aliased.ensures.scopes.outer;
+    }

@@ -23,13 +23,10 @@ loop-done-preserved g c =
     let next = pushed shown c.loop-done.members.items c.push.new.self.items c.in_ok-member.member c.in_ok-push.ensures.items in
     let read = rw c.deref.ensures.value at c.in_ok-member.ensures.read in
     record {
-      tail = tail_trans c.in_ok-member.ensures.tail (tail_trans (more_tail c.more.ensures) c.loop-done.invariant.tail);
+      tail = tail_trans c.in_ok-member.ensures.input.tail (tail_trans (more_tail c.more.ensures) c.loop-done.invariant.tail);
       onward = goes_on _ _ _ _ _ _ so_far _ x _ _ _ _ _ _ _ c.if-not-more.false c.more.ensures (has_read_as _ _ x c.burn.ensures c.if-fuel-eq0.false read next)
           next c.loop-done.invariant.onward;
     }
 
 pub returns-clause-reads : goal.returns-clause-reads
 returns-clause-reads g c = ends_full _ _ _ _ _ _ _ _ _ _ c.loop-done-test.false c.loop-done.invariant.onward
-
-pub returns-in_err-push-clause-tail : goal.returns-in_err-push-clause-tail
-returns-in_err-push-clause-tail g c = tail_trans c.in_ok-member.ensures.tail (tail_trans (more_tail c.more.ensures) c.loop-done.invariant.tail)

@@ -13,6 +13,7 @@ invariant-loop-done g l =
     record {
       tail : IsTail l.u l.fn.u;
       onward :
-          (xs : List g.M.Member.Shown) (rest : List ℕ) (t : List g.M.Member.Shown × ℕ) → Loop IsSpent Item l.min l.max l.done (so_far, l.fuel) l.u xs rest t
-          → Loop IsSpent Item l.min l.max 0 ([], l.fn.fuel) l.fn.u (so_far ++ xs) rest t;
+          (xs : List g.M.Member.Shown) (rest : List ℕ) (t : List g.M.Member.Shown × ℕ)
+          → Loop IsSpent Item l.counts.0 l.counts.1 l.done (so_far, l.fuel) l.u xs rest t
+          → Loop IsSpent Item l.counts.0 l.counts.1 0 ([], l.fn.fuel) l.fn.u (so_far ++ xs) rest t;
     }

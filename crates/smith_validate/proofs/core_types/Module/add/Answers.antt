@@ -1,9 +1,10 @@
 use Rattle.std.proofs.Common.{ap, sym, ◌∙◌, ◌++◌, append-nil}
 use Rattle.std.specs.Option.{option_to_list}
 use Rattle.smith_syntax.specs.ModuleTypes.{aliased}
-use Rattle.smith_validate.specs.Modules.{entries_in, sizes_in}
+use Rattle.smith_syntax.specs.OwnSizes.{sizes_in}
+use Rattle.smith_syntax.proofs.AliasSizes.{alias_added}
+use Rattle.smith_validate.specs.Modules.{entries_in}
 use Rattle.smith_validate.proofs.Judging.{on_by}
-use Rattle.smith_validate.proofs.ModuleSteps.{alias_added}
 use Rattle.smith_validate.proofs.core_types.Module.add.Goals as goal
 
 pub returns-in-OuterAlias-clause-own : goal.returns-in-OuterAlias-clause-own

@@ -23,7 +23,7 @@ push_marked-requires c = omega (arith, length-last c.args.self.now.scopes.now, c
 pub add_function-requires-clause-few : goal.add_function-requires-clause-few
 add_function-requires-clause-few c =
     let same = ap (λ (t : Tables). t.counted) (c.in_ok-push-3.ensures.tables ∙ c.in_ok-push-2.ensures.tables) in
-    omega (arith, same, c.requires.draft.1.tabled.counts, (functions_counted (grown (draft_of c.args.self.now))).least, c.requires.room)
+    omega (arith, same, c.requires.draft.is.tabled.counts, (functions_counted (grown (draft_of c.args.self.now))).least, c.requires.draft.room)
 
 pub returns-clause-defines : goal.returns-clause-defines
 returns-clause-defines c =
@@ -33,7 +33,7 @@ returns-clause-defines c =
     let entries = c.in_ok-push.ensures.items ∙ ap (λ xs. xs ++ c.in_ok-shared.shared ∷ []) c.new-types.ensures.items in
     let empty = ap (λ v. v.items) c.replace-ended.ensures.after ∙ c.new-2.ensures.items in
     let made = c.in_ok-push-4.ensures.items ∙ ap (λ xs. xs ++ lift ∷ []) empty in
-    let index = type_index c.args.self.now c.requires.draft.0 c.requires.draft.1 t c.in_ok-func_ty.ensures.index in
+    let index = type_index c.args.self.now c.requires.draft.around c.requires.draft.is t c.in_ok-func_ty.ensures.index in
     defines (growing c.args.self.now.component.now c.args.self.now.funcs.now.items) c.args.core_func_index t c.args.ty.value
     (shown_sections c.push-2.new.self.sections.items) (shown_sections c.push-3.new.self.sections.items) c.replace-ended.result.items c.push-4.new.self.items
     c.push.new.self.items c.in_ok-shared.shared
@@ -57,6 +57,8 @@ returns-clause-drafts c =
           adds;
       front = front_push old mid new _ ended c.in_ok-push-3.ensures.items refl
           (c.in_ok-add_function.ensures.ok.imports ∙ ap names c.push-3.ensures.tables);
-      outer = (grown_marked d.scopes.now c.push_marked.new.self c.in_ok-clone.field-0.value c.in_ok-func_ty.ensures.ok).outer;
-      depth = length-changed _ _ _ c.in_ok-func_ty.ensures.ok;
+      around = record {
+        outer = (grown_marked d.scopes.now c.push_marked.new.self c.in_ok-clone.field-0.value c.in_ok-func_ty.ensures.ok).outer;
+        depth = length-changed _ _ _ c.in_ok-func_ty.ensures.ok;
+      };
     }

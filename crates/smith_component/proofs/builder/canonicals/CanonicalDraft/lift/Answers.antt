@@ -1,4 +1,4 @@
-use Rattle.std.proofs.Common.{ℕ, ◌<◌, List, length, refl, sym, ap, ◌∙◌, subst, arith}
+use Rattle.std.proofs.Common.{ℕ, ◌<◌, List, length, refl, sym, ap, ◌∙◌, subst, arith, rules}
 use Rattle.std.proofs.lemmas.Result.{on_ok_weaker}
 use Rattle.smith_input.specs.Reading.{IsTail}
 use Rattle.smith_input.proofs.Reading.{reads_tail, tail_trans}
@@ -18,7 +18,7 @@ after_choice f g h = tail_trans f (tail_trans g h)
 
 pub lifted_type-requires : goal.lifted_type-requires
 lifted_type-requires c = record {
-  known = draft_lowered c.args.self.now c.requires.draft.0 c.requires.draft.1 c.choose_index-core_func_index.result
+  known = draft_lowered c.args.self.now c.requires.draft.around c.requires.draft.is c.choose_index-core_func_index.result
       (omega (arith, c.choose_index-core_func_index.ensures.below, c.len.ensures));
 }
 
@@ -28,11 +28,22 @@ add_function-requires-clause-known c =
     let r = chosen_equal (last_of d.scopes.now).types c.in_ok-signature.signature c.in_ok-ty.ty.value c.lifted_type.new.u c.choose_equal.new.u
     c.in_ok-func_ty.field-0 c.in-Some.func_ty c.in_ok-ty.ensures.ok c.in-Some.is c.in_ok-func_ty.ensures.chosen in
     subst (λ scopes. c.in-Some.func_ty < length (own_scope scopes).types) (sym c.in_ok-func_ty.ensures.same)
-    (equal_within d c.requires.draft.0 c.requires.draft.1 c.in_ok-signature.signature c.in-Some.func_ty r)
+    (equal_within d c.requires.draft.around c.requires.draft.is c.in_ok-signature.signature c.in-Some.func_ty r)
 
 pub add_function-requires-clause-few : goal.add_function-requires-clause-few
 add_function-requires-clause-few c =
-    omega (arith, c.requires.draft.1.tabled.counts, (functions_counted (grown (draft_of c.args.self.now))).least, c.requires.room)
+    omega (arith, c.requires.draft.is.tabled.counts, (functions_counted (grown (draft_of c.args.self.now))).least, c.requires.draft.room)
+
+pub define-requires-clause-draft : goal.define-requires-clause-draft
+define-requires-clause-draft c =
+    let d = c.args.self.now in
+    let around = c.requires.draft.around in
+    record {
+      around = around;
+      is = subst (λ scopes. CanonicalsState d.config.now around scopes d.component.now d.funcs.now.items) (sym c.in_ok-func_ty.ensures.same)
+          c.requires.draft.is;
+      room = c.requires.draft.room;
+    }
 
 pub returns-in-Some-clause-reads : goal.returns-in-Some-clause-reads
 returns-in-Some-clause-reads c =
@@ -41,7 +52,7 @@ returns-in-Some-clause-reads c =
     c.in_ok-func_ty.field-0 c.in-Some.func_ty c.in_ok-ty.ensures.ok c.in-Some.is c.in_ok-func_ty.ensures.chosen in
     let old : OpenComponent = d.component.now in
     let new : OpenComponent = record { sections = old.sections; height = old.height; tables = c.add_function.new.self } in
-    lift_equal d c.requires.draft.0 c.requires.draft.1 d.config.now c.len.result c.choose_index-core_func_index.result
+    lift_equal d c.requires.draft.around c.requires.draft.is d.config.now c.len.result c.choose_index-core_func_index.result
     c.in_ok-signature.signature c.args.u.now c.choose_index-core_func_index.new.self c.lifted_type.new.u c.choose_equal.new.u _ (omega (arith, c.len.ensures))
     c.choose_index-core_func_index.ensures c.in_ok-signature.ensures.reads c.in-Some.func_ty r
     (growing_more old new d.funcs.now.items c.push.new.self.items (CanonLift c.in-Some.func_ty c.choose_index-core_func_index.result) refl
@@ -64,8 +75,7 @@ returns-in-Some-clause-drafts c =
           (growing_more old new d.funcs.now.items c.push.new.self.items (CanonLift t c.choose_index-core_func_index.result) refl
           c.in_ok-push.ensures.items));
       front = front_same old new refl c.in_ok-add_function.ensures.ok.imports;
-      outer = ap outer_marked same;
-      depth = ap length same;
+      around = record { outer = ap outer_marked same; depth = ap length same };
     }
 
 pub returns-clause-drafts : goal.returns-clause-drafts
@@ -75,8 +85,7 @@ returns-clause-drafts c =
     record {
       draft = λ around held. subst (λ scopes. CanonicalsState d.config.now around scopes d.component.now d.funcs.now.items) (sym same) held;
       front = front_same d.component.now d.component.now refl refl;
-      outer = ap outer_marked same;
-      depth = ap length same;
+      around = record { outer = ap outer_marked same; depth = ap length same };
     }
 
 pub returns-then-own_len-self-clause-reads : goal.returns-then-own_len-self-clause-reads
@@ -86,7 +95,7 @@ returns-then-own_len-self-clause-reads c =
     let none = chosen_none (last_of d.scopes.now).types c.in_ok-signature.signature c.in_ok-ty.ty.value c.lifted_type.new.u c.choose_equal.new.u
     c.in_ok-func_ty.field-0 c.in_ok-ty.ensures.ok c.in_default.not-Some c.in_ok-func_ty.ensures.chosen in
     on_ok_weaker c.define.result
-    (λ e. lift_defined d c.requires.draft.0 c.requires.draft.1 d.config.now c.len.result c.choose_index-core_func_index.result
+    (λ e. lift_defined d c.requires.draft.around c.requires.draft.is d.config.now c.len.result c.choose_index-core_func_index.result
     c.in_ok-signature.signature c.args.u.now c.choose_index-core_func_index.new.self c.lifted_type.new.u c.choose_equal.new.u _ (omega (arith, c.len.ensures))
     c.choose_index-core_func_index.ensures c.in_ok-signature.ensures.reads none.0 (omega (arith, c.own_len.ensures.count, many, c.if-own_len-self.true)) none.1
     (e ∙ ap (with_defined (draft_of d) c.choose_index-core_func_index.result) c.in_ok-ty.ensures.ok))
@@ -98,30 +107,43 @@ returns-clause-reads c =
     let many = ap (λ scopes. length (own_scope scopes).types) c.in_ok-func_ty.ensures.same in
     let none = chosen_none (last_of d.scopes.now).types c.in_ok-signature.signature c.in_ok-ty.ty.value c.lifted_type.new.u c.choose_equal.new.u
     c.in_ok-func_ty.field-0 c.in_ok-ty.ensures.ok c.in_default.not-Some c.in_ok-func_ty.ensures.chosen in
-    lift_given_up d c.requires.draft.0 c.requires.draft.1 d.config.now c.len.result c.choose_index-core_func_index.result
+    lift_given_up d c.requires.draft.around c.requires.draft.is d.config.now c.len.result c.choose_index-core_func_index.result
     c.in_ok-signature.signature c.args.u.now c.choose_index-core_func_index.new.self c.lifted_type.new.u c.choose_equal.new.u _ (omega (arith, c.len.ensures))
     c.choose_index-core_func_index.ensures c.in_ok-signature.ensures.reads none.0
     (omega (arith, c.own_len.ensures.count, many, c.if-own_len-self.false)) none.1 refl
 
-pub returns-in_err-ty-clause-tail : goal.returns-in_err-ty-clause-tail
-returns-in_err-ty-clause-tail c = tail_trans c.lifted_type.ensures.tail (reads_tail c.choose_index-core_func_index.ensures)
+pub returns-in_err-ty-clause-input : goal.returns-in_err-ty-clause-input
+returns-in_err-ty-clause-input c = record {
+  tail = tail_trans c.lifted_type.ensures.input.tail (reads_tail c.choose_index-core_func_index.ensures);
+  memory = search rules;
+}
 
-pub returns-then-own_len-self-clause-tail : goal.returns-then-own_len-self-clause-tail
-returns-then-own_len-self-clause-tail c =
-    after_choice c.choose_equal.ensures.tail c.lifted_type.ensures.tail (reads_tail c.choose_index-core_func_index.ensures)
+pub returns-then-own_len-self-clause-input : goal.returns-then-own_len-self-clause-input
+returns-then-own_len-self-clause-input c = record {
+  tail = after_choice c.choose_equal.ensures.tail c.lifted_type.ensures.input.tail (reads_tail c.choose_index-core_func_index.ensures);
+  memory = c.define.ensures.memory;
+}
 
-pub returns-clause-tail : goal.returns-clause-tail
-returns-clause-tail c =
-    after_choice c.choose_equal.ensures.tail c.lifted_type.ensures.tail (reads_tail c.choose_index-core_func_index.ensures)
+pub returns-clause-input : goal.returns-clause-input
+returns-clause-input c = record {
+  tail = after_choice c.choose_equal.ensures.tail c.lifted_type.ensures.input.tail (reads_tail c.choose_index-core_func_index.ensures);
+  memory = tt;
+}
 
-pub returns-in_err-add_function-clause-tail : goal.returns-in_err-add_function-clause-tail
-returns-in_err-add_function-clause-tail c =
-    after_choice c.choose_equal.ensures.tail c.lifted_type.ensures.tail (reads_tail c.choose_index-core_func_index.ensures)
+pub returns-in_err-add_function-clause-input : goal.returns-in_err-add_function-clause-input
+returns-in_err-add_function-clause-input c = record {
+  tail = after_choice c.choose_equal.ensures.tail c.lifted_type.ensures.input.tail (reads_tail c.choose_index-core_func_index.ensures);
+  memory = search rules;
+}
 
-pub returns-in_err-push-clause-tail : goal.returns-in_err-push-clause-tail
-returns-in_err-push-clause-tail c =
-    after_choice c.choose_equal.ensures.tail c.lifted_type.ensures.tail (reads_tail c.choose_index-core_func_index.ensures)
+pub returns-in_err-push-clause-input : goal.returns-in_err-push-clause-input
+returns-in_err-push-clause-input c = record {
+  tail = after_choice c.choose_equal.ensures.tail c.lifted_type.ensures.input.tail (reads_tail c.choose_index-core_func_index.ensures);
+  memory = search rules;
+}
 
-pub returns-in-Some-clause-tail : goal.returns-in-Some-clause-tail
-returns-in-Some-clause-tail c =
-    after_choice c.choose_equal.ensures.tail c.lifted_type.ensures.tail (reads_tail c.choose_index-core_func_index.ensures)
+pub returns-in-Some-clause-input : goal.returns-in-Some-clause-input
+returns-in-Some-clause-input c = record {
+  tail = after_choice c.choose_equal.ensures.tail c.lifted_type.ensures.input.tail (reads_tail c.choose_index-core_func_index.ensures);
+  memory = tt;
+}

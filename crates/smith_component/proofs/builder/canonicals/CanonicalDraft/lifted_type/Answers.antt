@@ -1,4 +1,4 @@
-use Rattle.std.proofs.Common.{sym, subst, ap, ◌∙◌}
+use Rattle.std.proofs.Common.{sym, subst, ap, ◌∙◌, rules}
 use Rattle.std.proofs.lemmas.Result.{IfOk-weaker}
 use Rattle.smith_format.specs.CoreTypes.{Function}
 use Rattle.smith_format.specs.Shown.{shown_func}
@@ -51,8 +51,11 @@ returns-clause-reads c =
     c.deref-2.result.now f c.args.u.now low c.deref-2.ensures flat reads)
     c.inverse_scalar_canonical_abi_for.ensures.reads
 
-pub returns-in_err-core-clause-tail : goal.returns-in_err-core-clause-tail
-returns-in_err-core-clause-tail c = tail_same _
+pub returns-in_err-core-clause-input : goal.returns-in_err-core-clause-input
+returns-in_err-core-clause-input c = record { tail = tail_same _; memory = search rules }
 
-pub returns-clause-tail : goal.returns-clause-tail
-returns-clause-tail c = c.inverse_scalar_canonical_abi_for.ensures.tail
+pub returns-clause-input : goal.returns-clause-input
+returns-clause-input c = record {
+  tail = c.inverse_scalar_canonical_abi_for.ensures.input.tail;
+  memory = c.inverse_scalar_canonical_abi_for.ensures.input.memory;
+}

@@ -9,7 +9,7 @@ use Rattle.smith_component.proofs.builder.canonicals.CanonicalDraft.lower.Goals 
 
 pub add_core_function-requires : goal.add_core_function-requires
 add_core_function-requires c = record {
-  few = omega (arith, c.requires.draft.1.tabled.counts, (functions_counted (grown (draft_of c.args.self.now))).least, c.requires.room);
+  few = omega (arith, c.requires.draft.is.tabled.counts, (functions_counted (grown (draft_of c.args.self.now))).least, c.requires.draft.room);
 }
 
 pub returns-clause-reads : goal.returns-clause-reads
@@ -18,7 +18,7 @@ returns-clause-reads c =
     let new : OpenComponent = record { sections = d.component.now.sections; height = d.component.now.height; tables = c.add_core_function.new.self } in
     on_ok_weaker c.add_core_function.result
     (λ adds. lower_reads d.component.now new d.funcs.now.items c.push.new.self.items c.deref.result.now c.args.u.now c.choose-func_index.new.self
-    c.choose-func_index.result.now c.requires.draft.1.tabled c.deref.ensures.value c.choose-func_index.ensures refl c.in_ok-push.ensures.items)
+    c.choose-func_index.result.now c.requires.draft.is.tabled c.deref.ensures.value c.choose-func_index.ensures refl c.in_ok-push.ensures.items)
     c.add_core_function.ensures.ok
 
 pub returns-clause-drafts : goal.returns-clause-drafts
@@ -31,7 +31,6 @@ returns-clause-drafts c =
           c.choose-func_index.new.self c.choose-func_index.result.now held.tabled c.deref.ensures.value c.choose-func_index.ensures refl
           c.in_ok-push.ensures.items d.scopes.now held adds;
       front = front_same d.component.now new refl adds.imports;
-      outer = refl;
-      depth = refl;
+      around = record { outer = refl; depth = refl };
     })
     c.add_core_function.ensures.ok

@@ -1,4 +1,4 @@
-use Rattle.std.proofs.Common.{[], ◌∷◌, ◌++◌, refl, subst, arith}
+use Rattle.std.proofs.Common.{[], ◌∷◌, ◌++◌, refl, subst, arith, rules}
 use Rattle.smith_input.proofs.Loops.{begins, ends_early, ends_full, goes_on, stops}
 use Rattle.smith_input.proofs.Reading.{more_tail, tail_same, tail_trans}
 use Rattle.smith_format.specs.declared.config.Config.{Config}
@@ -26,17 +26,23 @@ returns-clause-reads c =
     let o = c.loop-done.invariant.onward in
     (o.0, ends_full _ _ _ _ _ _ o.0 _ _ _ c.loop-done-test.false o.1)
 
-pub returns-then-not-more-clause-tail : goal.returns-then-not-more-clause-tail
-returns-then-not-more-clause-tail c = tail_trans (more_tail c.more.ensures) c.loop-done.invariant.tail
+pub returns-then-not-more-clause-input : goal.returns-then-not-more-clause-input
+returns-then-not-more-clause-input c = record { tail = tail_trans (more_tail c.more.ensures) c.loop-done.invariant.tail; memory = tt }
 
 pub turn-requires : goal.turn-requires
 turn-requires c = record {
-  draft = (c.requires.draft.0, c.loop-done.invariant.drafts.draft c.requires.draft.0 c.requires.draft.1);
-  room = omega (arith, c.loop-done.invariant.few, c.requires.room, c.loop-done-test.true);
+  draft = record {
+    around = c.requires.draft.around;
+    is = c.loop-done.invariant.drafts.draft c.requires.draft.around c.requires.draft.is;
+    room = omega (arith, c.loop-done.invariant.few, c.requires.draft.room, c.loop-done-test.true);
+  };
 }
 
-pub returns-in_err-turn-clause-tail : goal.returns-in_err-turn-clause-tail
-returns-in_err-turn-clause-tail c = tail_trans c.turn.ensures.tail (tail_trans (more_tail c.more.ensures) c.loop-done.invariant.tail)
+pub returns-in_err-turn-clause-input : goal.returns-in_err-turn-clause-input
+returns-in_err-turn-clause-input c = record {
+  tail = tail_trans c.turn.ensures.input.tail (tail_trans (more_tail c.more.ensures) c.loop-done.invariant.tail);
+  memory = search rules;
+}
 
 pub returns-then-not-branch-clause-reads : goal.returns-then-not-branch-clause-reads
 returns-then-not-branch-clause-reads c =
@@ -51,8 +57,11 @@ returns-then-not-branch-clause-reads c =
 pub returns-then-not-branch-clause-drafts : goal.returns-then-not-branch-clause-drafts
 returns-then-not-branch-clause-drafts c = drafts_then c.loop-done.invariant.drafts c.in_ok-turn.ensures.drafts
 
-pub returns-then-not-branch-clause-tail : goal.returns-then-not-branch-clause-tail
-returns-then-not-branch-clause-tail c = tail_trans c.turn.ensures.tail (tail_trans (more_tail c.more.ensures) c.loop-done.invariant.tail)
+pub returns-then-not-branch-clause-input : goal.returns-then-not-branch-clause-input
+returns-then-not-branch-clause-input c = record {
+  tail = tail_trans c.turn.ensures.input.tail (tail_trans (more_tail c.more.ensures) c.loop-done.invariant.tail);
+  memory = tt;
+}
 
 pub loop-done-preserved : goal.loop-done-preserved
 loop-done-preserved c =
@@ -65,7 +74,7 @@ loop-done-preserved c =
     let turn = drafted_turn c.args.self.now.config.now s next c.more.new.self c.turn.new.u c.in_ok-turn.field-0 c.if-not-branch.false
     (subst D i.loans.config e.reads) in
     record {
-      tail = tail_trans c.turn.ensures.tail (tail_trans (more_tail c.more.ensures) i.tail);
+      tail = tail_trans c.turn.ensures.input.tail (tail_trans (more_tail c.more.ensures) i.tail);
       loans = loans_then i.loans c.turn.ensures.loans;
       drafts = drafts_then i.drafts e.drafts;
       few = omega (arith, i.few, turn_functions c.args.self.now.config.now s c.more.new.self turn.0 c.turn.new.u next turn.1);

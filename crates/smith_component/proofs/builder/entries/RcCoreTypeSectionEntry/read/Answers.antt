@@ -1,4 +1,4 @@
-use Rattle.std.proofs.Common.{◌∷◌, [], ℕ, length, length-append, map, ap, subst, ◌∙◌, arith}
+use Rattle.std.proofs.Common.{◌∷◌, [], ℕ, length, length-append, map, ap, subst, ◌∙◌, arith, rules}
 use Rattle.smith_scopes.specs.Scopes.{AddsSized, last_of, own_marked}
 use Rattle.smith_syntax.specs.Scope.{Scope}
 use Rattle.smith_syntax.specs.Shown.{shown_core, shown_shared_core}
@@ -34,7 +34,7 @@ returns-clause-read c =
     let M : Scope → Type 0 = λ s. MadeCore c.args.config.now s c.args.u.now c.args.config.now.max_type_size (shown_shared_core c.in_ok-made.made)
     c.arbitrary_core_type.new.u c.arbitrary_core_type.new.fuel in
     let K : Scope → Type 0 = λ s. KeepsAliased s.core_types c.in_ok-made.made.value in
-    ((c.arbitrary_core_type.new.fuel, subst M own c.in_ok-made.ensures.made, (grows c).own), subst K own c.in_ok-made.ensures.kept)
+    ((c.arbitrary_core_type.new.fuel, subst M own c.in_ok-made.ensures.made.made, (grows c).own), subst K own c.in_ok-made.ensures.made.kept)
 
 pub returns-clause-count : goal.returns-clause-count
 returns-clause-count c = omega (
@@ -43,23 +43,20 @@ returns-clause-count c = omega (
   length-append (own_marked c.args.scopes.now).core_types (shown_shared_core c.in_ok-made.made ∷ []),
 )
 
-pub returns-clause-outer : goal.returns-clause-outer
-returns-clause-outer c = (grows c).outer
+pub returns-clause-around : goal.returns-clause-around
+returns-clause-around c = record { outer = (grows c).outer; depth = length-changed _ _ _ (pushed c) }
 
-pub returns-clause-depth : goal.returns-clause-depth
-returns-clause-depth c = length-changed _ _ _ (pushed c)
+pub returns-in_err-made-clause-input : goal.returns-in_err-made-clause-input
+returns-in_err-made-clause-input c = record { tail = c.arbitrary_core_type.ensures.input.tail; memory = search rules }
 
-pub returns-in_err-made-clause-tail : goal.returns-in_err-made-clause-tail
-returns-in_err-made-clause-tail c = c.arbitrary_core_type.ensures.tail
+pub returns-in_err-size-clause-input : goal.returns-in_err-size-clause-input
+returns-in_err-size-clause-input c = record { tail = c.arbitrary_core_type.ensures.input.tail; memory = search rules }
 
-pub returns-in_err-size-clause-tail : goal.returns-in_err-size-clause-tail
-returns-in_err-size-clause-tail c = c.arbitrary_core_type.ensures.tail
+pub returns-in_err-clone-clause-input : goal.returns-in_err-clone-clause-input
+returns-in_err-clone-clause-input c = record { tail = c.arbitrary_core_type.ensures.input.tail; memory = search rules }
 
-pub returns-in_err-clone-clause-tail : goal.returns-in_err-clone-clause-tail
-returns-in_err-clone-clause-tail c = c.arbitrary_core_type.ensures.tail
+pub returns-in_err-push_sized-clause-input : goal.returns-in_err-push_sized-clause-input
+returns-in_err-push_sized-clause-input c = record { tail = c.arbitrary_core_type.ensures.input.tail; memory = search rules }
 
-pub returns-in_err-push_sized-clause-tail : goal.returns-in_err-push_sized-clause-tail
-returns-in_err-push_sized-clause-tail c = c.arbitrary_core_type.ensures.tail
-
-pub returns-clause-tail : goal.returns-clause-tail
-returns-clause-tail c = c.arbitrary_core_type.ensures.tail
+pub returns-clause-input : goal.returns-clause-input
+returns-clause-input c = record { tail = c.arbitrary_core_type.ensures.input.tail; memory = tt }

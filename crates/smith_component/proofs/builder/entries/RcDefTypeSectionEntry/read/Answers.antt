@@ -1,4 +1,4 @@
-use Rattle.std.proofs.Common.{◌∷◌, [], List, length, length-append, ap, subst, arith}
+use Rattle.std.proofs.Common.{◌∷◌, [], List, length, length-append, ap, subst, arith, rules}
 use Rattle.smith_scopes.specs.Scopes.{AddsMarked, Contents, outer_marked, own_marked}
 use Rattle.smith_syntax.specs.Shown.{shown_shared}
 use Rattle.smith_syntax.specs.declared.deftype.DefType.{DefType}
@@ -30,7 +30,7 @@ grows c =
     type_added c.args.scopes.now c.push_marked.new.self c.in_ok-made.made.value c.in_ok-made.mark (pushed c) c.in_ok-made.ensures.mark
 
 pub returns-clause-read : goal.returns-clause-read
-returns-clause-read c = (c.arbitrary_marked_type.new.fuel, c.in_ok-made.ensures.made, (grows c).own)
+returns-clause-read c = (c.arbitrary_marked_type.new.fuel, c.in_ok-made.ensures.made.made, (grows c).own)
 
 pub returns-clause-count : goal.returns-clause-count
 returns-clause-count c = omega (
@@ -39,20 +39,17 @@ returns-clause-count c = omega (
   length-append (own_marked c.args.scopes.now).types (shown_shared c.in_ok-made.made ∷ []),
 )
 
-pub returns-clause-outer : goal.returns-clause-outer
-returns-clause-outer c = (grows c).outer
+pub returns-clause-around : goal.returns-clause-around
+returns-clause-around c = record { outer = (grows c).outer; depth = length-changed _ _ _ (pushed c) }
 
-pub returns-clause-depth : goal.returns-clause-depth
-returns-clause-depth c = length-changed _ _ _ (pushed c)
+pub returns-in_err-made-clause-input : goal.returns-in_err-made-clause-input
+returns-in_err-made-clause-input c = record { tail = c.arbitrary_marked_type.ensures.input.tail; memory = search rules }
 
-pub returns-in_err-made-clause-tail : goal.returns-in_err-made-clause-tail
-returns-in_err-made-clause-tail c = c.arbitrary_marked_type.ensures.tail
+pub returns-in_err-clone-clause-input : goal.returns-in_err-clone-clause-input
+returns-in_err-clone-clause-input c = record { tail = c.arbitrary_marked_type.ensures.input.tail; memory = search rules }
 
-pub returns-in_err-clone-clause-tail : goal.returns-in_err-clone-clause-tail
-returns-in_err-clone-clause-tail c = c.arbitrary_marked_type.ensures.tail
+pub returns-in_err-push_marked-clause-input : goal.returns-in_err-push_marked-clause-input
+returns-in_err-push_marked-clause-input c = record { tail = c.arbitrary_marked_type.ensures.input.tail; memory = search rules }
 
-pub returns-in_err-push_marked-clause-tail : goal.returns-in_err-push_marked-clause-tail
-returns-in_err-push_marked-clause-tail c = c.arbitrary_marked_type.ensures.tail
-
-pub returns-clause-tail : goal.returns-clause-tail
-returns-clause-tail c = c.arbitrary_marked_type.ensures.tail
+pub returns-clause-input : goal.returns-clause-input
+returns-clause-input c = record { tail = c.arbitrary_marked_type.ensures.input.tail; memory = tt }
