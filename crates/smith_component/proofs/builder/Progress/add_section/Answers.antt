@@ -43,6 +43,7 @@ returns c =
     let tabled = is_tabled_added b.inner c.push.new.self c.args.section c.in_ok-push.ensures.items c.push.ensures.tables (ap (λ s. s.functions) same)
     (ap (λ s. s.core_functions) same) q.imports q.canons q.exports i.1.0 in
     record {
-      grows = grows b b.scopes _ c.push.new.self (c.args.section ∷ []) i c.in_ok-push.ensures.items sound own (record { outer = refl; depth = refl }) totalled tabled;
+      grows = grows b b.scopes _ c.push.new.self (c.args.section ∷ []) i c.in_ok-push.ensures.items sound own
+          (record { outer = refl; depth = refl }) totalled tabled;
       last = c.in_ok-push.ensures.items;
     }
