@@ -82,8 +82,7 @@ pub fn refuse_ill_formed(
     fault: &Fault,
 ) -> ExitCode {
     let rule = fault.rule;
-    let place = &fault.place;
-    match offset_of(rt.alloc(), bytes, &place.sections, place.entry) {
+    match offset_of(rt.alloc(), bytes, fault.item) {
         Ok(offset) => refuse(rt, path, &Verdict::IllFormed { rule, offset }, REFUSED),
         Err(_) => refuse(rt, path, &"out of memory", REFUSED),
     }

@@ -2,4 +2,3 @@ pub mod Limits
 pub mod Makes
 pub mod Reduces
 pub mod Scripts
-pub mod Status

@@ -11,7 +11,7 @@ use Rattle.smith_script.specs.IsScript.{CannotBeGenerated, IsScript}
 use Rattle.smith_script.specs.declared.error.ScriptError.{ScriptError}
 use Rattle.smith_script.specs.declared.error.ScriptError.TheVariants as refusal
 use Rattle.smith_c.specs.Limits.{limits_of}
-use Rattle.smith_c.specs.Status.{no_offset}
+use Rattle.smith_c.specs.Makes.{no_offset}
 use Rattle.smith_c.specs.declared.limits.Limits.{Limits}
 use Rattle.smith_c.specs.declared.status.Status.{Status}
 use Rattle.smith_c.specs.declared.status.Status.TheVariants.{Answered, Refused, NoRoom, BadFlag, IllFormed, Unread, NoScript, NoSmaller}

@@ -7,7 +7,7 @@ ghost use Rattle.smith_tree.specs.Tree.{Tree};
 ghost use Rattle.smith_tree.specs.WellFormed.{WellFormed};
 ghost use Rattle.smith_read.specs.Reads.{AreUnread, most_depth};
 ghost use Rattle.smith_verdict.specs.Verdicts.{IsBrokenAt};
-ghost use Rattle.smith_c.specs.Status.{code_of, no_offset};
+ghost use Rattle.smith_c.specs.Makes.{code_of, no_offset};
 ghost use Rattle.smith_c.specs.declared.status.Status.TheVariants.{Answered, Refused, IllFormed, Unread};
 ghost use Rattle.smith_input.specs.declared.error.Error.TheVariants.{OutOfMemory};
 

@@ -8,7 +8,7 @@ ghost use Rattle.smith_tree.specs.Script.{Within, script};
 ghost use Rattle.smith_tree.specs.Tree.{Tree};
 ghost use Rattle.smith_c.specs.Limits.{limits_of};
 ghost use Rattle.smith_c.specs.Makes.{Makes, Stops};
-ghost use Rattle.smith_c.specs.Status.{code_of};
+ghost use Rattle.smith_c.specs.Makes.{code_of};
 ghost use Rattle.smith_c.specs.declared.status.Status.{Status};
 ghost use Rattle.smith_c.specs.declared.status.Status.TheVariants.{Answered, NoRoom, Refused};
 ghost use Rattle.smith_input.specs.declared.error.Error.TheVariants.{OutOfMemory};

@@ -38,7 +38,7 @@ pub struct Limits {
     pub finish_after: usize,
 }
 
-// Whether a feature is on. Only 0 and 1 are flags.
+// Whether a feature is on: 0 or 1, and nothing else.
 fn flag(byte: u8) -> Option<bool>
     ensures told { IfSome result (λ on. byte ≡ byte_of on) }
     ensures untold { result ≡ None → (on : _) → byte ≢ byte_of on }

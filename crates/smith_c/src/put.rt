@@ -1,7 +1,7 @@
 //! Bytes that are written to memory of the caller's.
 
 ghost use Rattle.std.specs.Prelude.{◌≡◌, ◌≢◌, ◌<◌, ◌≤◌, ◌⊎◌, length, take, drop};
-ghost use Rattle.smith_c.specs.Status.{code_of};
+ghost use Rattle.smith_c.specs.Makes.{code_of};
 ghost use Rattle.smith_c.specs.declared.status.Status.TheVariants.{Answered, NoRoom};
 
 use crate::status::Status;

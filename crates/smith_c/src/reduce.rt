@@ -7,7 +7,7 @@ ghost use Rattle.smith_reduce.specs.Bytes.{AreJoined};
 ghost use Rattle.smith_c.specs.Reduces.{AreUnjoined, IsNextSmaller, IsSmaller, Lacks, LacksWithin, Reduces};
 ghost use Rattle.smith_c.specs.Reduces.{ReducesNext, Removes, Unreduced};
 ghost use Rattle.smith_c.specs.Reduces.{found, status_of, status_of_join};
-ghost use Rattle.smith_c.specs.Status.{code_of};
+ghost use Rattle.smith_c.specs.Makes.{code_of};
 ghost use Rattle.smith_c.specs.declared.status.Status.{Status};
 ghost use Rattle.smith_c.specs.declared.status.Status.TheVariants.{Answered, NoRoom};
 

@@ -1,7 +1,7 @@
 //! What a call returns in C.
 
 ghost use Rattle.std.specs.Prelude.{◌≡◌};
-ghost use Rattle.smith_c.specs.Status.{code_of};
+ghost use Rattle.smith_c.specs.Makes.{code_of};
 
 use smith_input::Error;
 

@@ -4,7 +4,7 @@ ghost use Rattle.std.specs.Prelude.{◌≡◌, ◌≢◌};
 ghost use Rattle.smith_format.specs.declared.config.Config.{Config};
 ghost use Rattle.smith_swarm.specs.Swarm.{front_len, swarmed};
 ghost use Rattle.smith_c.specs.Limits.{limits_of};
-ghost use Rattle.smith_c.specs.Status.{code_of};
+ghost use Rattle.smith_c.specs.Makes.{code_of};
 ghost use Rattle.smith_c.specs.declared.status.Status.TheVariants.{Answered, BadFlag};
 
 use crate::limits::Limits;

@@ -1,12 +1,12 @@
 -- What a judgement says.
 use Rattle.smith_tree.specs.Tree.{Tree}
 use Rattle.smith_tree.specs.WellFormed.{WellFormed}
-use Rattle.smith_check.specs.Upto.{StopsAt}
+use Rattle.smith_read.specs.Items.{StopsAt}
 use Rattle.smith_check.specs.declared.error.Judgement.{Judgement}
 use Rattle.smith_check.specs.declared.error.Judgement.TheVariants as judgement
 
--- It is `WellFormed` exactly if the component is well formed, and `IllFormed` exactly if it is not, with the place of
--- an entry: what precedes it is well formed, and what ends with it is not.
+-- It is `WellFormed` exactly if the component is well formed, and `IllFormed` exactly if it is not, with the number of
+-- an item: what precedes it is well formed, and what ends with it is not.
 abbrev pub Agrees : Tree → Judgement → Type 0
 Agrees t judgement.WellFormed = WellFormed t
-Agrees t (judgement.IllFormed fault) = (¬ WellFormed t) × StopsAt WellFormed fault.place.sections.items fault.place.entry t
+Agrees t (judgement.IllFormed fault) = (¬ WellFormed t) × StopsAt WellFormed fault.item t

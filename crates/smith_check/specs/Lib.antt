@@ -1,6 +1,5 @@
 pub mod Judgement
 pub mod Judges
 pub mod Preceding
+pub mod Stepping
 pub mod Taken
-pub mod Tracks
-pub mod Upto

@@ -1,14 +1,11 @@
--- What there is before a place.
-use Rattle.std.specs.Prelude.{◌≡◌, List, [], map}
+-- What precedes a place in a component, as far as it is judged by that.
+use Rattle.std.specs.Prelude.{◌≡◌, ℕ, List, [], map}
 use Rattle.smith_format.specs.CoreTypes.{Function}
 use Rattle.smith_format.specs.Shown.{shown_func}
 use Rattle.smith_format.specs.declared.types.FuncType.{FuncType}
 use Rattle.std.specs.Borrow.{Bor}
 use Rattle.smith_syntax.specs.Scope.{Scope as PlainScope}
-use Rattle.smith_tree.specs.Functions.{core_functions_of, functions_of}
-use Rattle.smith_tree.specs.Spaces.{Spaces}
-use Rattle.smith_tree.specs.Tree.{Tree, exports_of, imports_of}
-use Rattle.smith_tree.specs.WellFormed.{export_names, import_names, scope_of}
+use Rattle.smith_tree.specs.Spaces.{Spaces, no_spaces}
 use Rattle.smith_check.specs.Taken.{Knows}
 use Rattle.smith_check.specs.declared.open.Open.{Open}
 
@@ -20,17 +17,21 @@ functions_in fs = map (λ f. shown_func f.now) fs
 abbrev pub spaces_in : PlainScope → Open → Spaces
 spaces_in own o = record { types = own.types; core_types = own.core_types; functions = o.functions.items; core_functions = o.core_functions.items }
 
--- Nothing is in it.
-pub record IsEmptyOpen (o : Open) : Type 0 where
-  pub functions : o.functions.items ≡ []
-  pub core_functions : o.core_functions.items ≡ []
-  pub imports : Knows o.imports []
-  pub exports : Knows o.exports []
+-- The index spaces of a component so far, and the names of its imports and of its exports.
+pub record Scene : Type 0 where
+  pub spaces : Spaces
+  pub imports : List (List ℕ)
+  pub exports : List (List ℕ)
 
--- An open component after these parts, which are well named.
-pub record IsAfter (before : Tree) (own : PlainScope) (o : Open) : Type 0 where
-  pub scope : own ≡ scope_of before
-  pub functions : o.functions.items ≡ functions_of before
-  pub core_functions : o.core_functions.items ≡ core_functions_of before
-  pub imports : Knows o.imports (import_names (imports_of before))
-  pub exports : Knows o.exports (export_names (exports_of before))
+abbrev pub empty_scene : Scene
+empty_scene = record { spaces = no_spaces; imports = []; exports = [] }
+
+abbrev pub scope_at : Scene → PlainScope
+scope_at s = record { types = s.spaces.types; core_types = s.spaces.core_types }
+
+-- An open component has these functions, and these names, which are well named.
+pub record IsAt (o : Open) (s : Scene) : Type 0 where
+  pub functions : o.functions.items ≡ s.spaces.functions
+  pub core_functions : o.core_functions.items ≡ s.spaces.core_functions
+  pub imports : Knows o.imports s.imports
+  pub exports : Knows o.exports s.exports

@@ -74,26 +74,19 @@ pub enum Rule {
     NotFlat,
 }
 
-/// The place of an entry: an index of a section of the component, then of a section in the component of that
-/// section, and so on; and an index of an entry in the last of these. All count from 0.
-///
-/// As text: `section 2.0, entry 3`.
-#[derive(Debug, PartialEq, Eq, Drop)]
-pub struct Place {
-    pub sections: Vec<usize>,
-    pub entry: usize,
-}
-
-/// Why a component is not well formed: the first rule that it breaks, and the place of the entry that breaks it. Which
+/// Why a component is not well formed: the first rule that it breaks, and the number of the item that breaks it. Which
 /// rule it is, no contract says.
-#[derive(Debug, PartialEq, Eq, Drop)]
+///
+/// Items count from 0, in the order of the bytes: each custom section, each core module, the beginning of each
+/// component in this one, and each entry of a section that is a list.
+#[derive(Clone, Copy, Debug, PartialEq, Eq)]
 pub struct Fault {
-    pub place: Place,
+    pub item: usize,
     pub rule: Rule,
 }
 
 /// Whether a component is well formed.
-#[derive(Debug, PartialEq, Eq, Drop)]
+#[derive(Clone, Copy, Debug, PartialEq, Eq)]
 pub enum Judgement {
     WellFormed,
     IllFormed(Fault),

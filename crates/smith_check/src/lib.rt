@@ -2,17 +2,16 @@
 #![tactic(auto)]
 
 mod canons;
+mod check;
+mod entries;
 mod error;
 mod modules;
 mod names;
 mod open;
-mod parts;
 mod references;
-mod sections;
-mod track;
 mod types;
 mod values;
+mod walk;
 
-pub use error::{Fault, Judgement, Place, Rule};
-pub use parts::judged;
-pub use track::Track;
+pub use error::{Fault, Judgement, Rule};
+pub use walk::judged;

@@ -1,6 +1,6 @@
 //! An open component without its types.
 
-ghost use Rattle.smith_check.specs.Preceding.{IsEmptyOpen};
+ghost use Rattle.smith_check.specs.Preceding.{IsAt, empty_scene};
 
 use crate::names::Names;
 use std::alloc::Global;
@@ -18,7 +18,7 @@ pub(crate) struct Open<'a> {
 impl<'a> Open<'a> {
     /// An empty one.
     pub(crate) fn new(alloc: Global) -> Open<'a>
-        ensures { IsEmptyOpen result }
+        ensures { IsAt result empty_scene }
     {
         Open {
             functions: Vec::new(alloc),

@@ -47,7 +47,7 @@ use Rattle.smith_component.specs.Tables.{AddsCoreFunction, AddsFunction, IsLower
 use Rattle.smith_tree.specs.Marking.{marked_in, marked_inner, with_type_entry}
 use Rattle.smith_tree.specs.Spaces.{spaces_of}
 use Rattle.smith_tree.specs.Functions.{core_functions_of}
-use Rattle.smith_tree.specs.Tree.{Tree, Canon, add, canons, exports_of, types, lift, lower, function_count}
+use Rattle.smith_tree.specs.Tree.{Tree, Canon, add, canons, exports_in, exports_of, types, lift, lower, function_count}
 use Rattle.smith_tree.specs.WellFormed.{scope_of}
 use Rattle.smith_component.specs.declared.builder.canonicals.CanonicalDraft.{CanonicalDraft}
 use Rattle.smith_component.specs.declared.builder.open.OpenComponent.{OpenComponent}
@@ -58,10 +58,10 @@ use Rattle.smith_component.specs.declared.component.Section.{Section}
 use Rattle.smith_tree.specs.declared.choices.CanonItem.{CanonItem}
 use Rattle.smith_component.proofs.ReadsCanons.{canon_count, empty_count, signature_count, spaces_signature, with_signature}
 use Rattle.smith_tree.proofs.Marking.{marked_add, scope_marked}
-use Rattle.smith_component.proofs.EntriesState.{around_then}
+use Rattle.smith_component.proofs.SectionsState.{around_then}
 use Rattle.smith_component.proofs.Growth.{spaces-add, spaces_canon}
-use Rattle.smith_component.proofs.Spaces.{IsScalarFunction, all_at, equal_at, equal_own, exports_canons, exports_types}
-use Rattle.smith_component.proofs.Tables.{scalar_at, tabled_core_function, tabled_function, tabled_quiet, tabled_types}
+use Rattle.smith_component.proofs.Spaces.{IsScalarFunction, all_at, equal_at, equal_own}
+use Rattle.smith_component.proofs.Tables.{own_bare, scalar_at, tabled_core_function, tabled_function, tabled_quiet, tabled_types}
 
 -- one more function in the section
 pub funcs_more : (old new : List Func) (f : Func) → new ≡ old ++ f ∷ [] → map shown_canon new ≡ map shown_canon old ++ shown_canon f ∷ []
@@ -69,37 +69,24 @@ funcs_more old new f e = ap (map shown_canon) e ∙ map-append shown_canon old (
 
 pub growing_more : (old new : OpenComponent) (fs gs : List Func) (f : Func) → new.sections.items ≡ old.sections.items → gs ≡ fs ++ f ∷ []
     → growing new gs ≡ with_canon (growing old fs) (shown_canon f)
-growing_more old new fs gs f e more =
-    let parts : shown_sections new.sections.items ≡ shown_sections old.sections.items = ap shown_sections e in
-    let funcs = funcs_more fs gs f more in
-    λ i. record { before = parts i; funcs = funcs i }
+growing_more old new fs gs f e more = grind (arith, funcs_more)
 
 -- The exports stay as they are.
 exports_canon : (s : Growing) (c : Canon) → exports_of (grown (with_canon s c)) ≡ exports_of (grown s)
-exports_canon s c = exports_canons s.before (s.funcs ++ c ∷ []) ∙ sym (exports_canons s.before s.funcs)
+exports_canon s c = own_bare exports_in s.before (canons (s.funcs ++ c ∷ [])) refl ∙ sym (own_bare exports_in s.before (canons s.funcs) refl)
 
 -- The tables, when the section has one more function.
 
 tabled_lower : {old new : Tables} (s : Growing) (f : ℕ) → IsScalarFunction (spaces_at s) f → Tabled old (grown s) → AddsCoreFunction old f new
     → Tabled new (grown (with_canon s (lower f)))
-tabled_lower s f scalar tabled adds =
-    let e = spaces_canon s.before s.funcs (lower f) in
-    tabled_core_function (grown s) (grown (with_canon s (lower f))) scalar tabled adds
-    (ap (λ z. z.types) e) (ap (λ z. z.functions) e) (ap (λ z. z.core_functions) e) (canon_count s (lower f)) (exports_canon s (lower f))
+tabled_lower s f scalar tabled adds = grind (arith, spaces_canon, tabled_core_function, canon_count, exports_canon)
 
 tabled_lift : {own : Scope} {old new : Tables} (s : Growing) (c t : ℕ) → own ≡ scope_of (grown s) → t < length own.types → Tabled old (grown s)
     → AddsFunction own 1 old t new → Tabled new (grown (with_canon s (lift c t)))
-tabled_lift {own} s c t is known tabled adds =
-    let e = spaces_canon s.before s.funcs (lift c t) in
-    tabled_function (grown s) (grown (with_canon s (lift c t))) is (omega (arith, known, ap (λ z. length z.types) is)) tabled adds
-    (ap (λ z. z.types) e) (ap (λ z. z.functions) e) (ap (λ z. z.core_functions) e) (canon_count s (lift c t)) (exports_canon s (lift c t))
+tabled_lift {own} s c t is known tabled adds = grind (arith, spaces_canon, tabled_function, canon_count, exports_canon)
 
 tabled_signature : {tables : Tables} (s : Growing) (signature : Signature) → Tabled tables (grown s) → Tabled tables (grown (with_signature s signature))
-tabled_signature s signature tabled =
-    let es : List Entry = function signature ∷ [] in
-    let e = spaces_signature s signature in
-    tabled_types (grown s) (grown (with_signature s signature)) es tabled (ap (λ z. z.types) e) (ap (λ z. z.functions) e) (ap (λ z. z.core_functions) e)
-    (signature_count s signature) (exports_canons (add (grown s) (types es)) [] ∙ exports_types (grown s) es)
+tabled_signature s signature tabled = grind (arith, spaces_signature, tabled_types, with_signature, signature_count, own_bare)
 
 -- What is kept of the component, when the section has one more function, and when a type and another section follow it.
 module _ (config : Config) (around : List Tree) where
@@ -112,9 +99,7 @@ module _ (config : Config) (around : List Tree) where
   pub marked_signature : (s : Growing) (signature : Signature)
       → marked_inner config around (grown (with_signature s signature)) ≡ with_type_entry (marked_in config around) (marked_inner config around (grown s))
       (function signature)
-  marked_signature s signature =
-      marked_section (with_signature s signature)
-      ∙ marked_add config (marked_in config around) (grown s) (types (function signature ∷ []))
+  marked_signature s signature = grind (arith, marked_section, with_signature, marked_add)
 
   -- the scope by itself
   own_is : (scopes : List Contents) (t : Tree) → own_marked scopes ≡ marked_inner config around t → own_scope scopes ≡ scope_of t
@@ -168,7 +153,7 @@ no_other t s e (inr (inl d)) = no_function (shown_type t) s (ap (λ x. is_func (
 no_other t s e (inr (inr d)) = no_function (shown_type t) s (ap (λ x. is_func (shown_type x)) d.1 ∙ ap (λ x. is_func (plain x)) (full_instance d.0)) e
 
 -- A type of the last scope, as a plain tree.
-type_shown : (scopes : List Contents) (i : ℕ) (ty : DefType) → slice_get (last_of scopes).types i ≡ Some ty
+pub type_shown : (scopes : List Contents) (i : ℕ) (ty : DefType) → slice_get (last_of scopes).types i ≡ Some ty
     → slice_get (own_scope scopes).types i ≡ Some (shown_type ty)
 type_shown scopes i ty at = ap (λ s. slice_get s.types i) (own_last scopes)
     ∙ (slice_get-map shown_type (last_of scopes).types i ∙ ap (option_map shown_type) at)
@@ -208,19 +193,7 @@ module _ (scopes : List Contents) (tables : Tables) (c i t : ℕ) (known : IsLow
       -- How the core function is lifted is read.
       pub lifts_as : (core : Function) (lowered signature : Signature) (b rest : List ℕ) → lowered ≡ f.value → Flattens lowered core
           → ReadsLiftedType core b signature rest → ReadsLiftedTypeOf (own_scope scopes) tables c b signature rest
-      lifts_as core lowered signature b rest e flat reads = record {
-        lowered = lowered;
-        core = core;
-        of = record {
-          f = known.1.f;
-          ty = known.1.ty;
-          lowers = known.1.lowers;
-          stands = known.1.stands;
-          is = known.1.is ∙ ap (λ s. Some (function s)) (sym (e ∙ lowered_is));
-        };
-        flattens = flat;
-        reads = reads;
-      }
+      lifts_as core lowered signature b rest e flat reads = grind (arith, lowered_is)
 
 -- What is known of a draft.
 module _ (draft : CanonicalDraft) (around : List Tree) (d : IsDraftIn around draft) where
@@ -370,12 +343,7 @@ pub defines : (s : Growing) (c t : ℕ) (signature : Signature) (middle last : T
     → middle ≡ add s.before (canons (map shown_canon ended)) → map shown_canon ended ≡ s.funcs → last ≡ add middle (types (map shown_shared entries))
     → entries ≡ shared ∷ [] → shown_type shared.value ≡ function signature → made ≡ CanonLift t c ∷ []
     → t ≡ length (spaces_at s).types → record { before = last; funcs = map shown_canon made } ≡ with_defined s c signature
-defines s c t signature middle last ended made entries shared a b e f g h index =
-    let es : map shown_shared entries ≡ function signature ∷ [] = ap (map shown_shared) f ∙ ap (λ x. x ∷ []) g in
-    let before : last ≡ add (grown s) (types (function signature ∷ [])) = e
-    ∙ (ap (λ z. add z (types (map shown_shared entries))) (a ∙ ap (λ fs. add s.before (canons fs)) b) ∙ ap (λ xs. add (grown s) (types xs)) es) in
-    let funcs : map shown_canon made ≡ lift c (length (spaces_at s).types) ∷ [] = ap (map shown_canon) h ∙ ap (λ n. lift c n ∷ []) index in
-    λ i. record { before = before i; funcs = funcs i }
+defines s c t signature middle last ended made entries shared a b e f g h index = grind arith
 
 -- Before the first turn the section is empty.
 
@@ -395,24 +363,19 @@ first_draft config around scopes component funcs consistent none is tabled =
       scope_is = is ∙ sym (ap (λ z. marked_inner config around (grown z)) same ∙ marked_section config around (empty_section t));
       tabled = subst (λ z. Tabled component.tables (grown z)) (sym same)
           (tabled_quiet t (add t (canons [])) tabled (ap (λ z. z.types) e) (ap (λ z. z.functions) e) (ap (λ z. z.core_functions) e) (empty_count t)
-          (exports_canons t []));
+          (own_bare exports_in t (canons []) refl));
     }
 
 pub first_count : (component : OpenComponent) (funcs : List Func) → funcs ≡ []
     → functions_at (spaces_at (growing component funcs)) ≡ functions_at (spaces_of (shown_sections component.sections.items))
-first_count component funcs none =
-    let t : Tree = shown_sections component.sections.items in
-    ap (λ z. functions_at (spaces_at z)) (first_growing component funcs none) ∙ ap functions_at (spaces-add t (canons []))
+first_count component funcs none = grind (arith, first_growing, spaces-add)
 
 -- All turns together.
 pub all_read : (config : Config) (least most : ℕ) (t : Tree) (first next : Growing) (b rest : List ℕ) → first ≡ empty_section t
     → most ≡ config.max_funcs - function_count t
     → (turns : List CanonItem) × Loop NoCanon (CanonTurn config) least most 0 first b turns rest next → (last : Tree) → last ≡ grown next
     → (turns : List CanonItem) × (next : Growing) × ReadsCanons config least t b turns rest next × (last ≡ grown next)
-all_read config least most t first next b rest e m (turns, l) last is =
-    let P : Growing → Type 0 = λ s. Loop NoCanon (CanonTurn config) least most 0 s b turns rest next in
-    let Q : ℕ → Type 0 = λ n. Loop NoCanon (CanonTurn config) least n 0 (empty_section t) b turns rest next in
-    (turns, next, subst Q m (subst P e l), is)
+all_read config least most t first next b rest e m (turns, l) last is = grind arith
 
 -- What was in front stays in front.
 
@@ -422,12 +385,7 @@ front_same old new e names =
     record { more = []; sections = e ∙ sym (append-nil old.sections.items); no_imports = refl; names = names }
 
 pub front_then : (old mid new : OpenComponent) → KeepsFront old mid → KeepsFront mid new → KeepsFront old new
-front_then old mid new f g = record {
-  more = f.more ++ g.more;
-  sections = g.sections ∙ (ap (λ xs. xs ++ g.more) f.sections ∙ append_assoc old.sections.items f.more g.more);
-  no_imports = flat_map-append externs_in f.more g.more ∙ (ap (λ xs. xs ++ externs_of g.more) f.no_imports ∙ g.no_imports);
-  names = g.names ∙ f.names;
-}
+front_then old mid new f g = grind (arith, append_assoc, flat_map-append)
 
 pub front_push : (old mid new : OpenComponent) (section : Section) → KeepsFront old mid → new.sections.items ≡ mid.sections.items ++ section ∷ []
     → externs_in section ≡ [] → new.tables.imports ≡ mid.tables.imports → KeepsFront old new
@@ -449,42 +407,21 @@ chosen_none ts signature named b rest None same none chosen = (ap (λ z. places 
 chosen_none ts signature named b rest (Some t) same none chosen = absurd (none t refl)
 
 pub drafts_none : (d : CanonicalDraft) → DraftsOn d d
-drafts_none d = record {
-  draft = λ around draft. draft;
-  front = front_same d.component.now d.component.now refl refl;
-  around = record { outer = refl; depth = refl };
-}
+drafts_none d = grind (arith, front_same)
 
 pub loans_then : {a b c : CanonicalDraft} → SameLoans a b → SameLoans b c → SameLoans a c
-loans_then f g = record {
-  config = g.config ∙ f.config;
-  scopes = g.scopes ∙ f.scopes;
-  component = g.component ∙ f.component;
-  funcs = g.funcs ∙ f.funcs;
-}
+loans_then f g = grind arith
 
 pub drafts_then : {a b c : CanonicalDraft} → DraftsOn a b → DraftsOn b c → DraftsOn a c
-drafts_then {a} {b} {c} f g = record {
-  draft = λ around d. g.draft around (f.draft around d);
-  front = front_then a.component.now b.component.now c.component.now f.front g.front;
-  around = around_then f.around g.around;
-}
+drafts_then {a} {b} {c} f g = grind (arith, front_then, around_then)
 
 -- A draft's names are those of its imports then.
 pub front_externs : (old new : OpenComponent) → KeepsFront old new → HoldsExterns old.tables.imports (externs_of old.sections.items)
     → HoldsExterns new.tables.imports (externs_of new.sections.items)
-front_externs old new f h =
-    let same : externs_of new.sections.items ≡ externs_of old.sections.items =
-    ap externs_of f.sections ∙ (flat_map-append externs_in old.sections.items f.more
-    ∙ (ap (λ xs. externs_of old.sections.items ++ xs) f.no_imports ∙ append-nil (externs_of old.sections.items))) in
-    subst (λ names. HoldsExterns names (externs_of new.sections.items)) (sym f.names) (subst (HoldsExterns old.tables.imports) (sym same) h)
+front_externs old new f h = grind (arith, flat_map-append, append-nil)
 
--- What a turn of the program is.
-
-pub drafted_ends : (config : Config) (s next : Growing) (b rest : List ℕ) (made : Bool) → made ≡ false → IsDrafted config s b made rest next
-    → NoCanon s b rest next
-drafted_ends config s next b rest made e d = subst (λ m. IsDrafted config s b m rest next) e d
-
-pub drafted_turn : (config : Config) (s next : Growing) (b rest : List ℕ) (made : Bool) → made ≡ true → IsDrafted config s b made rest next
-    → (item : CanonItem) × CanonTurn config s b item rest next
-drafted_turn config s next b rest made e d = subst (λ m. IsDrafted config s b m rest next) e d
+-- What a turn of the program is, by its answer.
+pub drafted : {k config : Config} (s next : Growing) (b rest : List ℕ) {made answer : Bool} → k ≡ config → made ≡ answer
+    → IsDrafted k s b made rest next → IsDrafted config s b answer rest next
+drafted {k} {config} s next b rest {made} {answer} same is d =
+    subst (λ m. IsDrafted config s b m rest next) is (subst (λ z. IsDrafted z s b made rest next) same d)

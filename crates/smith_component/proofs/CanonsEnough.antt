@@ -1,11 +1,8 @@
 -- Canonical sections make as many functions as they must, if one can be lowered and there is room for the types that lifts define.
-use Rattle.std.proofs.Common.{◌≡◌, ℕ, ◌+◌, ◌-◌, ◌<◌, ◌≤◌, Bool, true, false, List, [], ◌∷◌, length, length-append, sym, ap, ◌∙◌, subst, arith, ⊎_elim, nat_lt}
-use Rattle.std.proofs.lemmas.Bool.{cases_lt, false≢true}
+use Rattle.std.proofs.Common.{◌≡◌, ℕ, ◌+◌, ◌-◌, ◌<◌, ◌≤◌, Bool, true, false, List, [], ◌∷◌, length, length-append, sym, ap, ◌∙◌, subst, arith, nat_lt}
+use Rattle.std.proofs.lemmas.Bool.{false≢true}
 use Rattle.std.proofs.lemmas.Bool.Decides.{nat_tests}
-use Rattle.smith_input.specs.Loops.{Loop, no_more, by_itself, an_item}
-use Rattle.smith_input.specs.Reading.{More}
 use Rattle.smith_input.specs.Offers.{offers_of}
-use Rattle.smith_input.proofs.Reading.{more_within, more_past}
 use Rattle.smith_format.specs.declared.config.Config.{Config}
 use Rattle.smith_syntax.specs.Entries.{Entry, Signature, function}
 use Rattle.smith_component.specs.Canonicals.{Growing, grown, spaces_at, with_canon, with_defined, NoCanon, empty_section, ReadsCanons}
@@ -20,23 +17,8 @@ use Rattle.smith_component.proofs.Growth.{canon_keeps, spaces-add, spaces_canon}
 use Rattle.smith_component.proofs.Spaces.{Grounded, grounded_spaces, grounded_entries, grounded_canon, formed_names}
 use Rattle.smith_component.proofs.Spaces.{scalars_entries, scalars_grow}
 use Rattle.smith_component.proofs.ReadsCanons.{Defines, Turned, adds, defines, gives_up, turned, with_signature, spaces_signature, canon_count, signature_count}
+use Rattle.smith_component.proofs.Loops.{loop_reaches}
 use Rattle.smith_component.proofs.ReadsCanons.{empty_count, defined_canon}
-
--- A loop that can't end by itself makes as many turns as it must.
-
-more_done : {done least most : ℕ} {b rest : List ℕ} → least ≤ most → done ≤ most → More done least most b false rest → least ≤ done
-more_done {done} {least} {most} h few m = ⊎_elim (λ lt. more_past lt m) (λ le. omega arith) (cases_lt done most)
-
-module _ {S A : Type 0} {Ends : S → List ℕ → List ℕ → S → Type 0} {Item : S → List ℕ → A → List ℕ → S → Type 0} {least most : ℕ} (P : ℕ → S → Type 0) where
-  pub loop_reaches : ((n : ℕ) (s : S) (b r : List ℕ) (t : S) → P n s → Ends s b r t → ⊥)
-      → ((n : ℕ) (s : S) (b : List ℕ) (x : A) (r : List ℕ) (t : S) → n < most → P n s → Item s b x r t → P (n + 1) t) → least ≤ most
-      → (done : ℕ) (s : S) (b : List ℕ) (xs : List A) (rest : List ℕ) (t : S) → done ≤ most → P done s → Loop Ends Item least most done s b xs rest t
-      → (n : ℕ) × (least ≤ n) × P n t
-  loop_reaches never items o done s b xs rest t h p (no_more m e) = (done, more_done o h m, subst (P done) (sym e) p)
-  loop_reaches never items o done s b xs rest t h p (by_itself {mid = mid} m e) = absurd (never done s mid rest t p e)
-  loop_reaches never items o done s b xs rest u h p (an_item {t = t} {mid = mid} {after = after} {x = x} {xs = ys} m i l) =
-      let lt : done < most = more_within m in
-      loop_reaches never items o (done + 1) t after ys rest u (omega (arith, lt)) (items done s mid x after t lt p i) l
 
 -- All stays grounded.
 
@@ -117,6 +99,7 @@ module _ (config : Config) (least : ℕ) (t : Tree) where
         room = omega (arith, room, ap (λ z. length z.types) e);
         enough = omega (arith, empty_count t);
       } in
-      let all = loop_reaches (Filling config least t) filling_ends (λ n s b x q u lt p i. filling_turn n s u p (turned config s b x q u i)) few 0
+      let all = loop_reaches (Filling config least t) (λ n s b r u p e. absurd (filling_ends n s b r u p e))
+      (λ n s b x q u lt p i. filling_turn n s u p (turned config s b x q u i)) few 0
       (empty_section t) b turns rest next (omega arith) start r in
-      omega (arith, all.1, all.2.enough)
+      omega (arith, all.1, all.3.enough)

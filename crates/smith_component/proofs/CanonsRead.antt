@@ -72,9 +72,7 @@ module _ (config : Config) (s : Growing) where
       → ReadsAmong (canon_items (spaces_at s)) (script_among equal.eq (canon_items (spaces_at s)) item ++ (said ++ rest)) item (said ++ rest)
       → ReadsCanon config s item (said ++ rest) rest next → CanonTurn config s ((script_among equal.eq (canon_items (spaces_at s)) item ++ said) ++ rest) item
       rest next
-  turn_read item said rest next choice does =
-      subst (λ z. CanonTurn config s z item rest next) (sym (append_assoc (script_among equal.eq (canon_items (spaces_at s)) item) said rest))
-      (said ++ rest, choice, does)
+  turn_read item said rest next choice does = grind (arith, append_assoc)
 
   lower_read : (f : ℕ) (rest : List ℕ) → FormedCanon (spaces_at s) (lower f) → length (spaces_at s).functions ≤ 2 ^ 64
       → CanonTurn config s (script_canon (spaces_at s) (lower f) ++ rest) Lower rest (with_canon s (lower f))

@@ -18,9 +18,7 @@ use Rattle.smith_component.specs.declared.item.Counted.{Counted}
 use Rattle.smith_component.specs.declared.item.Counted.TheVariants as counted
 use Rattle.smith_tree.specs.declared.choices.Item.{Item}
 use Rattle.smith_tree.specs.declared.choices.Item.TheVariants.{Finish, Custom, CoreTypes, Types, Imports, Canonical, Module, Component, Exports}
-use Rattle.smith_component.proofs.CanonsSame.{canons_same}
-use Rattle.smith_component.proofs.ExportsSame.{exports_same}
-use Rattle.smith_component.proofs.ImportsSame.{imports_same}
+use Rattle.smith_component.proofs.SectionsSame.{canons_same, exports_same, imports_same}
 use Rattle.smith_component.proofs.ReadsCoreTypes.{core_types_same}
 use Rattle.smith_component.proofs.ReadsTypes.{types_same}
 use Rattle.smith_component.proofs.Turn.{closes_same}

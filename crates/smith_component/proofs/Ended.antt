@@ -7,16 +7,15 @@ use Rattle.smith_format.specs.Consistency.{IsConsistent}
 use Rattle.smith_format.specs.declared.config.Config.{Config}
 use Rattle.smith_tree.specs.Grammar.{Spells}
 use Rattle.smith_tree.specs.Limits.{Minima}
-use Rattle.smith_tree.specs.Open.{Open, with_inner}
+use Rattle.smith_tree.specs.Open.{Open}
 use Rattle.smith_tree.specs.Readable.{AreFinishable, CanBeGenerated}
 use Rattle.smith_tree.specs.Script.{script_from, script_item}
 use Rattle.smith_tree.specs.Tree.{Part, Tree, add, component, components_in, ends, first, inside, own}
 use Rattle.smith_tree.specs.declared.choices.Item.TheVariants.{Component, Finish}
 use Rattle.smith_component.specs.ButLast.{AreFinishableButLast}
 use Rattle.smith_component.specs.ButLast as but_last
-use Rattle.smith_component.specs.Counted.{minimum_of}
+use Rattle.smith_component.specs.Fills.{minimum_of, Fills, FillsAll}
 use Rattle.smith_component.specs.Ended.{AreFinishedOrOpen, around, innermost}
-use Rattle.smith_component.specs.Fills.{Fills, FillsAll}
 use Rattle.smith_component.specs.Runs.{RunsTo, Turns}
 use Rattle.smith_component.specs.Turn.{Closes, Next, Turn, answered, building}
 use Rattle.smith_component.specs.declared.item.Counted.{Counted}
@@ -25,8 +24,7 @@ use Rattle.smith_component.proofs.PartsRead.{fills_nothing}
 use Rattle.smith_component.proofs.Planned.{tree_stands}
 use Rattle.smith_component.proofs.Reach.{Ends, Known, Leads, all_end, known_behind, known_inside, known_plan, reach_parts, script_parts, script_parts-add}
 use Rattle.smith_component.proofs.Reach.{script_split, turn_leads, with_next}
-use Rattle.smith_component.proofs.RunsButLast.{done_late, done_own, own_done}
-use Rattle.smith_component.proofs.RunsEnd.{IsKept, run_keeps}
+use Rattle.smith_component.proofs.RunsButLast.{done_late, done_own, own_done, IsKept, run_keeps}
 use Rattle.smith_component.proofs.RunsReadable.{runs_come}
 use Rattle.smith_component.proofs.RunsTo.{runs_to}
 use Rattle.smith_component.proofs.Script.{offered_from, opening_turn}
@@ -44,10 +42,7 @@ fills_same what config stack b t rest none (inr (lacks, adds)) = absurd (omega (
 
 module _ (config : Config) (no_types : config.min_types ≡ 0) (no_imports : config.min_imports ≡ 0) (no_funcs : config.min_funcs ≡ 0) where
   filled_same : (stack : Open) (b : List ℕ) (full : Tree) (rest : List ℕ) → FillsAll config stack b full rest → full ≡ stack.inner
-  filled_same stack b full rest f =
-      fills_same counted.Functions config (with_inner stack f.imported) f.low full rest no_funcs f.functions
-      ∙ fills_same counted.Imports config (with_inner stack f.typed) f.mid f.imported f.low no_imports f.imports
-      ∙ fills_same counted.Types config stack b f.typed f.mid no_types f.types
+  filled_same stack b full rest f = grind (arith, fills_same)
 
   open_kept : IsKept config (AreFinishedOrOpen config)
   open_kept = record {

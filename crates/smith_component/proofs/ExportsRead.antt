@@ -31,6 +31,12 @@ use Rattle.smith_component.proofs.Marks.{exports_marked, exports_marked_more}
 use Rattle.smith_component.proofs.Named.{named_behind, names_with_more}
 use Rattle.smith_component.proofs.Tree.{function_count-add, length-own-add}
 
+-- No more functions are there than are counted and exported.
+pub few_functions : (t : Tree) (s : List ExportEntry) → function_count t + (length (exports_of t) + length s) ≤ 2 ^ 64
+    → length (functions_of (with_exports t s)) ≤ 2 ^ 64
+few_functions t s h =
+    omega (arith, h, (functions_counted (with_exports t s)).most, function_count-add t (exports s), length-own-add exports_in t (exports s))
+
 module _ (config : Config) (outer : List Tree) (t : Tree) where
   -- the names of the component's exports and of these
   abbrev names_at : List ExportEntry → List (List ℕ)
@@ -66,19 +72,13 @@ module _ (config : Config) (outer : List Tree) (t : Tree) where
         next_is = refl;
       })
 
-  -- No more functions are there than are counted and exported.
-  few_functions : (s : List ExportEntry) → function_count t + (length (exports_of t) + length s) ≤ 2 ^ 64
-      → length (functions_of (with_exports t s)) ≤ 2 ^ 64
-  few_functions s h =
-      omega (arith, h, (functions_counted (with_exports t s)).most, function_count-add t (exports s), length-own-add exports_in t (exports s))
-
   all_sayable : (s xs : List ExportEntry) → AreReachable 100 (names_at s) (export_names xs) → FormedExports xs (spaces_of (with_exports t s))
       → AllByRecursion Kebab (export_names xs)
       → OfferedExports xs (spaces_of (with_exports t s)) (marked_inner config outer (with_exports t s))
       → function_count t + (length (exports_of t) + (length s + length xs)) ≤ 2 ^ 64 → Along Sayable (λ u x. u ++ x ∷ []) s xs
   all_sayable s [] p f k o h = tt
   all_sayable s (x ∷ xs) p f k o h = (
-    record { reachable = p.0; lasts = o.0; stands = f.0; few = few_functions s (omega (arith, h)); kebab = k.0 },
+    record { reachable = p.0; lasts = o.0; stands = f.0; few = few_functions t s (omega (arith, h)); kebab = k.0 },
     all_sayable (s ++ x ∷ []) xs
         (subst (λ z. AreReachable 100 z (export_names xs)) (sym (names_with_more (λ (e : ExportEntry). e.name) (exports_of t) s x)) p.1)
         (subst (FormedExports xs) (sym (spaces_export t s x)) f.1) k.1

@@ -9,13 +9,12 @@ use Rattle.smith_syntax.specs.Marks.{room_size, small_size}
 use Rattle.smith_tree.proofs.Marking.{marked_add}
 use Rattle.smith_tree.specs.Marking.{marked_in, marked_inner, with_type_entry}
 use Rattle.smith_tree.specs.Offers.{scalar_functions}
-use Rattle.smith_component.specs.Counted.{count_of, minimum_of}
+use Rattle.smith_component.specs.Fills.{count_of, minimum_of, Fills, Lacks, of_imports, of_functions}
 use Rattle.smith_component.specs.Filling.{CanFill, missing_imports}
 use Rattle.smith_tree.specs.Open.{Open, with_inner}
 use Rattle.smith_component.specs.Tables.{IsGrounded}
 use Rattle.smith_tree.specs.Spaces.{spaces_of, types_of}
 use Rattle.smith_tree.specs.Tree.{Tree, types, imports, add, imports_of, imports_in, function_count}
-use Rattle.smith_component.specs.Fills.{Fills, Lacks, of_imports, of_functions}
 use Rattle.smith_component.specs.declared.item.Counted.{Counted}
 use Rattle.smith_component.specs.declared.item.Counted.TheVariants as counted
 use Rattle.smith_component.proofs.CanonsEnough.{canons_enough}
@@ -38,11 +37,7 @@ module _ (config : Config) where
       → config.min_imports ≤ length (imports_of stack.inner)
       → Fills counted.Types config stack b typed mid → Fills counted.Imports config (with_inner stack typed) mid imported low
       → (imported ≡ stack.inner) × (low ≡ b)
-  neither stack b typed mid imported low few_types few_imports ts is =
-      let t = fill_none counted.Types config stack b typed mid few_types ts in
-      let few : config.min_imports ≤ length (imports_of typed) = subst (λ x. config.min_imports ≤ length (imports_of x)) (sym t.0) few_imports in
-      let i = fill_none counted.Imports config (with_inner stack typed) mid imported low few is in
-      (i.0 ∙ t.0, i.1 ∙ t.1)
+  neither stack b typed mid imported low few_types few_imports ts is = grind (arith, fill_none)
 
 -- Types that are filled add no import and no function, and what could be imported still can.
 record IsTyped (config : Config) (outer : List Tree) (old new : Tree) : Type 0 where
@@ -134,10 +129,7 @@ filled_functions : (config : Config) (stack : Open) (b : List ℕ) (full : Tree)
     → length (types_of stack.inner) + (config.min_funcs - function_count stack.inner) ≤ config.max_types → Fills counted.Functions config stack b full rest
     → function_count full < config.min_funcs → ⊥
 filled_functions config stack b full rest consistent grounded some room (inl (few, e, l)) less = omega (arith, few, less, ap (λ t. function_count t) e)
-filled_functions config stack b full rest consistent grounded some room (inr (lacks, (turns, next, reads, e))) less =
-    let enough = canons_enough config (config.min_funcs - function_count stack.inner) stack.inner reads grounded (omega (arith, consistent.funcs_cross)) some
-    room in
-    omega (arith, enough, less, ap (λ t. function_count t) e)
+filled_functions config stack b full rest consistent grounded some room (inr (lacks, (turns, next, reads, e))) less = grind (arith, canons_enough)
 
 -- Nothing is missing if it can be filled.
 pub filled_surely : (config : Config) (stack : Open) (b rest : List ℕ) → Sound config stack → IsGrounded stack.inner

@@ -1,5 +1,5 @@
 -- What filling produces, and builders that follow one another.
-use Rattle.std.proofs.Common.{◌≡◌, ℕ, ◌-◌, ◌≤◌, List, [], ◌∷◌, ◌++◌, length, map, arith, ap, sym, subst, ◌∙◌, inl, inr, append_assoc, length-append, Result}
+use Rattle.std.proofs.Common.{◌≡◌, ℕ, ◌-◌, ◌≤◌, List, [], ◌∷◌, ◌++◌, length, arith, ap, sym, ◌∙◌, inl, inr, append_assoc, length-append, Result}
 use Rattle.std.proofs.Common.{IfErr, IfOk, Err, Ok}
 use Rattle.std.proofs.lemmas.Result.{err_from_is_err_and}
 use Rattle.std.specs.Result.{IsErrAnd}
@@ -8,7 +8,6 @@ use Rattle.smith_format.specs.Consistency.{IsConsistent}
 use Rattle.smith_format.specs.declared.config.Config.{Config}
 use Rattle.smith_component.specs.Building.{Building, open_of}
 use Rattle.smith_tree.specs.Limits.{Minima}
-use Rattle.smith_tree.specs.Marking.{marked_in}
 use Rattle.smith_tree.specs.Open.{Open, with_inner}
 use Rattle.smith_component.specs.Shown.{shown_sections}
 use Rattle.smith_component.specs.Steps.{AddsSections, ClosesSections, KeepsSections}
@@ -27,9 +26,7 @@ use Rattle.smith_component.proofs.Growth.{imports_keep, spaces-add}
 
 -- the exit of a refusal
 pub refused : {T : Type 0} (r : Result T Error) (e : Error) (P : Error → Type 0) → IsErrAnd r (λ y. y ≡ e) → P e → IfErr r P
-refused r e P h p =
-    let s = err_from_is_err_and r h in
-    subst (λ x. IfErr x P) (sym s.1) (subst P (sym s.2) p)
+refused r e P h p = grind (arith, err_from_is_err_and)
 
 -- what is true of what a result holds, by what is
 pub ok_by : {T : Type 0} {P Q : T → Type 0} (r : Result T Error) → ((x : T) → P x → Q x) → IfOk r P → IfOk r Q
@@ -42,27 +39,18 @@ err_by (Err e) f h = f e h
 
 -- More sections, and more again.
 pub adds_trans : {a b c : Building} → AddsSections a b → AddsSections b c → AddsSections a c
-adds_trans {a} {b} {c} f g = record {
-  more = f.more ++ g.more;
-  outer = g.outer ∙ f.outer;
-  inner = g.inner ∙ (ap (λ ss. ss ++ g.more) f.inner ∙ append_assoc a.inner f.more g.more);
-}
+adds_trans {a} {b} {c} f g = grind (arith, append_assoc)
 
 -- A fact of a builder with the same components around its inner one.
 pub moved : (F : Config → Open → Type 0) (a b : Building) → b.config ≡ a.config → b.outer ≡ a.outer → F b.config (open_of b)
     → F a.config (with_inner (open_of a) (open_of b).inner)
-moved F a b c o f =
-    let G : List (List Section) → Type 0 = λ us. F b.config (record { outer = map shown_sections us; inner = shown_sections b.inner }) in
-    subst (λ k. F k (with_inner (open_of a) (open_of b).inner)) c (subst G o f)
+moved F a b c o f = grind arith
 
 -- Types that are filled are as many as they must be.
 filled_types : (config : Config) (stack : Open) (b rest : List ℕ) (t : Tree) → IsConsistent config → Fills counted.Types config stack b t rest
     → config.min_types ≤ length (types_of t)
 filled_types config stack b rest t consistent (inl (enough, same, left)) = omega (arith, enough, ap (λ u. length (types_of u)) same)
-filled_types config stack b rest t consistent (inr (lacks, (xs, scope, reads, e))) =
-    let room : config.min_types - length (types_of stack.inner) ≤ config.max_types - length (types_of stack.inner) = omega (arith, consistent.types_cross) in
-    let grown = ap (λ u. length (types_of u)) e ∙ ap (λ s. length s.types) (spaces-add stack.inner (types xs)) in
-    omega (arith, lacks, types_enough config (marked_in config stack.outer) room reads, grown, length-append (types_of stack.inner) xs)
+filled_types config stack b rest t consistent (inr (lacks, (xs, scope, reads, e))) = grind (arith, spaces-add, types_enough, length-append)
 
 imports_types : (config : Config) (stack : Open) (b rest : List ℕ) (t : Tree) → Fills counted.Imports config stack b t rest → types_of t ≡ types_of stack.inner
 imports_types config stack b rest t (inl (enough, same, left)) = ap types_of same
@@ -72,9 +60,7 @@ imports_types config stack b rest t (inr (lacks, (is, reads, e))) =
 functions_keep : (config : Config) (stack : Open) (b rest : List ℕ) (t : Tree) → Fills counted.Functions config stack b t rest
     → (imports_of t ≡ imports_of stack.inner) × (length (types_of stack.inner) ≤ length (types_of t))
 functions_keep config stack b rest t (inl (enough, same, left)) = (ap imports_of same, omega (arith, ap (λ u. length (types_of u)) same))
-functions_keep config stack b rest t (inr (lacks, (turns, next, reads, e))) =
-    let g = canons_grow config _ stack.inner reads in
-    (ap imports_of e ∙ g.0, omega (arith, g.2, ap (λ u. length (types_of u)) e))
+functions_keep config stack b rest t (inr (lacks, (turns, next, reads, e))) = grind (arith, canons_grow)
 
 -- What is filled has what it must have.
 pub filled_minima : (config : Config) (stack : Open) (b rest : List ℕ) (full : Tree) → IsConsistent config → FillsAll config stack b full rest
@@ -104,6 +90,4 @@ closes_after a b (Finished c) f g = (sym f.outer ∙ g.0, f.more ++ g.1, g.2 ∙
 
 -- The same components are around it.
 pub closes_filled : (a b : Building) (n : Next) → b.outer ≡ a.outer → Closes (open_of b) n → Closes (with_inner (open_of a) (open_of b).inner) n
-closes_filled a b n e h =
-    let C : List (List Section) → Type 0 = λ us. Closes (record { outer = map shown_sections us; inner = shown_sections b.inner }) n in
-    subst C e h
+closes_filled a b n e h = grind arith

@@ -7,7 +7,7 @@ use Rattle.std.proofs.lemmas.List.Sums.{fold-append}
 use Rattle.smith_scopes.proofs.Plain.{all_both}
 use Rattle.smith_syntax.specs.Entries.{Entry, ImportEntry}
 use Rattle.smith_syntax.specs.Scope.{Scope}
-use Rattle.smith_tree.specs.Spaces.{Spaces, no_spaces, after_canon, after_export, after_import, after_part, core_types_of, spaces_of, types_of}
+use Rattle.smith_tree.specs.Spaces.{Spaces, no_spaces, after_canon, after_export, after_import, after_part, spaces_of, types_of}
 use Rattle.smith_component.specs.Tables.{functions_at}
 use Rattle.smith_tree.specs.Tree.{Canon, lift, lower, Tree, ends, first, Part, custom, core_module, core_types, component, types, canons, imports, exports}
 use Rattle.smith_tree.specs.Tree.{ExportEntry, add, canons_in, exports_in, exports_of, function_count, function_of, imported_functions_in, own, parts_of}
@@ -25,23 +25,17 @@ spaces-add t p = behind-add no_spaces t p
 
 -- one more canonical function in its section
 pub spaces_canon : (t : Tree) (cs : List Canon) (c : Canon) → spaces_of (add t (canons (cs ++ c ∷ []))) ≡ after_canon (spaces_of (add t (canons cs))) c
-spaces_canon t cs c =
-    spaces-add t (canons (cs ++ c ∷ []))
-    ∙ (fold-append after_canon (spaces_of t) cs (c ∷ []) ∙ ap (λ s. after_canon s c) (sym (spaces-add t (canons cs))))
+spaces_canon t cs c = grind (arith, spaces-add, fold-append)
 
 -- one more import
 pub spaces_import : (t : Tree) (is : List ImportEntry) (i : ImportEntry)
     → spaces_of (add t (imports (is ++ i ∷ []))) ≡ after_import (spaces_of (add t (imports is))) i
-spaces_import t is i =
-    spaces-add t (imports (is ++ i ∷ []))
-    ∙ (fold-append after_import (spaces_of t) is (i ∷ []) ∙ ap (λ s. after_import s i) (sym (spaces-add t (imports is))))
+spaces_import t is i = grind (arith, spaces-add, fold-append)
 
 -- one more export
 pub spaces_export : (t : Tree) (es : List ExportEntry) (e : ExportEntry)
     → spaces_of (add t (exports (es ++ e ∷ []))) ≡ after_export (spaces_of (add t (exports es))) e
-spaces_export t es e =
-    spaces-add t (exports (es ++ e ∷ []))
-    ∙ (fold-append after_export (spaces_of t) es (e ∷ []) ∙ ap (λ s. after_export s e) (sym (spaces-add t (exports es))))
+spaces_export t es e = grind (arith, spaces-add, fold-append)
 
 -- how many functions there are
 
@@ -77,16 +71,12 @@ functions_exported s (e ∷ es) =
     record { least = omega (arith, more.least, grown); most = omega (arith, more.most, grown, one) }
 
 part_counts : (s : Spaces) (p : Part) → Counts s (after_part s p) (functions_in p) (length (exports_in p))
-part_counts s (custom name contents) = record { least = omega arith; most = omega arith }
-part_counts s (core_module text) = record { least = omega arith; most = omega arith }
-part_counts s (core_types ts) = record { least = omega arith; most = omega arith }
-part_counts s (component t) = record { least = omega arith; most = omega arith }
-part_counts s (types ts) = record { least = omega arith; most = omega arith }
 part_counts s (canons fs) = record { least = omega (arith, functions_behind s fs); most = omega (arith, functions_behind s fs) }
 part_counts s (imports is) = record { least = omega (arith, functions_imported s is); most = omega (arith, functions_imported s is) }
 part_counts s (exports es) =
     let c = functions_exported s es in
     record { least = omega (arith, c.least); most = omega (arith, c.most) }
+part_counts s _ = record { least = omega arith; most = omega arith }
 
 parts_count : (s : Spaces) (t : Tree) → Counts s (fold after_part s (parts_of t)) (function_count t) (length (exports_of t))
 parts_count s ends = record { least = omega arith; most = omega arith }
@@ -147,10 +137,7 @@ pub scope-add : (t : Tree) (p : Part) → scope_of (add t p) ≡ scope_at (after
 scope-add t p = ap scope_at (spaces-add t p)
 
 pub scope_bare : (t : Tree) (p : Part) → KeepsTypes (spaces_of t) (after_part (spaces_of t) p) → scope_of (add t p) ≡ scope_of t
-scope_bare t p keep =
-    let a : (after_part (spaces_of t) p).types ≡ types_of t = keep.types in
-    let b : (after_part (spaces_of t) p).core_types ≡ core_types_of t = keep.core_types in
-    scope-add t p ∙ (λ i. record { types = a i; core_types = b i })
+scope_bare t p keep = grind (arith, types, core_types, scope-add)
 
 -- A fact of all types stays if the types of a type section have it.
 pub types_past : (P : Entry → Type 0) (t : Tree) (p : Part) → AllByRecursion P (types_of t)
@@ -201,34 +188,24 @@ extends_then s u v a b = record {
   core_functions = prefix_then s.core_functions u.core_functions v.core_functions a.core_functions b.core_functions;
 }
 
-pub extends_canon : (s : Spaces) (c : Canon) → Extends s (after_canon s c)
-extends_canon s (lift c t) = record {
+-- One of the spaces alone has more.
+
+more_functions : (s : Spaces) (fs : List ℕ)
+    → Extends s (record { types = s.types; core_types = s.core_types; functions = s.functions ++ fs; core_functions = s.core_functions })
+more_functions s fs = record {
   types = prefix_same s.types;
   core_types = prefix_same s.core_types;
-  functions = (t ∷ [], refl);
+  functions = (fs, refl);
   core_functions = prefix_same s.core_functions;
 }
+
+pub extends_canon : (s : Spaces) (c : Canon) → Extends s (after_canon s c)
+extends_canon s (lift c t) = more_functions s (t ∷ [])
 extends_canon s (lower f) = record {
   types = prefix_same s.types;
   core_types = prefix_same s.core_types;
   functions = prefix_same s.functions;
   core_functions = (f ∷ [], refl);
-}
-
-extends_import : (s : Spaces) (i : ImportEntry) → Extends s (after_import s i)
-extends_import s i = record {
-  types = prefix_same s.types;
-  core_types = prefix_same s.core_types;
-  functions = (function_of i.to, refl);
-  core_functions = prefix_same s.core_functions;
-}
-
-extends_export : (s : Spaces) (e : ExportEntry) → Extends s (after_export s e)
-extends_export s e = record {
-  types = prefix_same s.types;
-  core_types = prefix_same s.core_types;
-  functions = (option_to_list (slice_get s.functions e.func), refl);
-  core_functions = prefix_same s.core_functions;
 }
 
 extends_fold : {A : Type 0} (after : Spaces → A → Spaces) → ((s : Spaces) (x : A) → Extends s (after s x)) → (s : Spaces) (xs : List A)
@@ -253,8 +230,8 @@ extends_part s (types ts) = record {
   core_functions = prefix_same s.core_functions;
 }
 extends_part s (canons fs) = extends_fold after_canon extends_canon s fs
-extends_part s (imports is) = extends_fold after_import extends_import s is
-extends_part s (exports es) = extends_fold after_export extends_export s es
+extends_part s (imports is) = extends_fold after_import (λ u i. more_functions u (function_of i.to)) s is
+extends_part s (exports es) = extends_fold after_export (λ u e. more_functions u (option_to_list (slice_get u.functions e.func))) s es
 
 pub extends-add : (t : Tree) (p : Part) → Extends (spaces_of t) (spaces_of (add t p))
 extends-add t p = subst (Extends (spaces_of t)) (sym (spaces-add t p)) (extends_part (spaces_of t) p)

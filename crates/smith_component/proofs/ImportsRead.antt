@@ -33,7 +33,7 @@ use Rattle.smith_tree.specs.Script.{script_import, script_imports}
 use Rattle.smith_tree.specs.Spaces.{core_types_of, types_of}
 use Rattle.smith_tree.specs.Tree.{module_of, function_of, component_of, instance_of, imports_of}
 use Rattle.smith_tree.specs.WellFormed.{FormedImport, import_names, scope_of}
-use Rattle.smith_component.proofs.ImportsState.{modules_more, funcs_more, components_more, imports_marked, imports_marked_more, imports_scope, instances_more}
+use Rattle.smith_component.proofs.SectionsState.{modules_more, funcs_more, components_more, imports_marked, imports_marked_more, imports_scope, instances_more}
 use Rattle.smith_component.proofs.Named.{named_behind, names_with_more}
 
 -- names with no URLs
@@ -71,12 +71,8 @@ module _ (config : Config) (stack : Open) (few : length (types_of stack.inner) +
   abbrev marked_at : List ImportEntry → Marked
   marked_at s = marked_with_imports config stack s
 
-  few_at : (s : List ImportEntry) → length (marked_at s).types + length (marked_at s).core_types ≤ 2 ^ 64
-  few_at s =
-      let e = imports_scope config stack s in
-      let ts : length (marked_at s).types ≡ length (types_of stack.inner) = ap (λ (d : Scope). length d.types) e in
-      let cs : length (marked_at s).core_types ≡ length (core_types_of stack.inner) = ap (λ (d : Scope). length d.core_types) e in
-      omega (arith, ts, cs, few)
+  pub few_at : (s : List ImportEntry) → length (marked_at s).types + length (marked_at s).core_types ≤ 2 ^ 64
+  few_at s = grind (arith, imports_scope)
 
   -- an import that can be said after others
   record Sayable (s : List ImportEntry) (x : ImportEntry) : Type 0 where

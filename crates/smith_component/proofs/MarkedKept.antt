@@ -14,7 +14,7 @@ use Rattle.smith_syntax.specs.declared.deftype.ComponentTypeRef.{ComponentTypeRe
 use Rattle.smith_tree.specs.Marking.{exported_reference, marked_after_part, marked_after_parts, marked_of, with_core_entry, with_export_entries}
 use Rattle.smith_tree.specs.Marking.{with_exports_entry, with_import_entry, with_type_entry}
 use Rattle.smith_tree.specs.Spaces.{Spaces, after_export, after_part, core_types_of, no_spaces}
-use Rattle.smith_tree.specs.Tree.{ExportEntry, Tree, Part, canons, component, core_module, core_types, custom, ends, exports, first, imports, parts_of, types}
+use Rattle.smith_tree.specs.Tree.{ExportEntry, Tree, Part, core_types, ends, exports, first, imports, parts_of, types}
 use Rattle.smith_tree.proofs.Marking.{scope_after_part}
 use Rattle.smith_tree.proofs.OfferedCores.{small_core}
 use Rattle.smith_component.proofs.Growth.{extends_part}
@@ -58,14 +58,11 @@ exports_kept P one (e ∷ es) s own k =
     exports_kept P one es (after_export s e) (with_exports_entry own rs) (all_keep P with_export one own rs k)
 
 part_kept : (p : Part) (s : Spaces) (outer : List Marked) (own : Marked) → Kept own → Kept (marked_after_part p s outer own)
-part_kept (custom name contents) s outer own k = k
-part_kept (core_module text) s outer own k = k
 part_kept (core_types ts) s outer own k = all_keep Kept with_core_entry kept_core own ts k
-part_kept (component t) s outer own k = k
 part_kept (types ts) s outer own k = all_keep Kept (with_type_entry outer) (kept_type outer) own ts k
-part_kept (canons fs) s outer own k = k
 part_kept (imports is) s outer own k = all_keep Kept with_import_entry kept_import own is k
 part_kept (exports es) s outer own k = exports_kept Kept kept_export es s own k
+part_kept _ s outer own k = k
 
 parts_kept : (t : Tree) (s : Spaces) (outer : List Marked) (own : Marked) → Kept own → Kept (marked_after_parts t s outer own)
 parts_kept ends s outer own k = k
@@ -96,15 +93,12 @@ module _ (config : Config) where
   part_small : (p : Part) (s : Spaces) (outer : List Marked) (own : Marked) → own.core_types ≡ s.core_types
       → AllByRecursion (CoreLimits config) s.core_types → AllByRecursion (CoreLimits config) (after_part s p).core_types → SmallCores own
       → SmallCores (marked_after_part p s outer own)
-  part_small (custom name contents) s outer own e k l small = small
-  part_small (core_module text) s outer own e k l small = small
   part_small (core_types ts) s outer own e k l small =
       cores_small ts own (subst (AllByRecursion (CoreLimits config)) (sym e) k) (all_back (CoreLimits config) s.core_types ts l) small
-  part_small (component t) s outer own e k l small = small
   part_small (types ts) s outer own e k l small = all_keep SmallCores (with_type_entry outer) (λ o x h. h) own ts small
-  part_small (canons fs) s outer own e k l small = small
   part_small (imports is) s outer own e k l small = all_keep SmallCores with_import_entry (λ o x h. h) own is small
   part_small (exports es) s outer own e k l small = exports_kept SmallCores (λ o r h. h) es s own small
+  part_small _ s outer own e k l small = small
 
   -- what is before parts is within the limits, if all is
   front_limits : (t : Tree) (s : Spaces) → AllByRecursion (CoreLimits config) (fold after_part s (parts_of t)).core_types

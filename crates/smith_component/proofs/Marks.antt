@@ -3,7 +3,6 @@ use Rattle.std.proofs.Common.{◌≡◌, ◌+◌, ◌≤◌, ◌^◌, List, [], 
 use Rattle.smith_format.specs.declared.config.Config.{Config}
 use Rattle.smith_syntax.specs.Entries.{Entry, CoreEntry}
 use Rattle.smith_syntax.specs.Marked.{Marked, empty_marked, scope_in, scopes_in_marked}
-use Rattle.smith_syntax.specs.Scope.{Scope}
 use Rattle.smith_syntax.specs.WellFormed.{FormedCores, FormedTypes}
 use Rattle.smith_tree.proofs.Marking.{marked_add, scope_marked, scopes_marked}
 use Rattle.smith_tree.specs.Functions.{functions_of}
@@ -11,7 +10,7 @@ use Rattle.smith_tree.specs.Marking.{exported_reference, marked_in, marked_inner
 use Rattle.smith_tree.specs.Offered.{OfferedPart, OfferedParts}
 use Rattle.smith_tree.specs.Offers.{with_exports}
 use Rattle.smith_tree.specs.Open.{scopes_in}
-use Rattle.smith_tree.specs.Spaces.{Spaces, after_export, after_part, core_types_of, no_spaces, spaces_of, types_of}
+use Rattle.smith_tree.specs.Spaces.{Spaces, after_export, core_types_of, no_spaces, spaces_of, types_of}
 use Rattle.smith_tree.specs.Tree.{ExportEntry, Tree, Part, add, component, ends, exports, first, types}
 use Rattle.smith_tree.specs.WellFormed.{FormedPart, scope_of}
 use Rattle.smith_types.proofs.ReferencesRead.{IsFew}
@@ -32,17 +31,11 @@ module _ (config : Config) (outer : List Tree) (t : Tree) where
 
   pub formed_marked : (ts : List Entry) → FormedPart (types ts) (scopes_in outer) t
       → FormedTypes ts (scope_in (marked_inner config outer t)) (scopes_in_marked (marked_in config outer))
-  formed_marked ts formed =
-      let P : Scope → Type 0 = λ s. FormedTypes ts s (scopes_in_marked (marked_in config outer)) in
-      let Q : List Scope → Type 0 = λ ss. FormedTypes ts (scope_of t) ss in
-      subst P (sym (scope_marked config (marked_in config outer) t)) (subst Q (sym (scopes_marked config outer)) formed)
+  formed_marked ts formed = grind (arith, scope_marked, scopes_marked)
 
   pub formed_plain : (ts : List Entry) → FormedTypes ts (scope_in (marked_inner config outer t)) (scopes_in_marked (marked_in config outer))
       → FormedPart (types ts) (scopes_in outer) t
-  formed_plain ts formed =
-      let P : Scope → Type 0 = λ s. FormedTypes ts s (scopes_in_marked (marked_in config outer)) in
-      let Q : List Scope → Type 0 = λ ss. FormedTypes ts (scope_of t) ss in
-      subst Q (scopes_marked config outer) (subst P (scope_marked config (marked_in config outer) t) formed)
+  formed_plain ts formed = grind (arith, scopes_marked, scope_marked)
 
   pub formed_core_marked : (ts : List CoreEntry) → FormedCores ts (scope_of t) → FormedCores ts (scope_in (marked_inner config outer t))
   formed_core_marked ts formed = subst (FormedCores ts) (sym (scope_marked config (marked_in config outer) t)) formed
@@ -65,10 +58,7 @@ module _ (config : Config) (outer : List Tree) (t : Tree) (es : List ExportEntry
 pub exports_marked_more : (config : Config) (outer : List Tree) (t : Tree) (es : List ExportEntry) (x : ExportEntry)
     → marked_inner config outer (with_exports t (es ++ x ∷ []))
     ≡ with_exports_entry (marked_inner config outer (with_exports t es)) (exported_reference (functions_of (with_exports t es)) x)
-exports_marked_more config outer t es x =
-    exports_marked config outer t (es ++ x ∷ [])
-    ∙ (entries_more es x (spaces_of t) (marked_inner config outer t)
-    ∙ (λ i. with_exports_entry (sym (exports_marked config outer t es) i) (exported_reference (sym (spaces-add t (exports es)) i).functions x)))
+exports_marked_more config outer t es x = grind (arith, exports_marked, entries_more, spaces-add)
 
 -- What is offered of the rest of a component, when these components are open around it and these parts precede it.
 abbrev pub OfferedRest : Config → List Tree → Tree → Tree → Type 0
@@ -76,10 +66,7 @@ OfferedRest config outer before t = OfferedParts t config (spaces_of before) (ma
 
 pub offered_past : (p : Part) (t : Tree) (config : Config) (outer : List Tree) (before : Tree) → OfferedRest config outer before (first p t)
     → OfferedRest config outer (add before p) t
-offered_past p t config outer before h =
-    let P : Spaces → Type 0 = λ s. OfferedParts t config s (marked_in config outer) (marked_inner config outer (add before p)) in
-    let Q : Marked → Type 0 = λ m. OfferedParts t config (after_part (spaces_of before) p) (marked_in config outer) m in
-    subst P (sym (spaces-add before p)) (subst Q (sym (marked_add config (marked_in config outer) before p)) h.1)
+offered_past p t config outer before h = grind (arith, spaces-add, marked_add)
 
 pub offered_inside : (u : Tree) (config : Config) (outer : List Tree) (before : Tree)
     → OfferedPart (component u) config (spaces_of before) (marked_in config outer) (marked_inner config outer before)

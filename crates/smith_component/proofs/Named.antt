@@ -20,8 +20,7 @@ use Rattle.smith_tree.specs.Tree.{Tree, Part, ends, first, custom, core_module, 
 use Rattle.smith_tree.specs.Tree.{exports_in, exports_of, imports_in, imports_of}
 use Rattle.smith_tree.specs.WellFormed.{Formed, FormedPart, export_names, import_names, scope_of}
 use Rattle.smith_component.proofs.Tables.{own_bare}
-use Rattle.smith_component.proofs.Tree.{join-add, join-ends, own-add, join}
-use Rattle.smith_component.proofs.WellFormed.{formed_front}
+use Rattle.smith_component.proofs.Tree.{join-add, join-ends, own-add, join, formed_front}
 use Rattle.smith_scopes.proofs.Plain.{all_back, all_both}
 
 -- Names in kebab case, none of them twice, and one more that is none of them.

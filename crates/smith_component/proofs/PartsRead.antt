@@ -1,10 +1,6 @@
 -- The script of a part of a plan is read as that part, and a component that is missing nothing is finished as it is.
-use Rattle.std.proofs.Common.{◌≡◌, ℕ, suc, ◌+◌, ◌-◌, ◌≤◌, ◌^◌, List, [], ◌∷◌, ◌++◌, map, length, arith, refl, sym, ap, subst, inl, append_assoc}
-use Rattle.std.proofs.Common.{length-append}
+use Rattle.std.proofs.Common.{◌≡◌, ℕ, suc, ◌+◌, ◌-◌, ◌≤◌, ◌^◌, List, [], ◌∷◌, ◌++◌, map, length, arith, refl, sym, ap, subst, inl, length-append}
 use Rattle.std.specs.List.{AllByRecursion}
-use Rattle.std.specs.Str.{IsUtf8}
-use Rattle.smith_input.specs.Script.{script_text, script_bytes}
-use Rattle.smith_input.proofs.ReadsTexts.{text_read, bytes_read}
 use Rattle.smith_format.specs.Consistency.{IsConsistent, max_u32}
 use Rattle.smith_format.specs.declared.config.Config.{Config}
 use Rattle.smith_syntax.specs.Marked.{Marked}
@@ -14,7 +10,7 @@ use Rattle.smith_syntax.specs.CoreLimits.{CoreLimits}
 use Rattle.smith_syntax.specs.Entries.{Entry, CoreEntry, ImportEntry}
 use Rattle.smith_component.specs.Canonicals.{empty_section}
 use Rattle.smith_tree.specs.Offers.{totals_of, with_imports}
-use Rattle.smith_tree.specs.Limits.{Maxima, Minima, OwnLimits}
+use Rattle.smith_tree.specs.Limits.{Maxima, Minima, OwnLimits, SmallCoreTypes}
 use Rattle.smith_syntax.specs.TypeLimits.{EntryLimits}
 use Rattle.smith_tree.proofs.Marking.{scope_marked}
 use Rattle.smith_types.proofs.ReferencesRead.{IsFew}
@@ -28,8 +24,7 @@ use Rattle.smith_component.specs.Shown.{shown_module}
 use Rattle.smith_format.specs.Piece.{bytes_of}
 use Rattle.smith_tree.specs.Spaces.{after_part, core_types_of, spaces_of, types_of}
 use Rattle.smith_tree.specs.Tree.{Canon, Tree, Part, custom, core_module, core_types, component, types, canons, imports, exports, add, own, inside}
-use Rattle.smith_tree.specs.Tree.{components_in, no_depth}
-use Rattle.smith_tree.specs.Tree.{ExportEntry, exports_in, exports_of, names_in, imports_of, imports_in, function_count}
+use Rattle.smith_tree.specs.Tree.{components_in, no_depth, ExportEntry, imports_of, imports_in, function_count, ends, first}
 use Rattle.smith_component.specs.Turn.{Does, with_part}
 use Rattle.smith_tree.proofs.ReadsCustom.{custom_read}
 use Rattle.smith_component.specs.Fills.{FillsAll}
@@ -38,18 +33,35 @@ use Rattle.smith_component.proofs.CanonsRead.{Spoken, canons_from, types_spoken}
 use Rattle.smith_component.proofs.ExportsRead.{exports_read}
 use Rattle.smith_component.proofs.ImportsRead.{imports_read, Room}
 use Rattle.smith_component.proofs.Marks.{formed_core_marked, formed_marked, marked_core_types, marked_types}
-use Rattle.smith_component.proofs.Plan.{PartStands}
 use Rattle.smith_component.proofs.ReadsCoreTypes.{core_types_read}
 use Rattle.smith_component.proofs.ReadsTypes.{types_read}
-use Rattle.smith_component.proofs.Fits.{Fits, Short, fits_behind, own_limits-front}
+use Rattle.smith_component.proofs.Fits.{Fits, fits_behind, own_limits-front}
 use Rattle.smith_component.proofs.Growth.{functions_counted, spaces-add, types_past}
 use Rattle.smith_component.proofs.Sound.{length-marked_from}
 use Rattle.smith_core.specs.StandIn.{ReadsStandIn}
-use Rattle.smith_core.specs.StandInScript.{script_stand_in, stand_in_of}
-use Rattle.smith_core.proofs.StandInExact.{text_read as module_text_read}
+use Rattle.smith_core.specs.StandInScript.{script_stand_in, stand_in_of, IsStandIn}
+use Rattle.smith_core.proofs.StandInRead.{text_read as module_text_read}
 use Rattle.smith_core.proofs.StandInTold.{stand_in_told}
 use Rattle.smith_component.proofs.Tree.{all_of, anywhere-add, depth-outer, function_count-add, own-add, length-own-add}
 use Rattle.smith_scopes.proofs.Plain.{all_back}
+use Rattle.std.specs.Prelude.{Some}
+use Rattle.smith_core.specs.StandInText.{StandIn, stand_in_text}
+
+-- The fuel lasts for each type when that many scopes are on the stack, and each core module has bytes and stands for a generated one.
+abbrev mutual
+  pub Stands : Config → ℕ → Tree → Type 0
+  Stands config scopes ends = Unit {0}
+  Stands config scopes (first p t) = PartStands config scopes p × Stands config scopes t
+
+  pub PartStands : Config → ℕ → Part → Type 0
+  PartStands config scopes (custom name contents) = Unit {0}
+  PartStands config scopes (core_module text) = (s : StandIn) × IsStandIn config s × (stand_in_text s ≡ Some text)
+  PartStands config scopes (core_types ts) = SmallCoreTypes config ts
+  PartStands config scopes (component t) = Stands config (suc scopes) t
+  PartStands config scopes (types ts) = AllByRecursion (λ e. Lasts e config scopes config.max_type_size) ts
+  PartStands config scopes (canons fs) = Unit {0}
+  PartStands config scopes (imports is) = Unit {0}
+  PartStands config scopes (exports es) = Unit {0}
 
 -- nothing is filled if nothing is missing
 pub fills_nothing : (config : Config) (stack : Open) (b : List ℕ) → Minima config stack.inner → FillsAll config stack b stack.inner b
@@ -83,8 +95,8 @@ few_around config consistent (u ∷ us) t scopes few each =
     few_around config consistent us t (marked_of config scopes u ∷ scopes) (small, few)
     (all_back (OwnLimits config) (inside u) (x ∷ inside x) (subst (AllByRecursion (OwnLimits config)) (anywhere-add components_in u (component x)) each.1))
 
-around : (config : Config) → IsConsistent config → (outer : List Tree) (t : Tree) → Maxima config (tree_so_far outer t) → Around config outer
-around config consistent outer t m =
+pub few_open : (config : Config) → IsConsistent config → (outer : List Tree) (t : Tree) → Maxima config (tree_so_far outer t) → Around config outer
+few_open config consistent outer t m =
     record { few = few_around config consistent outer t [] tt m.each; shallow = omega (arith, m.depth, depth-outer no_depth outer t, consistent.nesting) }
 
 -- The script of a part is read as that part, whatever follows.
@@ -97,10 +109,7 @@ module _ (config : Config) (stack : Open) (rest : List ℕ) where
       → Does config (item_of p) stack (script_part p config stack.outer stack.inner ++ rest) (with_part stack p) rest
 
   pub custom_part : (name contents : List ℕ) → IsRead (custom name contents)
-  custom_part name contents readable stands formed offered limits =
-      let short : Short (name ∷ []) = all_back _ (own names_in stack.inner) (name ∷ [])
-      (subst Short (own-add names_in stack.inner (custom name contents)) limits.names) in
-      (name, contents, custom_read name contents rest readable short.0, refl)
+  custom_part name contents readable stands formed offered limits = grind (arith, all_back, own-add, custom_read)
 
   pub core_types_part : IsConsistent config → (ts : List CoreEntry) → IsRead (core_types ts)
   core_types_part consistent ts readable stands formed offered limits =
@@ -118,7 +127,7 @@ module _ (config : Config) (stack : Open) (rest : List ℕ) where
 
   pub types_part : IsConsistent config → (ts : List Entry) → Maxima config (tree_so_far stack.outer (add stack.inner (types ts))) → IsRead (types ts)
   types_part consistent ts maxima readable stands formed offered limits =
-      let here = around config consistent stack.outer (add stack.inner (types ts)) maxima in
+      let here = few_open config consistent stack.outer (add stack.inner (types ts)) maxima in
       let fits : Fits config (after_part (spaces_of stack.inner) (types ts)) = fits_behind config stack.inner (types ts) limits in
       let few : length (types_of stack.inner) + length ts ≤ config.max_types = omega (arith, fits.types, length-append (types_of stack.inner) ts) in
       let cores : length (core_types_of stack.inner) ≤ config.max_types = fits.core_types in
@@ -176,14 +185,7 @@ module _ (config : Config) (stack : Open) (rest : List ℕ) where
       (add inner (canons fs), (map canon_item_of fs, record { before = inner; funcs = fs }, read, refl), refl)
 
   pub exports_part : IsConsistent config → (es : List ExportEntry) → IsRead (exports es)
-  exports_part consistent es readable stands formed offered limits =
-      let inner : Tree = stack.inner in
-      let most : length (exports_of inner) + length es ≤ config.max_exports =
-      omega (arith, limits.exports, length-own-add exports_in inner (exports es)) in
-      let before : OwnLimits config inner = own_limits-front config inner (exports es) limits in
-      let read = exports_read config stack.outer inner es rest readable.1 formed.0 formed.1 offered (omega (arith, most))
-      (omega (arith, most, before.functions, consistent.funcs)) in
-      (es, read, refl)
+  exports_part consistent es readable stands formed offered limits = grind (arith, length-own-add, own_limits-front, exports_read)
 
 -- The types of a plan can be said after one more part.
 pub spoken_past : (config : Config) (p : Part) (outer : List Scope) (before : Tree) → IsReadablePart config p before → FormedPart p outer before

@@ -22,10 +22,10 @@ use Rattle.smith_tree.specs.Spaces.{core_types_of, types_of}
 use Rattle.smith_tree.specs.Tree.{Tree, ends, first, Part, custom, core_module, core_types, component, types, canons, imports, exports, add}
 use Rattle.smith_tree.specs.Tree.{most}
 use Rattle.smith_tree.specs.WellFormed.{Formed, FormedPart, scope_of}
-use Rattle.smith_component.proofs.Encoded.{Encoded, component_encoded, module_has_bytes}
+use Rattle.smith_component.proofs.Grammar.{Encoded, component_encoded, module_has_bytes}
 use Rattle.smith_component.proofs.Fits.{own_sizes_front, own_sizes_swap}
 use Rattle.smith_component.proofs.Growth.{spaces-add}
-use Rattle.smith_component.proofs.Plan.{PartStands, Stands}
+use Rattle.smith_component.proofs.PartsRead.{PartStands, Stands}
 use Rattle.smith_component.proofs.Script.{limits_front, limits_past}
 use Rattle.smith_component.proofs.Sound.{scopes_from-snoc}
 use Rattle.smith_component.proofs.Tree.{all_before, all_inner, depth-so_far, join-add, join-ends, tree_so_far-close, join}

@@ -15,8 +15,7 @@ use Rattle.smith_component.specs.Runs.{Turns}
 use Rattle.smith_component.specs.Turn.{Next, Turn, answered, building, with_part}
 use Rattle.smith_component.proofs.CanonsRead.{Spoken}
 use Rattle.smith_component.proofs.Marks.{OfferedRest, offered_inside, offered_past}
-use Rattle.smith_component.proofs.PartsRead.{spoken_past}
-use Rattle.smith_component.proofs.Plan.{Stands}
+use Rattle.smith_component.proofs.PartsRead.{spoken_past, Stands}
 use Rattle.smith_component.proofs.Script.{closing_turn, flat_turn, limits_front, limits_past, offered_from, opening_turn}
 use Rattle.smith_component.proofs.Sound.{scopes_from-snoc}
 use Rattle.smith_component.proofs.Tree.{all_inner, join, join-add, join-ends, tree_so_far-close}
@@ -33,7 +32,7 @@ pub record Known (config : Config) (outer : List Tree) (before t : Tree) : Type 
 
 module _ (config : Config) (outer : List Tree) (before : Tree) where
   -- after one more part
-  known_past : (p : Part) (t : Tree) → Known config outer before (first p t) → Known config outer (add before p) t
+  pub known_past : (p : Part) (t : Tree) → Known config outer before (first p t) → Known config outer (add before p) t
   known_past p t k = record {
     spoken = spoken_past config p (scopes_in outer) before k.readable.0 k.formed.0 k.spoken;
     readable = k.readable.1;
@@ -86,9 +85,7 @@ script_parts (first p t) config outer before = (script_item config outer before 
 
 pub script_parts-add : (t : Tree) (p : Part) (config : Config) (outer : List Tree) (before : Tree) → script_parts (add t p) config outer before
     ≡ script_parts t config outer before ++ (script_item config outer (join before t) (item_of p) ++ script_part p config outer (join before t))
-script_parts-add ends p config outer before =
-    let last : Tree → List ℕ = λ x. script_item config outer x (item_of p) ++ script_part p config outer x in
-    append-nil (last before) ∙ ap last (sym (join-ends before))
+script_parts-add ends p config outer before = grind (arith, append-nil, join-ends)
 script_parts-add (first q t) p config outer before =
     let last : Tree → List ℕ = λ x. script_item config outer x (item_of p) ++ script_part p config outer x in
     let here : List ℕ = script_item config outer before (item_of q) ++ script_part q config outer before in
@@ -115,19 +112,23 @@ pub turn_leads : {config : Config} {stack mid : Open} {b rest left : List ℕ} {
 turn_leads {config} {stack} {mid} {b} {rest} turn m = (suc m.0, (building mid, rest, turn, m.1))
 
 module _ (config : Config) (consistent : IsConsistent config) (outer : List Tree) (before : Tree) (rest : List ℕ) (next : Next) (left : List ℕ) where
-  -- the script of a part other than a component, and then the rest
-  flat_leads : (p : Part) (t : Tree) (later : List ℕ) → ¬ (item_of p ≡ Component) → Known config outer before (first p t)
-      → Leads config (record { outer = outer; inner = add before p }) (later ++ rest) next left
-      → Leads config (record { outer = outer; inner = before })
-      (((script_item config outer before (item_of p) ++ script_part p config outer before) ++ later) ++ rest) next left
-  flat_leads p t later flat k m =
+  -- the script of a part other than a component, if the script of the parts after it leads to the rest
+  flat_leads : (p : Part) (t s : Tree) → ¬ (item_of p ≡ Component) → Known config outer before (join (first p t) s)
+      → (Known config outer (add before p) (join t s) → Leads config (record { outer = outer; inner = join (add before p) t }) rest next left
+      → Leads config (record { outer = outer; inner = add before p }) (script_parts t config outer (add before p) ++ rest) next left)
+      → Leads config (record { outer = outer; inner = join before (first p t) }) rest next left
+      → Leads config (record { outer = outer; inner = before }) (script_parts (first p t) config outer before ++ rest) next left
+  flat_leads p t s flat k onward m =
       let stack : Open = record { outer = outer; inner = before } in
       let here : List ℕ = script_item config outer before (item_of p) ++ script_part p config outer before in
-      let with_p = with_next config outer before p t k in
+      let later : List ℕ = script_parts t config outer (add before p) in
+      let with_p = with_next config outer before p (join t s) k in
       let own : OwnLimits config (add before p) = all_inner (OwnLimits config) outer (add before p) with_p.each in
       let turn : Turn config stack (here ++ (later ++ rest)) (with_part stack p) (later ++ rest) =
       flat_turn config consistent stack (later ++ rest) p flat with_p k.readable.0 k.stands.0 k.formed.0 k.offered.0 own k.spoken in
-      subst (λ z. Leads config stack z next left) (sym (append_assoc here later rest)) (turn_leads turn m)
+      let leads = onward (known_past config outer before p (join t s) k)
+      (subst (λ x. Leads config (record { outer = outer; inner = x }) rest next left) (sym (join-add before p t)) m) in
+      subst (λ z. Leads config stack z next left) (sym (append_assoc here later rest)) (turn_leads turn leads)
 
   -- the script of a component, when its parts' script leads to it, and then the rest
   component_leads : (u t : Tree) (later : List ℕ) → Known config outer before (first (component u) t) → Ends config u
@@ -164,20 +165,14 @@ pub reach_parts : (t s : Tree) (config : Config) (consistent : IsConsistent conf
 reach_parts ends s config consistent outer before rest next left k each m =
     subst (λ x. Leads config (record { outer = outer; inner = x }) rest next left) (join-ends before) m
 reach_parts (first (custom name contents) t) s config consistent outer before rest next left k each m =
-    let p : Part = custom name contents in
-    flat_leads config consistent outer before rest next left p (join t s) (script_parts t config outer (add before p)) (λ e. cc) k
-    (reach_parts t s config consistent outer (add before p) rest next left (known_past config outer before p (join t s) k) each
-    (subst (λ x. Leads config (record { outer = outer; inner = x }) rest next left) (sym (join-add before p t)) m))
+    flat_leads config consistent outer before rest next left (custom name contents) t s (λ e. cc) k
+    (λ known n. reach_parts t s config consistent outer (add before (custom name contents)) rest next left known each n) m
 reach_parts (first (core_module text) t) s config consistent outer before rest next left k each m =
-    let p : Part = core_module text in
-    flat_leads config consistent outer before rest next left p (join t s) (script_parts t config outer (add before p)) (λ e. cc) k
-    (reach_parts t s config consistent outer (add before p) rest next left (known_past config outer before p (join t s) k) each
-    (subst (λ x. Leads config (record { outer = outer; inner = x }) rest next left) (sym (join-add before p t)) m))
+    flat_leads config consistent outer before rest next left (core_module text) t s (λ e. cc) k
+    (λ known n. reach_parts t s config consistent outer (add before (core_module text)) rest next left known each n) m
 reach_parts (first (core_types ts) t) s config consistent outer before rest next left k each m =
-    let p : Part = core_types ts in
-    flat_leads config consistent outer before rest next left p (join t s) (script_parts t config outer (add before p)) (λ e. cc) k
-    (reach_parts t s config consistent outer (add before p) rest next left (known_past config outer before p (join t s) k) each
-    (subst (λ x. Leads config (record { outer = outer; inner = x }) rest next left) (sym (join-add before p t)) m))
+    flat_leads config consistent outer before rest next left (core_types ts) t s (λ e. cc) k
+    (λ known n. reach_parts t s config consistent outer (add before (core_types ts)) rest next left known each n) m
 reach_parts (first (component u) t) s config consistent outer before rest next left k each m =
     let p : Part = component u in
     let in_it : AllByRecursion (Ends config) (u ∷ inside u) = all_front (Ends config) (u ∷ inside u) (inside t) each in
@@ -190,25 +185,17 @@ reach_parts (first (component u) t) s config consistent outer before rest next l
     (all_back (Ends config) (u ∷ inside u) (inside t) each)
     (subst (λ x. Leads config (record { outer = outer; inner = x }) rest next left) (sym (join-add before p t)) m))
 reach_parts (first (types ts) t) s config consistent outer before rest next left k each m =
-    let p : Part = types ts in
-    flat_leads config consistent outer before rest next left p (join t s) (script_parts t config outer (add before p)) (λ e. cc) k
-    (reach_parts t s config consistent outer (add before p) rest next left (known_past config outer before p (join t s) k) each
-    (subst (λ x. Leads config (record { outer = outer; inner = x }) rest next left) (sym (join-add before p t)) m))
+    flat_leads config consistent outer before rest next left (types ts) t s (λ e. cc) k
+    (λ known n. reach_parts t s config consistent outer (add before (types ts)) rest next left known each n) m
 reach_parts (first (canons fs) t) s config consistent outer before rest next left k each m =
-    let p : Part = canons fs in
-    flat_leads config consistent outer before rest next left p (join t s) (script_parts t config outer (add before p)) (λ e. cc) k
-    (reach_parts t s config consistent outer (add before p) rest next left (known_past config outer before p (join t s) k) each
-    (subst (λ x. Leads config (record { outer = outer; inner = x }) rest next left) (sym (join-add before p t)) m))
+    flat_leads config consistent outer before rest next left (canons fs) t s (λ e. cc) k
+    (λ known n. reach_parts t s config consistent outer (add before (canons fs)) rest next left known each n) m
 reach_parts (first (imports is) t) s config consistent outer before rest next left k each m =
-    let p : Part = imports is in
-    flat_leads config consistent outer before rest next left p (join t s) (script_parts t config outer (add before p)) (λ e. cc) k
-    (reach_parts t s config consistent outer (add before p) rest next left (known_past config outer before p (join t s) k) each
-    (subst (λ x. Leads config (record { outer = outer; inner = x }) rest next left) (sym (join-add before p t)) m))
+    flat_leads config consistent outer before rest next left (imports is) t s (λ e. cc) k
+    (λ known n. reach_parts t s config consistent outer (add before (imports is)) rest next left known each n) m
 reach_parts (first (exports es) t) s config consistent outer before rest next left k each m =
-    let p : Part = exports es in
-    flat_leads config consistent outer before rest next left p (join t s) (script_parts t config outer (add before p)) (λ e. cc) k
-    (reach_parts t s config consistent outer (add before p) rest next left (known_past config outer before p (join t s) k) each
-    (subst (λ x. Leads config (record { outer = outer; inner = x }) rest next left) (sym (join-add before p t)) m))
+    flat_leads config consistent outer before rest next left (exports es) t s (λ e. cc) k
+    (λ known n. reach_parts t s config consistent outer (add before (exports es)) rest next left known each n) m
 
 pub known_plan : (config : Config) (plan : Tree) → CanBeGenerated config plan → Stands config 1 plan → Known config [] ends plan
 known_plan config plan c stands = record {

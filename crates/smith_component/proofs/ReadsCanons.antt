@@ -4,11 +4,10 @@ use Rattle.std.proofs.lemmas.List.{length-map}
 use Rattle.std.specs.List.{AllByRecursion}
 use Rattle.std.specs.Option.{option_to_list}
 use Rattle.std.specs.Prelude.{slice_get}
-use Rattle.smith_input.specs.Loops.{Loop, no_more, by_itself, an_item}
 use Rattle.smith_input.specs.Reading.{IsTail}
 use Rattle.smith_input.proofs.Choices.{among_tail}
 use Rattle.smith_input.proofs.Loops.{loop_tail}
-use Rattle.smith_input.proofs.Reading.{tail_is, tail_trans, reads_tail, more_within}
+use Rattle.smith_input.proofs.Reading.{tail_is, tail_trans, reads_tail}
 use Rattle.smith_format.specs.CoreTypes.{Function}
 use Rattle.smith_format.specs.declared.config.Config.{Config}
 use Rattle.smith_format.specs.declared.types.ValType.{ValType}
@@ -29,31 +28,19 @@ use Rattle.smith_tree.specs.Open.{Open, scopes_in, tree_so_far, with_inner}
 use Rattle.smith_component.specs.Sound.{Sound}
 use Rattle.smith_tree.specs.Spaces.{Spaces, after_part, core_types_of, spaces_of, types_of}
 use Rattle.smith_component.specs.Tables.{functions_at}
-use Rattle.smith_tree.specs.Tree.{Canon, lift, lower, Tree, Part, ends, first, component, types, canons, add, imports_of, function_count}
+use Rattle.smith_tree.specs.Tree.{Canon, lift, lower, Tree, Part, ends, first, component, types, canons, add, imports_in, imports_of, function_count}
 use Rattle.smith_tree.specs.WellFormed.{scope_of, HasSignature, FormedCanon, FormedCanons, Formed, FormedPart}
 use Rattle.smith_tree.specs.declared.choices.CanonItem.{CanonItem}
 use Rattle.smith_tree.specs.declared.choices.CanonItem.TheVariants.{Lower, Lift}
 use Rattle.smith_component.proofs.Fits.{fits_kept, fits_of, own_limits-add, own_sizes-add, sizes_keep}
 use Rattle.smith_component.proofs.Growth.{KeepsTypes, canon_keeps, canons_keep, extends_part, functions_after, spaces-add, spaces_canon}
 use Rattle.smith_component.proofs.Growth.{types_past}
+use Rattle.smith_component.proofs.Loops.{loop_keeps}
 use Rattle.smith_component.proofs.Sound.{addable_level, addable_types, own_limits_of, own_sizes_of, part_sound}
-use Rattle.smith_component.proofs.Spaces.{all_at, get_last, imports_canons, imports_types, with_entries, has_signature_stays}
+use Rattle.smith_component.proofs.Spaces.{all_at, get_last, with_entries, has_signature_stays}
 use Rattle.smith_component.proofs.Spaces.{equal_at, formed_canons-snoc}
-use Rattle.smith_component.proofs.Tables.{scalar_at}
-use Rattle.smith_component.proofs.Tree.{function_count-add, join-add, join-ends, join}
-use Rattle.smith_component.proofs.WellFormed.{formed_front}
-
--- What turns keep, a loop keeps.
-module _ {S A : Type 0} {Ends : S → List ℕ → List ℕ → S → Type 0} {Item : S → List ℕ → A → List ℕ → S → Type 0} {least most : ℕ} (P : ℕ → S → Type 0) where
-  pub loop_keeps : ((n : ℕ) (s : S) (b r : List ℕ) (t : S) → P n s → Ends s b r t → P n t)
-      → ((n : ℕ) (s : S) (b : List ℕ) (x : A) (r : List ℕ) (t : S) → n < most → P n s → Item s b x r t → P (n + 1) t)
-      → (done : ℕ) (s : S) (b : List ℕ) (xs : List A) (rest : List ℕ) (t : S) → done ≤ most → P done s → Loop Ends Item least most done s b xs rest t
-      → (n : ℕ) × (n ≤ most) × P n t
-  loop_keeps over items done s b xs rest t h p (no_more m e) = (done, h, subst (P done) (sym e) p)
-  loop_keeps over items done s b xs rest t h p (by_itself {mid = mid} m e) = (done, h, over done s mid rest t p e)
-  loop_keeps over items done s b xs rest u h p (an_item {t = t} {mid = mid} {after = after} {x = x} {xs = ys} m i l) =
-      let lt : done < most = more_within m in
-      loop_keeps over items (done + 1) t after ys rest u (omega (arith, lt)) (items done s mid x after t lt p i) l
+use Rattle.smith_component.proofs.Tables.{own_bare, scalar_at}
+use Rattle.smith_component.proofs.Tree.{function_count-add, join-add, join-ends, join, formed_front}
 
 -- Function types of a well formed component have at most 16 parameters.
 
@@ -152,30 +139,16 @@ abbrev pub with_signature : Growing → Signature → Growing
 with_signature s signature = empty_section (add (grown s) (types (function signature ∷ [])))
 
 pub spaces_signature : (s : Growing) (signature : Signature) → spaces_at (with_signature s signature) ≡ with_entries (spaces_at s) (function signature ∷ [])
-spaces_signature s signature =
-    let es : List Entry = function signature ∷ [] in
-    spaces-add (add (grown s) (types es)) (canons []) ∙ spaces-add (grown s) (types es)
+spaces_signature s signature = grind (arith, spaces-add)
 
 pub canon_count : (s : Growing) (c : Canon) → function_count (grown (with_canon s c)) ≡ function_count (grown s) + 1
-canon_count s c = omega (
-  arith,
-  function_count-add s.before (canons (s.funcs ++ c ∷ [])),
-  function_count-add s.before (canons s.funcs),
-  length-append s.funcs (c ∷ []),
-)
+canon_count s c = grind (arith, function_count-add, length-append)
 
 pub signature_count : (s : Growing) (signature : Signature) → function_count (grown (with_signature s signature)) ≡ function_count (grown s)
-signature_count s signature =
-    let es : List Entry = function signature ∷ [] in
-    omega (arith, function_count-add (add (grown s) (types es)) (canons []), function_count-add (grown s) (types es))
+signature_count s signature = grind (arith, function_count-add)
 
 signature_types : (s : Growing) (signature : Signature) (n : ℕ) → n ≤ length (types_of (grown s)) → n ≤ length (types_of (grown (with_signature s signature)))
-signature_types s signature n h = omega (
-  arith,
-  h,
-  ap (λ z. length z.types) (spaces_signature s signature),
-  length-append (types_of (grown s)) (function signature ∷ []),
-)
+signature_types s signature n h = grind (arith, spaces_signature, length-append)
 
 pub empty_count : (t : Tree) → function_count (grown (empty_section t)) ≡ function_count t
 empty_count t = omega (arith, function_count-add t (canons []))
@@ -232,18 +205,22 @@ module _ (config : Config) (least : ℕ) (t : Tree) {b : List ℕ} {turns : List
       let all = loop_keeps P (λ n s b r t p e. subst (P n) (sym e.2) p)
       (λ n s b x q u lt p i. turn_keeps P config n s u
       (λ v c h p. (
-        imports_canons v.before (v.funcs ++ c ∷ []) ∙ (sym (imports_canons v.before v.funcs) ∙ p.0),
+        own_bare imports_in v.before (canons (v.funcs ++ c ∷ [])) refl ∙ (sym (own_bare imports_in v.before (canons v.funcs) refl) ∙ p.0),
         ap (λ z. z.core_types) (spaces_canon v.before v.funcs c) ∙ ((canon_keeps (spaces_at v) c).core_types ∙ p.1),
         omega (arith, p.2, ap (λ z. length z.types) (spaces_canon v.before v.funcs c), ap length (canon_keeps (spaces_at v) c).types),
       ))
       (λ c signature d p. (
-        imports_canons (add (grown s) (types (function signature ∷ []))) [] ∙ (imports_types (grown s) (function signature ∷ []) ∙ p.0),
+        own_bare imports_in (add (grown s) (types (function signature ∷ []))) (canons []) refl
+            ∙ (own_bare imports_in (grown s) (types (function signature ∷ [])) refl ∙ p.0),
         ap (λ z. z.core_types) (spaces_signature s signature) ∙ p.1,
         signature_types s signature (length (types_of t)) p.2,
       ))
       (λ full p. p) p (turned config s b x q u i))
-      0 (empty_section t) b turns rest next (omega arith)
-      (imports_canons t [], ap (λ z. z.core_types) (spaces-add t (canons [])), omega (arith, ap (λ z. length z.types) (spaces-add t (canons [])))) r in
+      0 (empty_section t) b turns rest next (omega arith) (
+        own_bare imports_in t (canons []) refl,
+        ap (λ z. z.core_types) (spaces-add t (canons [])),
+        omega (arith, ap (λ z. length z.types) (spaces-add t (canons []))),
+      ) r in
       all.2
 
 -- What is true of the builder, that many turns after the section was begun.

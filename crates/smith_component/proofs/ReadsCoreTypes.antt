@@ -10,7 +10,8 @@ use Rattle.smith_syntax.specs.CoreLimits.{CoreLimits}
 use Rattle.smith_syntax.specs.Entries.{CoreEntry}
 use Rattle.smith_syntax.specs.Marked.{Marked, scope_in}
 use Rattle.smith_syntax.specs.WellFormed.{FormedCore, FormedCores}
-use Rattle.smith_core_types.proofs.MadeCore.{made_core_tail, made_core_formed, made_core_limits, made_core_same}
+use Rattle.smith_core_types.proofs.MadeCore.{core_fits}
+use Rattle.smith_core_types.proofs.MadeCoreSame.{made_core_same}
 use Rattle.smith_tree.specs.CoreTypeNeeds.{core_need}
 use Rattle.smith_tree.specs.Limits.{SmallCoreTypes}
 use Rattle.smith_tree.specs.Marking.{with_core_entry}
@@ -18,55 +19,38 @@ use Rattle.smith_tree.specs.Script.{script_core_types}
 use Rattle.smith_tree.specs.CoreTypeScript.{script_core}
 use Rattle.smith_core_types.proofs.CoreScript.{core_read}
 use Rattle.smith_tree.specs.ReadableCoreTypes.{IsReadableCore}
-use Rattle.smith_core_types.proofs.Needs.{core_needed}
 use Rattle.smith_component.specs.AddedSections.{ReadsCoreType, ReadsCoreTypes}
 
-module _ (config : Config) where
-  pub core_types_read_formed : {max : ℕ} {own next : Marked} {b rest : List ℕ} {xs : List CoreEntry} → ReadsCoreTypes config max own b xs rest next
-      → FormedCores xs (scope_in own)
-  core_types_read_formed {own = own} {next = next} {b = b} {rest = rest} {xs = xs} r =
-      loop_gives (λ s ys t. FormedCores ys (scope_in s)) (λ s. tt) (λ s c q t e. absurd e) one 0 own b xs rest next r
-    where
-      one : (s t u : Marked) (c : List ℕ) (x : CoreEntry) (q : List ℕ) (ys : List CoreEntry) → ReadsCoreType config s c x q t → FormedCores ys (scope_in t)
-          → FormedCores (x ∷ ys) (scope_in s)
-      one s t u c x q ys (left, made, e) f = (made_core_formed made, subst (λ z. FormedCores ys (scope_in z)) e f)
+module _ (config : Config) {room : ℕ} {own next : Marked} {b rest : List ℕ} {xs : List CoreEntry} (r : ReadsCoreTypes config room own b xs rest next) where
+  pub core_types_read_formed : FormedCores xs (scope_in own)
+  core_types_read_formed = loop_gives (λ s ys t. FormedCores ys (scope_in s)) (λ s. tt) (λ s c q t e. absurd e)
+      (λ s t u c x q ys (left, made, e) f. ((core_fits made).formed, subst (λ z. FormedCores ys (scope_in z)) e f)) 0 own b xs rest next r
 
-  pub core_types_read_limited : {max : ℕ} {own next : Marked} {b rest : List ℕ} {xs : List CoreEntry} → ReadsCoreTypes config max own b xs rest next
-      → AllByRecursion (CoreLimits config) xs
-  core_types_read_limited {own = own} {next = next} {b = b} {rest = rest} {xs = xs} r =
-      loop_all _ (λ s c x q t (left, made, e). made_core_limits made) 0 own b xs rest next r
+  pub core_types_read_limited : AllByRecursion (CoreLimits config) xs
+  core_types_read_limited = loop_all _ (λ s c x q t (left, made, e). (core_fits made).limits) 0 own b xs rest next r
 
-  pub core_types_read_small : {max : ℕ} {own next : Marked} {b rest : List ℕ} {xs : List CoreEntry} → ReadsCoreTypes config max own b xs rest next
-      → SmallCoreTypes config xs
-  core_types_read_small {own = own} {next = next} {b = b} {rest = rest} {xs = xs} r =
-      loop_all _ (λ s c x q t (left, made, e). core_needed made) 0 own b xs rest next r
+  pub core_types_read_small : SmallCoreTypes config xs
+  core_types_read_small = loop_all _ (λ s c x q t (left, made, e). (core_fits made).takes.enough) 0 own b xs rest next r
 
-  pub core_types_read_tail : {max : ℕ} {own next : Marked} {b rest : List ℕ} {xs : List CoreEntry} → ReadsCoreTypes config max own b xs rest next
-      → IsTail rest b
-  core_types_read_tail {own = own} {next = next} {b = b} {rest = rest} {xs = xs} r =
-      loop_tail (λ s c q t e. absurd e) (λ s c x q t (left, made, e). made_core_tail made) 0 own b xs rest next r
+  pub core_types_read_tail : IsTail rest b
+  core_types_read_tail = loop_tail (λ s c q t e. absurd e) (λ s c x q t (left, made, e). (core_fits made).tail) 0 own b xs rest next r
 
   -- The scope has what was read.
-  pub core_types_read_scope : {max : ℕ} {own next : Marked} {b rest : List ℕ} {xs : List CoreEntry} → ReadsCoreTypes config max own b xs rest next
-      → next ≡ fold with_core_entry own xs
-  core_types_read_scope {own = own} {next = next} {b = b} {rest = rest} {xs = xs} r =
-      loop_gives (λ s ys t. t ≡ fold with_core_entry s ys) (λ s. refl) (λ s c q t e. absurd e) one 0 own b xs rest next r
-    where
-      one : (s t u : Marked) (c : List ℕ) (x : CoreEntry) (q : List ℕ) (ys : List CoreEntry) → ReadsCoreType config s c x q t
-          → u ≡ fold with_core_entry t ys → u ≡ fold with_core_entry s (x ∷ ys)
-      one s t u c x q ys (left, made, e) f = f ∙ ap (λ z. fold with_core_entry z ys) e
+  pub core_types_read_scope : next ≡ fold with_core_entry own xs
+  core_types_read_scope = loop_gives (λ s ys t. t ≡ fold with_core_entry s ys) (λ s. refl) (λ s c q t e. absurd e)
+      (λ s t u c x q ys (left, made, e) f. f ∙ ap (λ z. fold with_core_entry z ys) e) 0 own b xs rest next r
 
+module _ (config : Config) where
   -- They are determined.
   pub core_types_same : {max : ℕ} {own next other : Marked} {b r s : List ℕ} {xs ys : List CoreEntry} → ReadsCoreTypes config max own b xs r next
       → ReadsCoreTypes config max own b ys s other → (xs ≡ ys) × (r ≡ s)
   core_types_same {own = own} {next = next} {other = other} {b = b} {r = r} {s = s} {xs = xs} {ys = ys} x y =
-      let d = loop_same (λ s c q p t u e f. absurd e) (λ s c x q p t u e i. e) one 0 own b xs ys r s next other x y in (d.0, d.1)
-    where
-      one : (s : Marked) (c : List ℕ) (x y : CoreEntry) (q p : List ℕ) (t u : Marked) → ReadsCoreType config s c x q t → ReadsCoreType config s c y p u
-          → (x ≡ y) × (q ≡ p) × (t ≡ u)
-      one s c x y q p t u (left, made, e) (held, other, f) =
-          let m = made_core_same made other in
-          (m.value, m.rest, e ∙ (ap (with_core_entry s) m.value ∙ sym f))
+      let d = loop_same (λ s c q p t u e f. absurd e) (λ s c x q p t u e i. e)
+      (λ s c x y q p t u (left, made, e) (held, again, f).
+      let m = made_core_same made again in
+      (m.value, m.rest, e ∙ (ap (with_core_entry s) m.value ∙ sym f)))
+      0 own b xs ys r s next other x y in
+      (d.0, d.1)
 
   -- A core type may be in a scope, and its script can say it.
   abbrev pub Said : Marked → CoreEntry → Type 0

@@ -5,12 +5,11 @@ use Rattle.std.specs.List.{AllByRecursion}
 use Rattle.std.specs.Prelude.{Some, if◌then◌else◌, slice_get}
 use Rattle.std.proofs.lemmas.Bool.{false≢true, and_from}
 use Rattle.std.proofs.lemmas.Bool.Decides.{nat_tests}
-use Rattle.smith_input.specs.Loops.{Loop, no_more, by_itself, an_item}
 use Rattle.smith_input.specs.Names.{ReadsNew}
-use Rattle.smith_input.specs.Reading.{IsTail, More}
+use Rattle.smith_input.specs.Reading.{IsTail}
 use Rattle.smith_input.specs.Offers.{offers_of}
 use Rattle.smith_input.proofs.Loops.{loop_all, loop_few, loop_gives, loop_tail}
-use Rattle.smith_input.proofs.Reading.{more_past, tail_is, tail_trans}
+use Rattle.smith_input.proofs.Reading.{tail_is, tail_trans}
 use Rattle.smith_format.specs.declared.config.Config.{Config}
 use Rattle.smith_syntax.specs.Entries.{ImportEntry}
 use Rattle.smith_syntax.specs.Marked.{Marked}
@@ -19,6 +18,7 @@ use Rattle.smith_syntax.specs.Scope.{Scope}
 use Rattle.smith_syntax.specs.WellFormed.{FormedRef, Named}
 use Rattle.smith_syntax.specs.declared.deftype.ComponentTypeRef.{ComponentTypeRef}
 use Rattle.smith_syntax.specs.declared.deftype.ComponentTypeRef.TheVariants as to
+use Rattle.smith_tree.specs.declared.totals.RefTotals.{RefTotals}
 use Rattle.smith_tree.specs.TypeOffers.{has_room, kinds_offered, ref_offers, ref_places}
 use Rattle.smith_tree.specs.declared.choices.RefKind.TheVariants.{Func}
 use Rattle.smith_tree.specs.Marking.{marked_in, marked_inner}
@@ -26,24 +26,24 @@ use Rattle.smith_tree.specs.Offered.{OfferedImports}
 use Rattle.smith_types.proofs.ReadsDeclarations.{extern_tail, ref_tail}
 use Rattle.smith_types.proofs.References.{import_not_equal, ref_formed, ref_offered}
 use Rattle.smith_tree.proofs.Marking.{marked_keeps}
-use Rattle.smith_component.specs.Imports.{NoImport, ReadsImport, ReadsImports}
+use Rattle.smith_component.specs.Imports.{ReadsImport, ReadsImports}
 use Rattle.smith_tree.specs.Offers.{import_kinds, marked_with_imports, totals_of, with_imports}
-use Rattle.smith_tree.specs.Limits.{OwnLimits}
-use Rattle.smith_tree.specs.Open.{Open, tree_so_far}
+use Rattle.smith_tree.specs.Open.{Open}
 use Rattle.smith_component.specs.Sound.{IsAddable, Sound}
 use Rattle.smith_tree.specs.Spaces.{Spaces, after_part, spaces_of}
-use Rattle.smith_tree.specs.Tree.{Tree, imports, add, function_count}
-use Rattle.smith_tree.specs.Tree.{imports_of, module_count, component_count, instance_count, function_of}
+use Rattle.smith_tree.specs.Tree.{Tree, imports, function_count}
+use Rattle.smith_tree.specs.Tree.{imports_of, function_of}
 use Rattle.smith_tree.specs.WellFormed.{FormedImport, import_names, scope_of}
 use Rattle.smith_component.proofs.Fits.{fits_kept, fits_of, own_limits-add, own_sizes-add, sizes_keep}
 use Rattle.smith_component.proofs.Growth.{KeepsTypes, imports_keep}
 use Rattle.smith_component.proofs.ImportsRoom.{import_grows, importable, imports_cores, imports_places}
-use Rattle.smith_component.proofs.ImportsState.{RefRoom, components_more, funcs_more, import_room, imports_marked, imports_marked_more, imports_scope}
-use Rattle.smith_component.proofs.ImportsState.{instances_more, modules_more}
+use Rattle.smith_component.proofs.SectionsState.{RefRoom, components_more, funcs_more, import_room, imports_marked, imports_marked_more, imports_scope}
+use Rattle.smith_component.proofs.SectionsState.{instances_more, modules_more}
 use Rattle.smith_component.proofs.MarkedKept.{Kept, SmallCores, marked_kept}
 use Rattle.smith_component.proofs.Named.{NewEntry, imports_are_named, loop_named}
-use Rattle.smith_component.proofs.Sound.{component_count-so_far, instance_count-so_far, module_count-so_far, own_limits_of}
-use Rattle.smith_component.proofs.Tree.{function_count-add, functions_in}
+use Rattle.smith_component.proofs.Loops.{loop_reaches}
+use Rattle.smith_component.proofs.Sound.{component_count-so_far, instance_count-so_far, module_count-so_far}
+use Rattle.smith_component.proofs.Tree.{function_count-add}
 
 -- if nothing is offered, no condition holds
 not_offered : {A : Type 0} (o : Bool × A) (os : List (Bool × A)) → (offers_of os ≡ [] → AllByRecursion (λ q. q.0 ≡ false) os) → (b : Bool) → o.0 ≡ b
@@ -68,21 +68,9 @@ module _ (config : Config) (stack : Open) where
   abbrev room : ℕ
   room = config.max_imports - length (imports_of stack.inner)
 
-  no_import_tail : (s : List ImportEntry) (b r : List ℕ) (t : List ImportEntry) → NoImport config stack s b r t → IsTail r b
-  no_import_tail s b r t (none, left, same) = tail_is left
-
-  import_tail : (s : List ImportEntry) (b : List ℕ) (x : ImportEntry) (r : List ℕ) (t : List ImportEntry) → ReadsImport config stack s b x r t → IsTail r b
-  import_tail s b x r t i = tail_trans (extern_tail i.so_far i.mid (x.name, i.url) r i.named)
-      (ref_tail config (marked_with_imports config stack s) (totals_of (with_imports stack s)) true false b x.to i.mid i.of)
-
-  -- An import section leaves a tail of the bytes.
-  pub imports_tail : {min : ℕ} {b rest : List ℕ} {is : List ImportEntry} → ReadsImports config min stack b is rest → IsTail rest b
-  imports_tail {b = b} {rest = rest} {is = is} r = loop_tail no_import_tail import_tail 0 [] b is rest is r
-
-  -- A component has as many imports as it may, at most.
-  pub imports_few : {min : ℕ} {b rest : List ℕ} {is : List ImportEntry} → length (imports_of stack.inner) ≤ config.max_imports
-      → ReadsImports config min stack b is rest → length (imports_of stack.inner) + length is ≤ config.max_imports
-  imports_few {b = b} {rest = rest} {is = is} h r = let few : 0 + length is ≤ room = loop_few 0 [] b is rest is (omega arith) r in omega (arith, few, h)
+  -- the totals with these
+  abbrev totals_at : List ImportEntry → RefTotals
+  totals_at s = totals_of (with_imports stack s)
 
   formed_import : (s : List ImportEntry) (b : List ℕ) (x : ImportEntry) (r : List ℕ) (t : List ImportEntry) → ReadsImport config stack s b x r t
       → FormedImport (scope_of stack.inner) x
@@ -91,14 +79,6 @@ module _ (config : Config) (stack : Open) where
         (ref_formed config (marked_with_imports config stack s) _ true false b x.to i.mid i.of),
     import_not_equal config (marked_with_imports config stack s) _ false b x.to i.mid i.of,
   )
-
-  -- What is read is of what is in the component.
-  pub imports_formed : {min : ℕ} {b rest : List ℕ} {is : List ImportEntry} → ReadsImports config min stack b is rest
-      → AllByRecursion (FormedImport (scope_of stack.inner)) is
-  imports_formed {b = b} {rest = rest} {is = is} r = loop_all (FormedImport (scope_of stack.inner)) formed_import 0 [] b is rest is r
-
-  no_import_same : (s : List ImportEntry) (b r : List ℕ) (t : List ImportEntry) → NoImport config stack s b r t → t ≡ s
-  no_import_same s b r t e = e.2
 
   pub import_new : (s : List ImportEntry) (b : List ℕ) (x : ImportEntry) (r : List ℕ) (t : List ImportEntry) → ReadsImport config stack s b x r t
       → NewEntry (λ (i : ImportEntry). i.name) (imports_of stack.inner) s x t
@@ -109,106 +89,88 @@ module _ (config : Config) (stack : Open) where
     next_is = i.next_is;
   }
 
-  -- The names of the component's imports stay distinct and in kebab case.
-  pub imports_named : {min : ℕ} {b rest : List ℕ} {is : List ImportEntry} → Named (import_names (imports_of stack.inner))
-      → ReadsImports config min stack b is rest → Named (import_names (imports_of stack.inner ++ is))
-  imports_named h r = loop_named (λ (i : ImportEntry). i.name) (imports_of stack.inner) no_import_same import_new h r
-
-  -- What was within the limits stays within them.
-  pub record KeepsTotals (s t : List ImportEntry) : Type 0 where
-    pub modules : (totals_of (with_imports stack s)).modules ≤ config.max_modules → (totals_of (with_imports stack t)).modules ≤ config.max_modules
-    pub funcs : (totals_of (with_imports stack s)).funcs ≤ config.max_funcs → (totals_of (with_imports stack t)).funcs ≤ config.max_funcs
-    pub components : (totals_of (with_imports stack s)).components ≤ config.max_components
-        → (totals_of (with_imports stack t)).components ≤ config.max_components
-    pub instances : (totals_of (with_imports stack s)).instances ≤ config.max_instances → (totals_of (with_imports stack t)).instances ≤ config.max_instances
-
-  keeps_same : (s : List ImportEntry) → KeepsTotals s s
-  keeps_same s = record { modules = λ h. h; funcs = λ h. h; components = λ h. h; instances = λ h. h }
-
-  keeps_then : (s t u : List ImportEntry) → KeepsTotals s t → KeepsTotals t u → KeepsTotals s u
-  keeps_then s t u a b = record {
-    modules = λ h. b.modules (a.modules h);
-    funcs = λ h. b.funcs (a.funcs h);
-    components = λ h. b.components (a.components h);
-    instances = λ h. b.instances (a.instances h);
-  }
-
-  keeps_one : (s : List ImportEntry) (b : List ℕ) (x : ImportEntry) (r : List ℕ) (t : List ImportEntry) → ReadsImport config stack s b x r t → KeepsTotals s t
-  keeps_one s b x r t i =
-      let room : RefRoom config (totals_of (with_imports stack s)) x.to =
-      import_room config (marked_with_imports config stack s) (totals_of (with_imports stack s)) b x.to i.mid i.of in
-      subst (KeepsTotals s) (sym i.next_is) (record {
-        modules = λ h. omega (arith, h, room.modules, modules_more stack s x);
-        funcs = λ h. omega (arith, h, room.funcs, funcs_more stack s x);
-        components = λ h. omega (arith, h, room.components, components_more stack s x);
-        instances = λ h. omega (arith, h, room.instances, instances_more stack s x);
-      })
-
-  pub totals_keep : {min : ℕ} {b rest : List ℕ} {is : List ImportEntry} → ReadsImports config min stack b is rest → KeepsTotals [] is
-  totals_keep {b = b} {rest = rest} {is = is} r =
-      loop_gives (λ s xs t. KeepsTotals s t) keeps_same (λ s c q t e. subst (KeepsTotals s) (sym e.2) (keeps_same s))
-      (λ s t u c x q xs i k. keeps_then s t u (keeps_one s c x q t i) k) 0 [] b is rest is r
-
-  -- What an import section reads may be added.
-  pub imports_addable : {min : ℕ} {b rest : List ℕ} {is : List ImportEntry} → Sound config stack → ReadsImports config min stack b is rest
-      → IsAddable config stack (imports is)
-  imports_addable {is = is} sound r =
-      let limits : OwnLimits config stack.inner = own_limits_of config stack sound in
-      let few : length (imports_of stack.inner) + length is ≤ config.max_imports = imports_few limits.imports r in
-      let keep : KeepsTotals [] is = totals_keep r in
-      let spaces : Spaces = after_part (spaces_of stack.inner) (imports is) in
-      let same : KeepsTypes (spaces_of stack.inner) spaces = imports_keep (spaces_of stack.inner) is in
-      let outer : List Tree = stack.outer in
-      let inner : Tree = stack.inner in
-      record {
-        formed = (imports_formed r, imports_named (imports_are_named config stack sound) r);
-        own = λ o.
-            let start : function_count (add inner (imports [])) ≤ config.max_funcs =
-            omega (arith, o.functions, function_count-add inner (imports [])) in
-            let fits : function_count inner + functions_in (imports is) ≤ config.max_funcs =
-            omega (arith, keep.funcs start, function_count-add inner (imports is)) in
-            own_limits-add config inner (imports is) o (fits_kept config (spaces_of inner) spaces same (fits_of config inner o))
-            (record { imports = few; functions = fits; exports = omega (arith, o.exports) }) tt;
-        sizes = λ o. own_sizes-add config inner (imports is) (sizes_keep config (spaces_of inner) spaces same o);
-        modules = λ h.
-            let start : module_count (tree_so_far outer (add inner (imports []))) ≤ config.max_modules =
-            omega (arith, h, module_count-so_far outer inner (imports [])) in
-            omega (arith, keep.modules start, module_count-so_far outer inner (imports is));
-        components = λ h.
-            let start : component_count (tree_so_far outer (add inner (imports []))) ≤ config.max_components =
-            omega (arith, h, component_count-so_far outer inner (imports [])) in
-            omega (arith, keep.components start, component_count-so_far outer inner (imports is));
-        instances = λ h.
-            let start : instance_count (tree_so_far outer (add inner (imports []))) ≤ config.max_instances =
-            omega (arith, h, instance_count-so_far outer inner (imports [])) in
-            omega (arith, keep.instances start, instance_count-so_far outer inner (imports is));
-        no_component = refl;
-        flat = refl;
-        declared = λ h. omega (arith, h);
-      }
-
-  -- What is read was offered, and found room.
-
   room_there : {A : Type 0} (room : Bool) (xs : List A) (k : ℕ) (x : A) → slice_get (if room then xs else []) k ≡ Some x → room ≡ true
   room_there true xs k x h = refl
   room_there false xs k x h = absurd (cc)
 
-  offered_on : (s u v : List ImportEntry) (b : List ℕ) (x : ImportEntry) (r : List ℕ) (xs : List ImportEntry) → ReadsImport config stack s b x r u
-      → OfferedImports xs (marked_with_imports config stack u) → OfferedImports (x ∷ xs) (marked_with_imports config stack s)
-  offered_on s u v b x r xs i rest =
-      let own : Marked = marked_with_imports config stack s in
-      let totals = totals_of (with_imports stack s) in (
-        ref_offered config own totals true false b x.to i.mid i.of,
-        room_there (has_room own false) (kinds_offered config own totals true false) i.of.choice.place i.of.kind i.of.choice.named,
-        subst (OfferedImports xs) (ap (λ z. marked_with_imports config stack z) i.next_is ∙ imports_marked_more config stack s x) rest,
-      )
+  module _ {min : ℕ} {b rest : List ℕ} {is : List ImportEntry} (r : ReadsImports config min stack b is rest) where
+    -- An import section leaves a tail of the bytes.
+    pub imports_tail : IsTail rest b
+    imports_tail = loop_tail (λ s c q t e. tail_is e.1)
+        (λ s c x q t i. tail_trans (extern_tail i.so_far i.mid (x.name, i.url) q i.named)
+        (ref_tail config (marked_with_imports config stack s) (totals_at s) true false c x.to i.mid i.of)) 0 [] b is rest is r
 
-  pub imports_offered : {min : ℕ} {b rest : List ℕ} {is : List ImportEntry} → ReadsImports config min stack b is rest
-      → OfferedImports is (marked_inner config stack.outer stack.inner)
-  imports_offered {b = b} {rest = rest} {is = is} r =
-      let R : List ImportEntry → List ImportEntry → List ImportEntry → Type 0 = λ s xs t. OfferedImports xs (marked_with_imports config stack s) in
-      subst (OfferedImports is) (imports_marked config stack [])
-      (loop_gives R (λ s. tt) (λ s c q t e. tt) offered_on 0 [] b is rest is r)
+    -- A component has as many imports as it may, at most.
+    imports_few : length (imports_of stack.inner) ≤ config.max_imports → length (imports_of stack.inner) + length is ≤ config.max_imports
+    imports_few h = let few : 0 + length is ≤ room = loop_few 0 [] b is rest is (omega arith) r in omega (arith, few, h)
+
+    -- What is read is of what is in the component.
+    imports_formed : AllByRecursion (FormedImport (scope_of stack.inner)) is
+    imports_formed = loop_all (FormedImport (scope_of stack.inner)) formed_import 0 [] b is rest is r
+
+    -- The names of the component's imports stay distinct and in kebab case.
+    imports_named : Named (import_names (imports_of stack.inner)) → Named (import_names (imports_of stack.inner ++ is))
+    imports_named h = loop_named (λ (i : ImportEntry). i.name) (imports_of stack.inner) (λ s c q t e. e.2) import_new h r
+
+    -- A count that was within its limit stays within it, if an import that finds room keeps it so.
+    count_kept : (count : RefTotals → ℕ) (most : ℕ)
+        → ((s : List ImportEntry) (x : ImportEntry) → RefRoom config (totals_at s) x.to → count (totals_at s) ≤ most → count (totals_at (s ++ x ∷ [])) ≤ most)
+        → count (totals_at []) ≤ most → count (totals_at is) ≤ most
+    count_kept count most one start =
+        let Fits : List ImportEntry → Type 0 = λ s. count (totals_at s) ≤ most in
+        loop_gives (λ s xs t. Fits s → Fits t) (λ s h. h) (λ s c q t e h. subst Fits (sym e.2) h)
+        (λ s t u c x q xs i later h.
+        later (subst Fits (sym i.next_is) (one s x (import_room config (marked_with_imports config stack s) (totals_at s) c x.to i.mid i.of) h)))
+        0 [] b is rest is r start
+
+    -- What an import section reads may be added.
+    pub imports_addable : Sound config stack → IsAddable config stack (imports is)
+    imports_addable sound =
+        let spaces : Spaces = after_part (spaces_of stack.inner) (imports is) in
+        let same : KeepsTypes (spaces_of stack.inner) spaces = imports_keep (spaces_of stack.inner) is in
+        let outer : List Tree = stack.outer in
+        let inner : Tree = stack.inner in
+        record {
+          formed = (imports_formed, imports_named (imports_are_named config stack sound));
+          own = λ o.
+              let fits = count_kept (λ z. z.funcs) config.max_funcs (λ s x fits h. omega (arith, h, fits.funcs, funcs_more stack s x))
+              (omega (arith, o.functions, function_count-add inner (imports []))) in
+              own_limits-add config inner (imports is) o (fits_kept config (spaces_of inner) spaces same (fits_of config inner o)) (record {
+                imports = imports_few o.imports;
+                functions = omega (arith, fits, function_count-add inner (imports is));
+                exports = omega (arith, o.exports);
+              }) tt;
+          sizes = λ o. own_sizes-add config inner (imports is) (sizes_keep config (spaces_of inner) spaces same o);
+          modules = λ h.
+              let fits = count_kept (λ z. z.modules) config.max_modules (λ s x fits h. omega (arith, h, fits.modules, modules_more stack s x))
+              (omega (arith, h, module_count-so_far outer inner (imports []))) in
+              omega (arith, fits, module_count-so_far outer inner (imports is));
+          components = λ h.
+              let fits = count_kept (λ z. z.components) config.max_components (λ s x fits h. omega (arith, h, fits.components, components_more stack s x))
+              (omega (arith, h, component_count-so_far outer inner (imports []))) in
+              omega (arith, fits, component_count-so_far outer inner (imports is));
+          instances = λ h.
+              let fits = count_kept (λ z. z.instances) config.max_instances (λ s x fits h. omega (arith, h, fits.instances, instances_more stack s x))
+              (omega (arith, h, instance_count-so_far outer inner (imports []))) in
+              omega (arith, fits, instance_count-so_far outer inner (imports is));
+          no_component = refl;
+          flat = refl;
+          declared = λ h. omega (arith, h);
+        }
+
+    -- What is read was offered, and found room.
+    pub imports_offered : OfferedImports is (marked_inner config stack.outer stack.inner)
+    imports_offered =
+        let marked : List ImportEntry → Marked = marked_with_imports config stack in
+        let R : List ImportEntry → List ImportEntry → List ImportEntry → Type 0 = λ s xs t. OfferedImports xs (marked s) in
+        subst (OfferedImports is) (imports_marked config stack [])
+        (loop_gives R (λ s. tt) (λ s c q t e. tt)
+        (λ s t u c x q xs i later. (
+          ref_offered config (marked s) (totals_at s) true false c x.to i.mid i.of,
+          room_there (has_room (marked s) false) (kinds_offered config (marked s) (totals_at s) true false) i.of.choice.place i.of.kind i.of.choice.named,
+          subst (OfferedImports xs) (ap marked i.next_is ∙ imports_marked_more config stack s x) later,
+        ))
+        0 [] b is rest is r)
 
   -- If functions can be imported, and there is room, there is something to import.
   func_offered : (s : List ImportEntry) → 0 < importable (marked_inner config stack.outer stack.inner)
@@ -227,16 +189,9 @@ module _ (config : Config) (stack : Open) where
       let allowed : nat_lt totals.funcs config.max_funcs ≡ true = grind (arith, nat_tests, below) in
       false≢true (sym all.1.1.0 ∙ and_from _ _ there allowed)
 
-  module _ (min most : ℕ) (ordered : min ≤ most) (has : 0 < importable (marked_inner config stack.outer stack.inner))
+  module _ (min : ℕ) (has : 0 < importable (marked_inner config stack.outer stack.inner))
       (room : function_count stack.inner + min ≤ config.max_funcs) (cores : SmallCores (marked_inner config stack.outer stack.inner))
       (lasting : config.must_validate ≡ true → (marked_inner config stack.outer stack.inner).size + min * small_size ≤ room_size + small_size) where
-    all_made : (done : ℕ) (b rest : List ℕ) → More done min most b false rest → min ≤ done
-    all_made done b rest m = by_room (nat_lt done most) refl
-      where
-        by_room : (z : Bool) → nat_lt done most ≡ z → min ≤ done
-        by_room true f = let lt : done < most = grind (arith, nat_tests) in more_past lt m
-        by_room false f = let le : most ≤ done = grind (arith, nat_tests) in omega (arith, le, ordered)
-
     -- when that many are made
     record Made (done : ℕ) (s : List ImportEntry) : Type 0 where
       funcs : (totals_of (with_imports stack s)).funcs ≤ function_count stack.inner + done
@@ -286,13 +241,6 @@ module _ (config : Config) (stack : Open) where
           );
         }
 
-    enough_from : (done : ℕ) (s : List ImportEntry) (b : List ℕ) (xs : List ImportEntry) (rest : List ℕ) (t : List ImportEntry) → Made done s
-        → Loop (NoImport config stack) (ReadsImport config stack) min most done s b xs rest t → min ≤ done + length xs
-    enough_from done s b xs rest t made (no_more m e) = omega (arith, all_made done b rest m)
-    enough_from done s b xs rest t made (by_itself m e) = omega (arith, enough_at_end done s made e.0)
-    enough_from done s b xs rest u made (an_item {t = t} {mid = mid} {after = after} {x = x} {xs = ys} m i l) =
-        omega (arith, enough_from (done + 1) t after ys rest u (made_one done s t mid x after made i) l)
-
   -- A section has as many imports as it must, if functions may be imported for all of them.
   pub imports_enough : {min : ℕ} {b rest : List ℕ} {is : List ImportEntry} → 0 < importable (marked_inner config stack.outer stack.inner)
       → function_count stack.inner + min ≤ config.max_funcs → SmallCores (marked_inner config stack.outer stack.inner)
@@ -300,9 +248,11 @@ module _ (config : Config) (stack : Open) where
       → min ≤ config.max_imports - length (imports_of stack.inner)
       → ReadsImports config min stack b is rest → min ≤ length is
   imports_enough {min = min} {b = b} {rest = rest} {is = is} has fits cores lasting ordered r =
-      let start : Made min room ordered has fits cores lasting 0 [] = record {
+      let M : ℕ → List ImportEntry → Type 0 = Made min has fits cores lasting in
+      let start : M 0 [] = record {
         funcs = omega (arith, function_count-add stack.inner (imports []));
         size = omega (arith, ap (λ (m : Marked). m.size) (imports_marked config stack []));
       } in
-      let enough : min ≤ 0 + length is = enough_from min room ordered has fits cores lasting 0 [] b is rest is start r in
-      omega (arith, enough)
+      let all = loop_reaches M (λ n s c q t p e. (enough_at_end min has fits cores lasting n s p e.0, subst (M n) (sym e.2) p))
+      (λ n s c x q t lt p i. made_one min has fits cores lasting n s t c x q p i) ordered 0 [] b is rest is (omega arith) start r in
+      omega (arith, all.1, all.2)

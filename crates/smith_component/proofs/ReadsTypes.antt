@@ -6,7 +6,7 @@ use Rattle.smith_input.specs.Loops.{Along, after_all}
 use Rattle.smith_input.specs.Reading.{IsTail}
 use Rattle.smith_input.proofs.Loops.{loop_tail, loop_gives, loop_all, loop_enough, loop_same, loop_read}
 use Rattle.smith_format.specs.declared.config.Config.{Config}
-use Rattle.smith_syntax.specs.Entries.{Entry}
+use Rattle.smith_syntax.specs.Entries.{Entry, plain}
 use Rattle.smith_syntax.specs.Marked.{Marked, scope_in, scopes_in_marked}
 use Rattle.smith_syntax.specs.Usable.{OfferedEntry}
 use Rattle.smith_tree.specs.ReadableTypes.{IsReadableType}
@@ -18,89 +18,95 @@ use Rattle.smith_tree.specs.Limits.{SmallTypes}
 use Rattle.smith_tree.specs.Marking.{with_type_entry}
 use Rattle.smith_tree.specs.Offered.{OfferedTypes}
 use Rattle.smith_tree.specs.Tree.{most}
-use Rattle.smith_tree.specs.TypeNeeds.{declaring}
+use Rattle.smith_tree.specs.TypeNeeds.{declaring, need}
 use Rattle.smith_tree.specs.Script.{script_types}
 use Rattle.smith_component.specs.AddedSections.{ReadsType, ReadsTypes}
 use Rattle.smith_types.proofs.ReferencesRead.{IsFew}
 use Rattle.smith_types.proofs.ScopedScript.{type_read}
-use Rattle.smith_component.proofs.MadeWith.{made_with_tail, made_with_formed, made_with_limits, made_with_need, made_with_declared}
-use Rattle.smith_component.proofs.MadeWith.{made_with_offered, made_with_same}
+use Rattle.smith_types.specs.Made.{MadeWith}
+use Rattle.smith_types.proofs.MadeFits.{made_fits}
+use Rattle.smith_types.proofs.MadeSame.{made_same}
+use Rattle.smith_tree.proofs.TypeNeeds.{declared_within}
 
-module _ (config : Config) (outer : List Marked) where
-  pub types_read_formed : {min max : ℕ} {own next : Marked} {b rest : List ℕ} {xs : List Entry} → ReadsTypes config outer min max own b xs rest next
-      → FormedTypes xs (scope_in own) (scopes_in_marked outer)
-  types_read_formed {max = max} {own = own} {next = next} {b = b} {rest = rest} {xs = xs} r =
-      loop_gives (λ s ys t. FormedTypes ys (scope_in s) (scopes_in_marked outer)) (λ s. tt) (λ s c q t e. absurd e) one 0 own b xs rest next r
-    where
-      one : (s t u : Marked) (c : List ℕ) (x : Entry) (q : List ℕ) (ys : List Entry) → ReadsType config outer s c x q t
-          → FormedTypes ys (scope_in t) (scopes_in_marked outer) → FormedTypes (x ∷ ys) (scope_in s) (scopes_in_marked outer)
-      one s t u c x q ys (made, e) f = (made_with_formed made, subst (λ z. FormedTypes ys (scope_in z) (scopes_in_marked outer)) e f)
+-- What a type that is read is, as a plain tree.
+module _ {config : Config} {own : Marked} {outer : List Marked} {fuel : ℕ} {b rest : List ℕ} {e : Entry} (m : MadeWith config own outer fuel b e rest) where
+  pub made_with_tail : IsTail rest b
+  made_with_tail = (made_fits m.made).tail
 
-  pub types_read_offered : {min max : ℕ} {own next : Marked} {b rest : List ℕ} {xs : List Entry} → ReadsTypes config outer min max own b xs rest next
-      → OfferedTypes xs outer own
-  types_read_offered {own = own} {next = next} {b = b} {rest = rest} {xs = xs} r =
-      loop_gives (λ s ys t. OfferedTypes ys outer s) (λ s. tt) (λ s c q t e. absurd e) one 0 own b xs rest next r
-    where
-      one : (s t u : Marked) (c : List ℕ) (x : Entry) (q : List ℕ) (ys : List Entry) → ReadsType config outer s c x q t → OfferedTypes ys outer t
-          → OfferedTypes (x ∷ ys) outer s
-      one s t u c x q ys (made, e) f = (made_with_offered made, subst (OfferedTypes ys outer) e f)
+  pub made_with_formed : FormedEntry e (scope_in own) (scopes_in_marked outer)
+  made_with_formed = subst (λ x. FormedEntry x (scope_in own) (scopes_in_marked outer)) (sym m.shown) (made_fits m.made).is.0
 
-  pub types_read_small : {min max : ℕ} {own next : Marked} {b rest : List ℕ} {xs : List Entry} → ReadsTypes config outer min max own b xs rest next
-      → SmallTypes config xs
-  types_read_small {own = own} {next = next} {b = b} {rest = rest} {xs = xs} r =
-      loop_all _ (λ s c x q t (made, e). made_with_need made) 0 own b xs rest next r
+  pub made_with_offered : OfferedEntry e own outer
+  made_with_offered = subst (λ x. OfferedEntry x own outer) (sym m.shown) (made_fits m.made).is.1
 
-  pub types_read_limited : {min max : ℕ} {own next : Marked} {b rest : List ℕ} {xs : List Entry} → ReadsTypes config outer min max own b xs rest next
-      → AllByRecursion (EntryLimits config) xs
-  types_read_limited {own = own} {next = next} {b = b} {rest = rest} {xs = xs} r =
-      loop_all _ (λ s c x q t (made, e). made_with_limits made) 0 own b xs rest next r
+  pub made_with_limits : EntryLimits config e
+  made_with_limits = subst (EntryLimits config) (sym m.shown) (made_fits m.made).limits
 
-  -- entries of which none has a greater number
-  most_below : (number : Entry → ℕ) (n : ℕ) (xs : List Entry) → AllByRecursion (λ x. number x ≤ n) xs → most number xs ≤ n
-  most_below number n [] h = omega arith
-  most_below number n (x ∷ xs) h = omega (arith, h.0, most_below number n xs h.1)
+  pub made_with_need : need e ≤ fuel
+  made_with_need = omega (arith, ap need m.shown, (made_fits m.made).takes.enough)
+
+  pub made_with_declared : length (own ∷ outer) + declaring e ≤ max (length (own ∷ outer)) config.max_nesting_depth
+  made_with_declared = omega (arith, ap declaring m.shown, declared_within (plain m.full) config (length (own ∷ outer)) (made_fits m.made).nests)
+
+  pub made_with_readable : IsReadableType e
+  made_with_readable = subst IsReadableType (sym m.shown) (made_fits m.made).readable
+
+  -- It is determined.
+  pub made_with_same : {f : Entry} {other : List ℕ} → MadeWith config own outer fuel b f other → (e ≡ f) × (rest ≡ other)
+  made_with_same n =
+      let s = made_same m.made n.made in
+      (m.shown ∙ (ap plain s.value ∙ sym n.shown), s.rest)
+
+-- entries of which none has a greater number
+most_below : (number : Entry → ℕ) (n : ℕ) (xs : List Entry) → AllByRecursion (λ x. number x ≤ n) xs → most number xs ≤ n
+most_below number n [] h = omega arith
+most_below number n (x ∷ xs) h = omega (arith, h.0, most_below number n xs h.1)
+
+module _ (config : Config) (outer : List Marked) {min room : ℕ} {own next : Marked} {b rest : List ℕ} {xs : List Entry}
+    (r : ReadsTypes config outer min room own b xs rest next) where
+  pub types_read_formed : FormedTypes xs (scope_in own) (scopes_in_marked outer)
+  types_read_formed = loop_gives (λ s ys t. FormedTypes ys (scope_in s) (scopes_in_marked outer)) (λ s. tt) (λ s c q t e. absurd e)
+      (λ s t u c x q ys (made, e) f. (made_with_formed made, subst (λ z. FormedTypes ys (scope_in z) (scopes_in_marked outer)) e f)) 0 own b xs rest next r
+
+  pub types_read_offered : OfferedTypes xs outer own
+  types_read_offered = loop_gives (λ s ys t. OfferedTypes ys outer s) (λ s. tt) (λ s c q t e. absurd e)
+      (λ s t u c x q ys (made, e) f. (made_with_offered made, subst (OfferedTypes ys outer) e f)) 0 own b xs rest next r
+
+  pub types_read_small : SmallTypes config xs
+  types_read_small = loop_all _ (λ s c x q t (made, e). made_with_need made) 0 own b xs rest next r
+
+  pub types_read_limited : AllByRecursion (EntryLimits config) xs
+  types_read_limited = loop_all _ (λ s c x q t (made, e). made_with_limits made) 0 own b xs rest next r
 
   -- how deep the types are that these declare
-  pub types_read_declared : {min room : ℕ} {own next : Marked} {b rest : List ℕ} {xs : List Entry} → ReadsTypes config outer min room own b xs rest next
-      → length outer + 1 + most declaring xs ≤ max (length outer + 1) config.max_nesting_depth
-  types_read_declared {own = own} {next = next} {b = b} {rest = rest} {xs = xs} r =
+  pub types_read_declared : length outer + 1 + most declaring xs ≤ max (length outer + 1) config.max_nesting_depth
+  types_read_declared =
       let deepest : ℕ = max (length outer + 1) config.max_nesting_depth - (length outer + 1) in
       let each : AllByRecursion (λ x. declaring x ≤ deepest) xs =
       loop_all _ (λ s c x q t (made, e). omega (arith, made_with_declared made)) 0 own b xs rest next r in
       omega (arith, most_below declaring deepest xs each)
 
-  pub types_read_tail : {min max : ℕ} {own next : Marked} {b rest : List ℕ} {xs : List Entry} → ReadsTypes config outer min max own b xs rest next
-      → IsTail rest b
-  types_read_tail {own = own} {next = next} {b = b} {rest = rest} {xs = xs} r =
-      loop_tail (λ s c q t e. absurd e) (λ s c x q t (made, e). made_with_tail made) 0 own b xs rest next r
+  pub types_read_tail : IsTail rest b
+  types_read_tail = loop_tail (λ s c q t e. absurd e) (λ s c x q t (made, e). made_with_tail made) 0 own b xs rest next r
 
   -- The scope has what was read.
-  pub types_read_scope : {min max : ℕ} {own next : Marked} {b rest : List ℕ} {xs : List Entry} → ReadsTypes config outer min max own b xs rest next
-      → next ≡ fold (with_type_entry outer) own xs
-  types_read_scope {own = own} {next = next} {b = b} {rest = rest} {xs = xs} r =
-      loop_gives (λ s ys t. t ≡ fold (with_type_entry outer) s ys) (λ s. refl) (λ s c q t e. absurd e) one 0 own b xs rest next r
-    where
-      one : (s t u : Marked) (c : List ℕ) (x : Entry) (q : List ℕ) (ys : List Entry) → ReadsType config outer s c x q t
-          → u ≡ fold (with_type_entry outer) t ys → u ≡ fold (with_type_entry outer) s (x ∷ ys)
-      one s t u c x q ys (made, e) f = f ∙ ap (λ z. fold (with_type_entry outer) z ys) e
+  pub types_read_scope : next ≡ fold (with_type_entry outer) own xs
+  types_read_scope = loop_gives (λ s ys t. t ≡ fold (with_type_entry outer) s ys) (λ s. refl) (λ s c q t e. absurd e)
+      (λ s t u c x q ys (made, e) f. f ∙ ap (λ z. fold (with_type_entry outer) z ys) e) 0 own b xs rest next r
 
   -- There are no fewer than there must be.
-  pub types_enough : {min max : ℕ} {own next : Marked} {b rest : List ℕ} {xs : List Entry} → min ≤ max → ReadsTypes config outer min max own b xs rest next
-      → min ≤ length xs
-  types_enough {own = own} {next = next} {b = b} {rest = rest} {xs = xs} few r =
-      let n = loop_enough (λ s c q t e. absurd e) few 0 own b xs rest next r in omega (arith, n)
+  pub types_enough : min ≤ room → min ≤ length xs
+  types_enough few = let n = loop_enough (λ s c q t e. absurd e) few 0 own b xs rest next r in omega (arith, n)
 
+module _ (config : Config) (outer : List Marked) where
   -- They are determined.
   pub types_same : {min max : ℕ} {own next other : Marked} {b r s : List ℕ} {xs ys : List Entry} → ReadsTypes config outer min max own b xs r next
       → ReadsTypes config outer min max own b ys s other → (xs ≡ ys) × (r ≡ s)
   types_same {own = own} {next = next} {other = other} {b = b} {r = r} {s = s} {xs = xs} {ys = ys} x y =
-      let d = loop_same (λ s c q p t u e f. absurd e) (λ s c x q p t u e i. e) one 0 own b xs ys r s next other x y in (d.0, d.1)
-    where
-      one : (s : Marked) (c : List ℕ) (x y : Entry) (q p : List ℕ) (t u : Marked) → ReadsType config outer s c x q t → ReadsType config outer s c y p u
-          → (x ≡ y) × (q ≡ p) × (t ≡ u)
-      one s c x y q p t u (made, e) (other, f) =
-          let m = made_with_same made other in
-          (m.0, m.1, e ∙ (ap (λ z. with_type_entry outer s z) m.0 ∙ sym f))
+      let d = loop_same (λ s c q p t u e f. absurd e) (λ s c x q p t u e i. e)
+      (λ s c x y q p t u (made, e) (again, f). let m = made_with_same made again in (m.0, m.1, e ∙ (ap (with_type_entry outer s) m.0 ∙ sym f)))
+      0 own b xs ys r s next other x y in
+      (d.0, d.1)
 
   -- A type may be in a scope, and its script can say it.
   abbrev pub Said : Marked → Entry → Type 0

@@ -34,9 +34,7 @@ turns_few (suc (suc k)) config stack left c r m (building next, left1, one, more
 
 -- A run from the start is never longer than it may be.
 pub runs_to : (config : Config) (input : List ℕ) (c : Tree) (r : List ℕ) (k : ℕ) → Run config input c r k → RunsTo config input c r
-runs_to config input c r k t =
-    let few : k ≤ todo config input root = turns_few k config root input c r (omega arith) t in
-    record { turns = k; few = omega (arith, few, todo_start config input); run = t }
+runs_to config input c r k t = grind (arith, turns_few, todo_start)
 
 -- No more components are open than may be nested.
 pub open_few : (config : Config) (stack : Open) → Sound config stack → length stack.outer + 1 ≤ max_depth config
@@ -70,10 +68,7 @@ reached_there At config input stack left r there =
 
 pub reached_step : (config same : Config) (input : List ℕ) (stack next : Open) (now : Next) (left left2 : List ℕ) → same ≡ config → now ≡ building next
     → Reached config input stack left → Turn same stack left now left2 → Reached config input next left2
-reached_step config same input stack next now left left2 e n r t =
-    let P : Config → Type 0 = λ x. Turn x stack left now left2 in
-    let Q : Next → Type 0 = λ x. Turn config stack left x left2 in
-    reached_turn config input stack next left left2 r (subst Q n (subst P e t))
+reached_step config same input stack next now left left2 e n r t = grind (arith, reached_turn)
 
 pub reached_refusal : (config same : Config) (input : List ℕ) (stack : Open) (left : List ℕ) → same ≡ config → Reached config input stack left
     → IsConsistent config → (e : Error) (rest : List ℕ) → IsStepRefusal same stack left e rest → IsRefusal config input e rest
@@ -84,7 +79,4 @@ reached_refusal config same input stack left e r consistent error rest h =
 
 pub reached_answer : (config same : Config) (input : List ℕ) (stack : Open) (c : Tree) (now : Next) (left left2 : List ℕ) → same ≡ config → now ≡ answered c
     → Reached config input stack left → Turn same stack left now left2 → RunsTo config input c left2
-reached_answer config same input stack c now left left2 e n r t =
-    let P : Config → Type 0 = λ x. Turn x stack left now left2 in
-    let Q : Next → Type 0 = λ x. Turn config stack left x left2 in
-    reached_end config input stack c left left2 r (subst Q n (subst P e t))
+reached_answer config same input stack c now left left2 e n r t = grind (arith, reached_end)

@@ -20,7 +20,7 @@ use Rattle.smith_tree.specs.Marking.{marked_in, marked_inner}
 use Rattle.smith_tree.specs.Offered.{OfferedPart}
 use Rattle.smith_tree.specs.Spaces.{spaces_of, types_of}
 use Rattle.smith_tree.specs.Tree.{Tree, ends, first, Part, custom, core_module, core_types, component, types, canons, imports, exports, add}
-use Rattle.smith_tree.specs.Tree.{component_count, module_count, no_depth, most}
+use Rattle.smith_tree.specs.Tree.{no_depth, most}
 use Rattle.smith_tree.specs.WellFormed.{Formed, FormedPart}
 use Rattle.smith_tree.specs.Limits.{OwnLimits, Maxima, Minima}
 use Rattle.smith_tree.specs.Open.{Open, item_offers, items, items_with_input, is_finish_offered, is_module_offered, is_component_offered}
@@ -32,15 +32,13 @@ use Rattle.smith_tree.specs.contracts.choices.Item.{the_type}
 use Rattle.smith_tree.specs.contracts.choices.ItemPartialEq.TheImpl.{ghosts as equal}
 use Rattle.smith_tree.specs.declared.choices.Item.{Item}
 use Rattle.smith_tree.specs.declared.choices.Item.TheVariants.{Finish, Custom, CoreTypes, Types, Imports, Canonical, Module, Component, Exports}
-use Rattle.smith_component.proofs.Tree.{all_before, all_inner, depth-outer, depth-so_far, join-add, join-ends, join}
+use Rattle.smith_component.proofs.Tree.{all_before, all_inner, depth-outer, depth-so_far, join-add, join-ends, join, formed_front}
 use Rattle.smith_component.proofs.CanonsRead.{Spoken}
-use Rattle.smith_component.proofs.PartsRead.{fills_nothing, spoken_past, custom_part, core_types_part, types_part, imports_part}
-use Rattle.smith_component.proofs.PartsRead.{canons_part, exports_part, module_part}
-use Rattle.smith_component.proofs.Plan.{PartStands}
+use Rattle.smith_component.proofs.PartsRead.{fills_nothing, spoken_past, custom_part, core_types_part, types_part, imports_part, canons_part, exports_part}
+use Rattle.smith_component.proofs.PartsRead.{module_part, PartStands}
 use Rattle.smith_component.proofs.Fits.{own_limits-front, own_limits_swap}
 use Rattle.smith_component.proofs.Sound.{module_count-so_far, component_count-so_far, instance_count-so_far}
 use Rattle.smith_component.proofs.Turn.{items_some}
-use Rattle.smith_component.proofs.WellFormed.{formed_front}
 
 item_Decides : (a b : Item) → Decides (equal.eq a b) (a ≡ b)
 item_Decides a b = (same_true the_type tt a b, true_same the_type a b)
@@ -61,45 +59,6 @@ item_read config outer inner item place rest e =
     let Q : List ℕ → Type 0 = λ b. ReadsAmong xs (b ++ rest) item rest in
     subst P (sym byte) (subst Q byte (among_read equal.eq item_Decides xs item place rest (omega (arith, some.1)) e))
 
--- An item, and where it is among the offered ones.
-abbrev Offered : Config → Open → Item → Type 0
-Offered config stack item = (place : ℕ) × (slice_get (items_with_input config stack) place ≡ Some item)
-
--- those without a condition
-custom_item : (config : Config) (stack : Open) → Offered config stack Custom
-custom_item config stack = offers_found (item_offers config stack) 1 true Custom refl refl
-
-core_types_item : (config : Config) (stack : Open) → Offered config stack CoreTypes
-core_types_item config stack = offers_found (item_offers config stack) 2 true CoreTypes refl refl
-
-types_item : (config : Config) (stack : Open) → Offered config stack Types
-types_item config stack = offers_found (item_offers config stack) 3 true Types refl refl
-
-imports_item : (config : Config) (stack : Open) → Offered config stack Imports
-imports_item config stack = offers_found (item_offers config stack) 4 true Imports refl refl
-
-canons_item : (config : Config) (stack : Open) → Offered config stack Canonical
-canons_item config stack = offers_found (item_offers config stack) 5 true Canonical refl refl
-
--- those with a condition, if it holds
-finish_item : (config : Config) (stack : Open) → IsFinishable config stack.inner → Offered config stack Finish
-finish_item config stack enough =
-    let offered : is_finish_offered config stack.inner ≡ true = grind (arith, nat_tests, enough) in
-    offers_found (item_offers config stack) 0 (is_finish_offered config stack.inner) Finish refl offered
-
-component_item : (config : Config) (stack : Open) → is_component_offered config stack ≡ true → Offered config stack Component
-component_item config stack offered =
-    offers_found (item_offers config stack) 7 (is_component_offered config stack) Component refl offered
-
-module_item : (config : Config) (stack : Open) → is_module_offered config stack ≡ true → Offered config stack Module
-module_item config stack offered =
-    offers_found (item_offers config stack) 6 (is_module_offered config stack) Module refl offered
-
-exports_item : (config : Config) (stack : Open) → 0 < config.max_exports → Offered config stack Exports
-exports_item config stack some =
-    let offered : is_export_offered config ≡ true = grind (arith, nat_tests, some) in
-    offers_found (item_offers config stack) 8 (is_export_offered config) Exports refl offered
-
 -- What has at most what it may have has so in front.
 pub limits_front : (t : Tree) (config : Config) (outer : List Tree) (a : Tree) → Maxima config (tree_so_far outer (join a t))
     → Maxima config (tree_so_far outer a)
@@ -118,20 +77,12 @@ limits_front (first p t) config outer a l =
 -- A component that the limits allow is offered.
 pub offered_from : (config : Config) (outer : List Tree) (inner u : Tree) → Maxima config (tree_so_far outer (add inner (component u)))
     → is_component_offered config (record { outer = outer; inner = inner }) ≡ true
-offered_from config outer inner u l =
-    let deep : length outer + 1 < config.max_nesting_depth =
-    omega (arith, l.depth, depth-so_far no_depth outer inner (component u), depth-outer no_depth [] u) in
-    let few : component_count (tree_so_far outer inner) < config.max_components =
-    omega (arith, l.components, component_count-so_far outer inner (component u)) in
-    grind (arith, nat_tests)
+offered_from config outer inner u l = grind (arith, depth-so_far, depth-outer, component_count-so_far, nat_tests)
 
 -- A core module that the limits allow is offered.
 module_offered : (config : Config) (outer : List Tree) (inner : Tree) (text : List ℕ) → Maxima config (tree_so_far outer (add inner (core_module text)))
     → is_module_offered config (record { outer = outer; inner = inner }) ≡ true
-module_offered config outer inner text l =
-    let few : module_count (tree_so_far outer inner) < config.max_modules =
-    omega (arith, l.modules, module_count-so_far outer inner (core_module text)) in
-    grind (arith, nat_tests)
+module_offered config outer inner text l = grind (arith, module_count-so_far, nat_tests)
 
 -- what holds after one more part
 pub limits_past : (p : Part) (t : Tree) (config : Config) (outer : List Tree) (before : Tree) → Maxima config (tree_so_far outer (join before (first p t)))
@@ -166,30 +117,32 @@ module _ (config : Config) (consistent : IsConsistent config) (stack : Open) whe
       → AllByRecursion Spoken (types_of stack.inner) → Turn config stack
       ((script_item config stack.outer stack.inner (item_of p) ++ script_part p config stack.outer stack.inner) ++ rest) (with_part stack p) rest
   flat_turn rest (custom name contents) flat m readable stands formed offered own spoken =
-      let last = custom_item config stack in
+      let last = offers_found (item_offers config stack) 1 true Custom refl refl in
       turn_of config stack Custom last.0 _ rest _ last.1 (custom_part config stack rest name contents readable stands formed offered own)
   flat_turn rest (core_module text) flat m readable stands formed offered own spoken =
-      let last = module_item config stack (module_offered config stack.outer stack.inner text m) in
+      let last = offers_found (item_offers config stack) 6 _ Module refl (module_offered config stack.outer stack.inner text m) in
       turn_of config stack Module last.0 _ rest _ last.1 (module_part config stack rest text readable stands formed offered own)
   flat_turn rest (core_types ts) flat m readable stands formed offered own spoken =
-      let last = core_types_item config stack in
+      let last = offers_found (item_offers config stack) 2 true CoreTypes refl refl in
       turn_of config stack CoreTypes last.0 _ rest _ last.1
       (core_types_part config stack rest consistent ts readable stands formed offered own)
   flat_turn rest (component t) flat m readable stands formed offered own spoken = absurd (flat refl)
   flat_turn rest (types ts) flat m readable stands formed offered own spoken =
-      let last = types_item config stack in
+      let last = offers_found (item_offers config stack) 3 true Types refl refl in
       turn_of config stack Types last.0 _ rest _ last.1
       (types_part config stack rest consistent ts m readable stands formed offered own)
   flat_turn rest (canons fs) flat m readable stands formed offered own spoken =
-      let last = canons_item config stack in
+      let last = offers_found (item_offers config stack) 5 true Canonical refl refl in
       turn_of config stack Canonical last.0 _ rest _ last.1
       (canons_part config stack rest consistent spoken fs readable stands formed offered own)
   flat_turn rest (imports is) flat m readable stands formed offered own spoken =
-      let last = imports_item config stack in
+      let last = offers_found (item_offers config stack) 4 true Imports refl refl in
       turn_of config stack Imports last.0 _ rest _ last.1
       (imports_part config stack rest consistent is m readable stands formed offered own)
   flat_turn rest (exports es) flat m readable stands formed offered own spoken =
-      let last = exports_item config stack readable.0 in
+      let some : 0 < config.max_exports = readable.0 in
+      let is : is_export_offered config ≡ true = grind (arith, nat_tests, some) in
+      let last = offers_found (item_offers config stack) 8 _ Exports refl is in
       turn_of config stack Exports last.0 _ rest _ last.1 (exports_part config stack rest consistent es readable stands formed offered own)
 
   pub part_turn : (p : Part) (rest : List ℕ) → ¬ (item_of p ≡ Component) → Continues config stack p
@@ -205,14 +158,15 @@ module _ (config : Config) (consistent : IsConsistent config) (stack : Open) whe
 pub opening_turn : (config : Config) (stack : Open) (rest : List ℕ) → is_component_offered config stack ≡ true
     → Turn config stack (script_item config stack.outer stack.inner Component ++ rest) (with_open stack) rest
 opening_turn config stack rest offered =
-    let last = component_item config stack offered in
+    let last = offers_found (item_offers config stack) 7 _ Component refl offered in
     record { item = Component; after = rest; chooses = item_read config stack.outer stack.inner Component last.0 rest last.1; does = (refl, refl) }
 
 pub closing_turn : (config : Config) (stack : Open) (next : Next) (rest : List ℕ) → Minima config stack.inner → IsFinishable config stack.inner
     → Closes stack next
     → Turn config stack (script_item config stack.outer stack.inner Finish ++ rest) next rest
 closing_turn config stack next rest enough finishable closes =
-    let offered = finish_item config stack finishable in
+    let is : is_finish_offered config stack.inner ≡ true = grind (arith, nat_tests, finishable) in
+    let offered = offers_found (item_offers config stack) 0 _ Finish refl is in
     record {
       item = Finish;
       after = rest;

@@ -1,6 +1,6 @@
 -- The scripts of the parts of a plan, and of the plan, are bytes.
 use Rattle.std.proofs.Common.{◌≡◌, ℕ, suc, ◌+◌, ◌-◌, ◌<◌, ◌≤◌, ◌^◌, true, false, List, [], ◌∷◌, ◌++◌, length, arith, refl, sym, ap, ◌∙◌, subst}
-use Rattle.std.proofs.Common.{length-append, Option, None, Some}
+use Rattle.std.proofs.Common.{length-append, Some}
 use Rattle.std.proofs.lemmas.Option.{slice_get_within}
 use Rattle.std.specs.List.{AllByRecursion}
 use Rattle.smith_input.specs.Kebab.{Kebab}
@@ -15,7 +15,6 @@ use Rattle.smith_format.proofs.Piece.{parts_are}
 use Rattle.smith_syntax.specs.Entries.{CoreEntry, Entry, function, ImportEntry}
 use Rattle.smith_syntax.specs.SameSignature.{same_signature_Decides}
 use Rattle.smith_syntax.specs.Marked.{Marked, scope_in}
-use Rattle.smith_syntax.specs.Scope.{Scope}
 use Rattle.smith_syntax.specs.HasSignature.{is_of_signature}
 use Rattle.smith_syntax.specs.CoreLimits.{CoreLimits}
 use Rattle.smith_syntax.specs.TypeLimits.{EntryLimits}
@@ -23,50 +22,50 @@ use Rattle.smith_core.specs.StandInScript.{IsStandIn, script_stand_in, stand_in_
 use Rattle.smith_core.specs.StandInText.{StandIn, stand_in_text}
 use Rattle.smith_core.proofs.StandInMade.{small_stand_in}
 use Rattle.smith_core.proofs.StandInTold.{stand_in_told}
-use Rattle.smith_scopes.proofs.Plain.{all_back, all_front}
+use Rattle.smith_scopes.proofs.Plain.{all_back}
 use Rattle.smith_tree.specs.CoreTypeScript.{script_core}
 use Rattle.smith_core_types.proofs.ScriptBytes.{small_core, small_place, small_said}
 use Rattle.smith_types.specs.Sayable.{Lasts}
 use Rattle.smith_tree.specs.TypeScript.{script_type}
-use Rattle.smith_types.proofs.ReferencesRead.{IsFew}
-use Rattle.smith_types.proofs.ScriptBytes.{small_extern, small_lifted, small_ref, type_bytes}
+use Rattle.smith_types.proofs.ScopedScript.{type_bytes}
+use Rattle.smith_types.proofs.ScriptBytes.{small_extern, small_lifted, small_ref}
 use Rattle.smith_tree.specs.CanonScript.{canon_item_of, script_canon, script_lift}
 use Rattle.smith_tree.specs.Grammar.{Spells, part, parts, preamble}
 use Rattle.smith_tree.specs.Limits.{OwnLimits}
 use Rattle.smith_syntax.specs.WellFormed.{FormedRef}
 use Rattle.smith_tree.specs.Marking.{marked_in, marked_inner, with_core_entry, with_type_entry}
 use Rattle.smith_tree.specs.Offered.{OfferedImports}
-use Rattle.smith_tree.specs.Offers.{canon_items, canon_offers, is_scalar_entry, is_scalar_type, marked_with_imports, totals_of, with_exports, with_imports}
-use Rattle.smith_tree.specs.Open.{item_offers, items_with_input, Open, scopes_in}
-use Rattle.smith_tree.specs.Readable.{CanBeGenerated, IsReadableRest}
+use Rattle.smith_tree.specs.Offers.{canon_items, marked_with_imports, totals_of, with_exports, with_imports}
+use Rattle.smith_tree.specs.Open.{Open}
+use Rattle.smith_tree.specs.Readable.{CanBeGenerated}
 use Rattle.smith_tree.specs.Script.{item_of, script, script_export, script_from, script_import, script_item}
 use Rattle.smith_tree.specs.Script.{script_part, Within}
 use Rattle.smith_tree.specs.Spaces.{after_canon, after_part, core_types_of, Spaces, spaces_of, types_of}
 use Rattle.smith_tree.specs.Functions.{functions_of}
 use Rattle.smith_component.specs.Tables.{functions_at}
-use Rattle.smith_tree.specs.Tree.{add, anywhere_in, Canon, canons, component, components_in, core_module, core_types, custom, depth, ends, ExportEntry}
-use Rattle.smith_tree.specs.Tree.{exports, exports_in, exports_of, first, function_count, imports, imports_of, inside, lift, lower}
+use Rattle.smith_tree.specs.Tree.{add, Canon, canons, component, core_module, core_types, custom, ends, ExportEntry}
+use Rattle.smith_tree.specs.Tree.{exports, exports_in, exports_of, first, function_count, imports, imports_of, lift, lower}
 use Rattle.smith_tree.specs.Tree.{names_in, own, Part, Tree, types}
-use Rattle.smith_tree.specs.WellFormed.{export_names, Formed, FormedCanon, FormedCanons, FormedExports, FormedImport, import_names, scope_of}
+use Rattle.smith_tree.specs.WellFormed.{export_names, FormedCanon, FormedCanons, FormedExports, FormedImport, import_names, scope_of}
 use Rattle.smith_tree.specs.contracts.choices.CanonItemPartialEq.TheImpl.{ghosts as canon_equal}
-use Rattle.smith_tree.specs.contracts.choices.ItemPartialEq.TheImpl.{ghosts as equal}
 use Rattle.smith_tree.specs.declared.choices.CanonItem.{CanonItem}
 use Rattle.smith_tree.specs.declared.choices.Item.{Item}
 use Rattle.smith_tree.specs.declared.choices.Item.TheVariants.{Finish}
 use Rattle.smith_component.proofs.CanonsRead.{Spoken}
 use Rattle.smith_component.proofs.Fits.{Fits, fits_behind, own_limits-front, Short}
+use Rattle.smith_component.proofs.ExportsRead.{few_functions}
 use Rattle.smith_component.proofs.Growth.{canon_keeps, functions_after, functions_counted, spaces-add, spaces_export}
-use Rattle.smith_component.proofs.Encoded.{Encoded, component_encoded, contents_bytes}
+use Rattle.smith_component.proofs.Grammar.{Encoded, component_encoded, contents_bytes}
 use Rattle.smith_component.proofs.Named.{named_behind}
-use Rattle.smith_component.proofs.Plan.{Stands}
+use Rattle.smith_component.proofs.PartsRead.{few_open}
 use Rattle.smith_component.proofs.Planned.{tree_stands}
-use Rattle.smith_component.proofs.Marks.{OfferedRest, formed_core_marked, formed_marked, marked_core_types, marked_few, marked_types}
-use Rattle.smith_component.proofs.Marks.{offered_inside, offered_past}
-use Rattle.smith_component.proofs.PartsRead.{spoken_past}
-use Rattle.smith_component.proofs.ImportsState.{imports_marked, imports_marked_more, imports_scope}
-use Rattle.smith_component.proofs.Sound.{length-marked_from, marked_in-snoc, scopes_from-snoc}
+use Rattle.smith_component.proofs.Reach.{Known, known_inside, known_past, known_plan, with_next}
+use Rattle.smith_component.proofs.Marks.{formed_core_marked, formed_marked, marked_core_types, marked_types}
+use Rattle.smith_component.proofs.ImportsRead.{few_at}
+use Rattle.smith_component.proofs.SectionsState.{imports_marked, imports_marked_more, imports_scope}
+use Rattle.smith_component.proofs.Sound.{length-marked_from}
 use Rattle.smith_component.proofs.Spaces.{all_at}
-use Rattle.smith_component.proofs.Tree.{function_count-add, join-add, join-ends, length-own-add, own-add, join}
+use Rattle.smith_component.proofs.Tree.{all_inner, function_count-add, length-own-add, own-add}
 use Rattle.smith_component.proofs.ReadsCoreTypes as core_sections
 use Rattle.smith_component.proofs.ReadsTypes as type_sections
 
@@ -78,21 +77,13 @@ small_imports config stack few s [] f k o = tt
 small_imports config stack few s (x ∷ is) f k o =
     let own : Marked = marked_with_imports config stack s in
     let same = imports_scope config stack s in
-    let ts : length own.types ≡ length (types_of stack.inner) = ap (λ (d : Scope). length d.types) same in
-    let cs : length own.core_types ≡ length (core_types_of stack.inner) = ap (λ (d : Scope). length d.core_types) same in
     let formed : FormedRef (scope_in own) x.to = subst (λ d. FormedRef d x.to) (sym same) f.0.0 in (
-      small_join (small_ref config own (totals_of (with_imports stack s)) true false (omega (arith, few, ts, cs)) x.to formed o.0)
+      small_join (small_ref config own (totals_of (with_imports stack s)) true false (few_at config stack few s) x.to formed o.0)
           (small_extern (length (imports_of stack.inner) + length s) x.name k.0),
       small_imports config stack few (s ++ x ∷ []) is f.1 k.1 (subst (OfferedImports is) (sym (imports_marked_more config stack s x)) o.2),
     )
 
 -- Exports.
-
--- no more functions are there than are counted and exported
-few_functions : (t : Tree) (s : List ExportEntry) → function_count t + (length (exports_of t) + length s) ≤ 2 ^ 64
-    → length (functions_of (with_exports t s)) ≤ 2 ^ 64
-few_functions t s h =
-    omega (arith, h, (functions_counted (with_exports t s)).most, function_count-add t (exports s), length-own-add exports_in t (exports s))
 
 small_exports : (t : Tree) (s xs : List ExportEntry) → FormedExports xs (spaces_of (with_exports t s))
     → AllByRecursion Kebab (export_names xs) → function_count t + (length (exports_of t) + (length s + length xs)) ≤ 2 ^ 64
@@ -108,15 +99,11 @@ small_exports t s (x ∷ xs) f k few = (
 -- Canonical functions.
 
 small_canon_item : (s : Spaces) (item : CanonItem) → Small (script_among canon_equal.eq (canon_items s) item)
-small_canon_item s item =
-    let few : length (canon_items s) ≤ 2 = offers_few (canon_offers s) in
-    small_few canon_equal.eq (canon_items s) item (omega (arith, few))
+small_canon_item s item = grind (arith, offers_few, small_few)
 
 small_canon : (s : Spaces) (c : Canon) → FormedCanon s c → AllByRecursion Spoken s.types → functions_at s ≤ 2 ^ 64 → length s.types ≤ 2 ^ 64
     → Small (script_canon s c)
-small_canon s (lower f) (signature, has, scalar) spoken few many =
-    let yes : is_scalar_type s.types has.ty ≡ true = ap (λ (o : Option Entry). elim o [ None ↦ false | Some e ↦ is_scalar_entry e ]) has.is ∙ scalar in
-    small_join (small_canon_item s (canon_item_of (lower f))) (small_place (is_scalar_type s.types) s.functions f has.ty (omega (arith, few)) has.stands yes)
+small_canon s (lower f) (signature, has, scalar) spoken few many = grind (arith, small_join, small_canon_item, small_place)
 small_canon s (lift c t) (signature, lowered, f, is, lowers, has, flat) spoken few many =
     let below : c < length s.core_functions = slice_get_within s.core_functions c f lowers in
     let said : Spoken (function signature) = all_at Spoken s.types t (function signature) spoken is in
@@ -139,114 +126,74 @@ small_canons (c ∷ cs) s f spoken many few =
 -- Parts.
 
 small_item : (config : Config) (outer : List Tree) (before : Tree) (item : Item) → Small (script_item config outer before item)
-small_item config outer before item =
-    let stack : Open = record { outer = outer; inner = before } in
-    let few = offers_few (item_offers config stack) in
-    small_few equal.eq (items_with_input config stack) item (omega (arith, few))
+small_item config outer before item = grind (arith, offers_few, small_few)
 
--- What the rest of a component of a plan has, when these components are open around it and these parts precede it.
+-- The rest of a component of a plan, which has bytes.
 record Said (config : Config) (outer : List Tree) (before t : Tree) : Type 0 where
-  spoken : AllByRecursion Spoken (types_of before)
-  readable : IsReadableRest config t before
-  stands : Stands config (suc (length outer)) t
-  formed : Formed t (scopes_in outer) before
-  offered : OfferedRest config outer before t
-  whole : OwnLimits config (join before t)
-  each : AllByRecursion (OwnLimits config) (inside t)
-  around : AllByRecursion IsFew (marked_in config outer)
-  shallow : length outer + depth t ≤ 1000
+  known : Known config outer before t
   spelled : Encoded (parts t)
-
--- what has at most what it may have has so in front
-own_front : (t : Tree) (config : Config) (a : Tree) → OwnLimits config (join a t) → OwnLimits config a
-own_front ends config a o = subst (OwnLimits config) (join-ends a) o
-own_front (first p t) config a o = own_limits-front config a p (own_front t config (add a p) (subst (OwnLimits config) (sym (join-add a p t)) o))
 
 module _ (config : Config) (consistent : IsConsistent config) (outer : List Tree) (before : Tree) where
   -- the limits of the component with its next part
-  with_next : (p : Part) (t : Tree) → Said config outer before (first p t) → OwnLimits config (add before p)
-  with_next p t said = own_front t config (add before p) (subst (OwnLimits config) (sym (join-add before p t)) said.whole)
-
-  few_here : (t : Tree) → Said config outer before t → length (types_of before) + length (core_types_of before) ≤ 2 ^ 64
-  few_here t said = let o = own_front t config before said.whole in omega (arith, o.types, o.core_types, consistent.types)
+  limits_with : (p : Part) (t : Tree) → Said config outer before (first p t) → OwnLimits config (add before p)
+  limits_with p t said = all_inner (OwnLimits config) outer (add before p) (with_next config outer before p t said.known).each
 
   -- after one more part
   said_past : (p : Part) (t : Tree) → Said config outer before (first p t) → Said config outer (add before p) t
   said_past p t said =
       let z = parts_are (part p) (parts t) said.spelled.0 said.spelled.1 in
-      record {
-        spoken = spoken_past config p (scopes_in outer) before said.readable.0 said.formed.0 said.spoken;
-        readable = said.readable.1;
-        stands = said.stands.1;
-        formed = said.formed.1;
-        offered = offered_past p t config outer before said.offered;
-        whole = subst (OwnLimits config) (sym (join-add before p t)) said.whole;
-        each = all_back (OwnLimits config) (anywhere_in components_in p) (inside t) said.each;
-        around = said.around;
-        shallow = omega (arith, said.shallow);
-        spelled = (z.right, z.q_is);
-      }
+      record { known = known_past config outer before p t said.known; spelled = (z.right, z.q_is) }
 
   -- within a component
   said_inside : (u t : Tree) → Said config outer before (first (component u) t) → Said config (outer ++ before ∷ []) ends u
   said_inside u t said =
       let z = parts_are (part (component u)) (parts t) said.spelled.0 said.spelled.1 in
-      let in_it : AllByRecursion (OwnLimits config) (u ∷ inside u) = all_front (OwnLimits config) (u ∷ inside u) (inside t) said.each in
-      let scopes : scopes_in (outer ++ before ∷ []) ≡ scope_of before ∷ scopes_in outer = scopes_from-snoc outer before [] in
-      let longer : length (outer ++ before ∷ []) ≡ suc (length outer) = omega (arith, length-append outer (before ∷ [])) in
-      record {
-        spoken = tt;
-        readable = said.readable.0;
-        stands = subst (λ n. Stands config (suc n) u) (sym longer) said.stands.0;
-        formed = subst (λ ss. Formed u ss ends) (sym scopes) said.formed.0;
-        offered = offered_inside u config outer before said.offered.0;
-        whole = in_it.0;
-        each = in_it.1;
-        around = subst (AllByRecursion IsFew) (sym (marked_in-snoc config outer before))
-            (marked_few config outer before (few_here (first (component u) t) said), said.around);
-        shallow = omega (arith, said.shallow, longer);
-        spelled = component_encoded u (z.left, z.p_is);
-      }
+      record { known = known_inside config outer before u t said.known; spelled = component_encoded u (z.left, z.p_is) }
 
   -- what follows the choice of the item, if it is not a component
   small_custom : (name contents : List ℕ) (t : Tree) → Said config outer before (first (custom name contents) t)
       → Small (script_part (custom name contents) config outer before)
   small_custom name contents t said =
-      let limits = with_next (custom name contents) t said in
+      let limits = limits_with (custom name contents) t said in
       let short : Short (name ∷ []) = all_back _ (own names_in before) (name ∷ [])
       (subst Short (own-add names_in before (custom name contents)) limits.names) in
       let z = parts_are (part (custom name contents)) (parts t) said.spelled.0 said.spelled.1 in
-      small_join (small_text 1000 name (omega arith) said.readable.0 short.0) (small_bytes contents (contents_bytes name contents (z.left, z.p_is)))
+      small_join (small_text 1000 name (omega arith) said.known.readable.0 short.0) (small_bytes contents (contents_bytes name contents (z.left, z.p_is)))
 
   small_core_part : (ts : List CoreEntry) (t : Tree) → Said config outer before (first (core_types ts) t)
       → Small (script_part (core_types ts) config outer before)
   small_core_part ts t said =
-      let fits : Fits config (after_part (spaces_of before) (core_types ts)) = fits_behind config before (core_types ts) (with_next (core_types ts) t said) in
+      let fits : Fits config (after_part (spaces_of before) (core_types ts)) =
+      fits_behind config before (core_types ts) (limits_with (core_types ts) t said) in
       let few : length (core_types_of before) + length ts ≤ config.max_types = omega (arith, fits.core_types, length-append (core_types_of before) ts) in
       let limited : AllByRecursion (CoreLimits config) ts = all_back _ (core_types_of before) ts fits.within_core_types in
       small_said (λ s x. script_core config (scope_in s) config.max_type_size x) with_core_entry (core_sections.Said config) one 0
       (config.max_types - length (core_types_of before)) 0 (marked_inner config outer before) ts
-      (core_sections.all_said config ts (marked_inner config outer before) (formed_core_marked config outer before ts said.formed.0) limited said.stands.0
-      said.readable.0 (omega (arith, few, consistent.types, ap length (marked_core_types config outer before))))
+      (core_sections.all_said config ts (marked_inner config outer before) (formed_core_marked config outer before ts said.known.formed.0) limited
+      said.known.stands.0
+      said.known.readable.0 (omega (arith, few, consistent.types, ap length (marked_core_types config outer before))))
     where
       one : (s : Marked) (x : CoreEntry) → core_sections.Said config s x → Small (script_core config (scope_in s) config.max_type_size x)
       one s x (formed, limits, lasts, readable, small) = small_core config (scope_in s) config.max_type_size x formed limits readable lasts small
 
   small_type_part : (ts : List Entry) (t : Tree) → Said config outer before (first (types ts) t) → Small (script_part (types ts) config outer before)
   small_type_part ts t said =
-      let fits : Fits config (after_part (spaces_of before) (types ts)) = fits_behind config before (types ts) (with_next (types ts) t said) in
+      let fits : Fits config (after_part (spaces_of before) (types ts)) =
+      fits_behind config before (types ts) (limits_with (types ts) t said) in
       let few : length (types_of before) + length ts ≤ config.max_types = omega (arith, fits.types, length-append (types_of before) ts) in
       let limited : AllByRecursion (EntryLimits config) ts = all_back _ (types_of before) ts fits.within_types in
       let around : List Marked = marked_in config outer in
       let own : Marked = marked_inner config outer before in
       let count : length around ≡ length outer = omega (arith, length-marked_from config outer []) in
       let lasts : AllByRecursion (λ e. Lasts e config (suc (length around)) config.max_type_size) ts =
-      subst (λ n. AllByRecursion (λ e. Lasts e config (suc n) config.max_type_size) ts) (sym count) said.stands.0 in
-      let can = type_sections.sayable config around said.around (omega (arith, said.shallow, count)) in
+      subst (λ n. AllByRecursion (λ e. Lasts e config (suc n) config.max_type_size) ts) (sym count) said.known.stands.0 in
+      let here = few_open config consistent outer (add before (types ts)) (with_next config outer before (types ts) t said.known) in
+      let can = type_sections.sayable config around here.few (omega (arith, here.shallow, count)) in
       small_said (λ s e. script_type e config config.max_type_size s around) (with_type_entry around) (type_sections.Said config around)
       (λ s e h. record { are = type_bytes config s around config.max_type_size e consistent.nesting (can s e h) }) 0
       (config.max_types - length (types_of before)) 0 own ts
-      (type_sections.all_said config around ts own (formed_marked config outer before ts said.formed.0) said.offered.0 limited lasts said.readable.0
+      (type_sections.all_said config around ts own (formed_marked config outer before ts said.known.formed.0) said.known.offered.0 limited lasts
+      said.known.readable.0
       (omega (
         arith,
         few,
@@ -259,30 +206,32 @@ module _ (config : Config) (consistent : IsConsistent config) (outer : List Tree
   small_import_part : (is : List ImportEntry) (t : Tree) → Said config outer before (first (imports is) t)
       → Small (script_part (imports is) config outer before)
   small_import_part is t said =
-      let behind = named_behind (λ (i : ImportEntry). i.name) (imports_of before) is said.formed.0.1 in
+      let behind = named_behind (λ (i : ImportEntry). i.name) (imports_of before) is said.known.formed.0.1 in
       let stack : Open = record { outer = outer; inner = before } in
+      let front = own_limits-front config before (imports is) (limits_with (imports is) t said) in
       small_loop (script_import config stack) (λ s x. s ++ x ∷ []) 0 (config.max_imports - length (imports_of before)) 0 [] is
-      (small_imports config stack (few_here (first (imports is) t) said) [] is said.formed.0.0 behind.0
-      (subst (OfferedImports is) (sym (imports_marked config stack [])) said.offered.0))
+      (small_imports config stack (omega (arith, front.types, front.core_types, consistent.types)) [] is said.known.formed.0.0 behind.0
+      (subst (OfferedImports is) (sym (imports_marked config stack [])) said.known.offered.0))
 
   small_canon_part : (fs : List Canon) (t : Tree) → Said config outer before (first (canons fs) t) → Small (script_part (canons fs) config outer before)
   small_canon_part fs t said =
-      let limits = with_next (canons fs) t said in
+      let limits = limits_with (canons fs) t said in
       let front = own_limits-front config before (canons fs) limits in
       let count : function_count before + length fs ≤ config.max_funcs = omega (arith, limits.functions, function_count-add before (canons fs)) in
       let spaces = functions_counted before in
       small_loop script_canon after_canon 0 (config.max_funcs - function_count before) 0 (spaces_of before) fs
-      (small_canons fs (spaces_of before) said.formed.0 said.spoken (omega (arith, front.types, consistent.types))
+      (small_canons fs (spaces_of before) said.known.formed.0 said.known.spoken (omega (arith, front.types, consistent.types))
       (omega (arith, count, spaces.most, front.exports, consistent.funcs)))
 
   small_export_part : (es : List ExportEntry) (t : Tree) → Said config outer before (first (exports es) t)
       → Small (script_part (exports es) config outer before)
   small_export_part es t said =
-      let limits = with_next (exports es) t said in
+      let limits = limits_with (exports es) t said in
       let front = own_limits-front config before (exports es) limits in
       let most : length (exports_of before) + length es ≤ config.max_exports = omega (arith, limits.exports, length-own-add exports_in before (exports es)) in
-      let behind = named_behind (λ (e : ExportEntry). e.name) (exports_of before) es said.formed.0.1 in
-      let start : FormedExports es (spaces_of (with_exports before [])) = subst (FormedExports es) (sym (spaces-add before (exports []))) said.formed.0.0 in
+      let behind = named_behind (λ (e : ExportEntry). e.name) (exports_of before) es said.known.formed.0.1 in
+      let start : FormedExports es (spaces_of (with_exports before [])) =
+      subst (FormedExports es) (sym (spaces-add before (exports []))) said.known.formed.0.0 in
       small_loop (script_export before) (λ u x. u ++ x ∷ []) 0 (config.max_exports - length (exports_of before)) 0 [] es
       (small_exports before [] es start behind.0 (omega (arith, most, front.functions, consistent.funcs)))
 
@@ -303,7 +252,7 @@ mutual
   small_part : (p : Part) (t : Tree) (config : Config) (outer : List Tree) (before : Tree) → IsConsistent config → Said config outer before (first p t)
       → Small (script_part p config outer before)
   small_part (custom name contents) t config outer before consistent said = small_custom config consistent outer before name contents t said
-  small_part (core_module text) t config outer before consistent said = small_module config consistent text said.stands.0
+  small_part (core_module text) t config outer before consistent said = small_module config consistent text said.known.stands.0
   small_part (core_types ts) t config outer before consistent said = small_core_part config consistent outer before ts t said
   small_part (component u) t config outer before consistent said =
       small_from u config (outer ++ before ∷ []) ends consistent (said_inside config consistent outer before u t said)
@@ -316,19 +265,7 @@ mutual
 pub tree_bytes : (config : Config) (t : Tree) → IsConsistent config → CanBeGenerated config t → (b : List ℕ) × Spells t b → AreBytes (script config t)
 tree_bytes config t consistent c spelled =
     let z = parts_are (bytes preamble) (parts t) spelled.0 spelled.1 in
-    let m = c.limits.maxima in
-    (small_from t config [] ends consistent (record {
-      spoken = tt;
-      readable = c.readable;
-      stands = tree_stands config t c spelled;
-      formed = c.formed;
-      offered = c.offered;
-      whole = m.each.0;
-      each = m.each.1;
-      around = tt;
-      shallow = omega (arith, m.depth, consistent.nesting);
-      spelled = (z.right, z.q_is);
-    })).are
+    (small_from t config [] ends consistent (record { known = known_plan config t c (tree_stands config t c spelled); spelled = (z.right, z.q_is) })).are
 
 -- The script of a plan is bytes.
 pub plan_bytes : (config : Config) (plan : Tree) → IsConsistent config → Within config plan → AreBytes (script config plan)

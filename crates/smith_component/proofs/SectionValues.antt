@@ -1,5 +1,5 @@
 -- What the sections that a turn adds hold, and what they show.
-use Rattle.std.proofs.Common.{◌≡◌, ℕ, ◌+◌, List, [], ◌∷◌, ◌++◌, map, length, drop, refl, sym, ap, ◌∙◌, subst, append-nil}
+use Rattle.std.proofs.Common.{◌≡◌, ℕ, ◌+◌, List, [], ◌∷◌, ◌++◌, map, length, drop, refl, sym, ap, ◌∙◌, append-nil, suc, arith}
 use Rattle.std.proofs.lemmas.List.{length-map, map-append}
 use Rattle.std.specs.declared.alloc.Global.{Global}
 use Rattle.std.specs.declared.rc.Rc.{Rc}
@@ -16,25 +16,48 @@ use Rattle.smith_syntax.specs.declared.deftype.Import.{Import}
 use Rattle.smith_types.specs.Declarations.{NamedExtern}
 use Rattle.smith_types.specs.MakingTypes.{HoldsExterns}
 use Rattle.smith_component.specs.Building.{Building, open_of}
-use Rattle.smith_component.specs.Imports.{NoImport, ReadsImport, ReadsImports}
+use Rattle.smith_component.specs.Imports.{NoImport, ReadsImport}
 use Rattle.smith_tree.specs.Open.{Open}
-use Rattle.smith_component.specs.SectionValues.{AddsImportSection, AddsTypeSection, NoImportValue, ReadsCoreTypeValue, ReadsImportValue}
-use Rattle.smith_component.specs.SectionValues.{ReadsTypeValue, extern_of, externs_in, externs_of}
+use Rattle.smith_component.specs.SectionValues.{AddsImportSection, AddsTypeSection, NoImportValue, ReadsCoreTypeValue, ReadsImportValue, ReadsTypeValue}
+use Rattle.smith_component.specs.SectionValues.{extern_of, externs_in, externs_of}
 use Rattle.smith_component.specs.Shown.{shown_section, shown_sections}
 use Rattle.smith_component.specs.Tables.{IsTabled, Tabled}
 use Rattle.smith_tree.specs.Spaces.{after_part, spaces_of}
 use Rattle.smith_tree.specs.Functions.{core_functions_of, functions_of}
-use Rattle.smith_tree.specs.Tree.{canons_in, exports_in, imports_in, imports_of}
+use Rattle.smith_tree.specs.Tree.{Tree, canons_in, exports_in, imports_in, imports_of, first, add, parts_of}
 use Rattle.smith_component.specs.AddedSections.{AddsImports, AddsTypes, ReadsCoreTypes, ReadsTypes}
 use Rattle.smith_tree.specs.WellFormed.{import_names}
 use Rattle.smith_component.specs.declared.builder.open.OpenComponent.{OpenComponent}
 use Rattle.smith_component.specs.declared.builder.tables.Tables.{Tables}
 use Rattle.smith_component.specs.declared.component.Section.{Section}
 use Rattle.smith_component.specs.declared.component.Section.TheVariants.{Custom, CoreModule, CoreTypes, Types, Canonical, Imports, Exports, Component}
-use Rattle.smith_component.proofs.Shown.{shown_push}
 use Rattle.smith_component.proofs.TracksStack.{tabled_added}
 use Rattle.smith_component.proofs.Tables.{flat_map_more}
 use Rattle.smith_component.proofs.Tree.{no_functions_in}
+
+pub length-shown : (ss : List Section) → length (parts_of (shown_sections ss)) ≡ length ss
+length-shown [] = refl
+length-shown (s ∷ ss) = ap suc (length-shown ss)
+
+pub shown_push : (ss : List Section) (s : Section) → shown_sections (ss ++ s ∷ []) ≡ add (shown_sections ss) (shown_section s)
+shown_push [] s = refl
+shown_push (r ∷ ss) s = ap (first (shown_section r)) (shown_push ss s)
+
+-- the open components around the inner one, as plain trees
+abbrev pub trees_of : List OpenComponent → List Tree
+trees_of xs = map shown_sections (map (λ c. c.sections.items) xs)
+
+pub none_open : (xs : List OpenComponent) → length xs ≡ 0 → trees_of xs ≡ []
+none_open [] h = refl
+none_open (x ∷ xs) h = absurd (omega arith)
+
+pub outer_push : (xs : List OpenComponent) (x : OpenComponent) → trees_of (xs ++ x ∷ []) ≡ trees_of xs ++ shown_sections x.sections.items ∷ []
+outer_push [] x = refl
+outer_push (y ∷ xs) x = ap (λ t. shown_sections y.sections.items ∷ t) (outer_push xs x)
+
+pub outer_popped : (old new : List OpenComponent) (x : OpenComponent) → old ≡ new ++ x ∷ []
+    → trees_of old ≡ trees_of new ++ shown_sections x.sections.items ∷ []
+outer_popped old new x e = ap trees_of e ∙ outer_push new x
 
 -- What is read of types and core types is read of what they show.
 
@@ -53,10 +76,7 @@ pub entries_where : {A : Type 0} (R : List Marked → Marked → List ℕ → A 
     {min : ℕ} {next : Marked} {b rest : List ℕ} {xs : List A}
     → scopes ≡ own ∷ outer → max ≡ room → Loop Never (R (drop 1 scopes)) min max 0 (first_marked scopes) b xs rest next
     → Loop Never (R outer) min room 0 own b xs rest next
-entries_where R scopes outer own max room {min} {next} {b} {rest} {xs} e m r =
-    let P : ℕ → Type 0 = λ n. Loop Never (R outer) min n 0 own b xs rest next in
-    let Q : List Marked → Type 0 = λ ss. Loop Never (R (drop 1 ss)) min max 0 (first_marked ss) b xs rest next in
-    subst P m (subst Q e r)
+entries_where R scopes outer own max room {min} {next} {b} {rest} {xs} e m r = grind arith
 
 -- The names of a component's imports.
 
@@ -97,23 +117,11 @@ import_count ss =
 -- An import section that is read is read of what it shows.
 module _ (config : Config) (stack : Open) (before : List NamedExtern) (are : names before ≡ import_names (imports_of stack.inner)) where
   names_behind : (is : List Import) → names (before ++ map extern_of is) ≡ import_names (imports_of stack.inner ++ map import_shown is)
-  names_behind is =
-      names_both before (map extern_of is)
-      ∙ (ap (λ ns. ns ++ names (map extern_of is)) are
-      ∙ (ap (λ ns. import_names (imports_of stack.inner) ++ ns) (names_shown is)
-      ∙ sym (import_names_both (imports_of stack.inner) (map import_shown is))))
+  names_behind is = grind (arith, names_both, names_shown, import_names_both)
 
   import_is_shown : (s : List Import) (b : List ℕ) (x : Import) (rest : List ℕ) (t : List Import) → ReadsImportValue config stack before s b x rest t
       → ReadsImport config stack (map import_shown s) b (import_shown x) rest (map import_shown t)
-  import_is_shown s b x rest t i = record {
-    mid = i.mid;
-    so_far = before ++ map extern_of s;
-    url = (extern_of x).1;
-    of = i.of;
-    names_are = names_behind s;
-    named = i.named;
-    next_is = ap (map import_shown) i.next_is ∙ map-append import_shown s (x ∷ []);
-  }
+  import_is_shown s b x rest t i = grind (arith, names_behind, map-append)
 
   pub imports_shown : {min max : ℕ} (done : ℕ) (s : List Import) (b : List ℕ) (xs : List Import) (rest : List ℕ) (t : List Import)
       → Loop (NoImportValue config stack) (ReadsImportValue config stack before) min max done s b xs rest t
@@ -132,11 +140,7 @@ type_section_shown config min old new b rest a =
 
 pub import_section_shown : (config : Config) (min : ℕ) (old new : Building) (b rest : List ℕ) → AddsImportSection config min old b new rest
     → AddsImports config min (open_of old) b (open_of new).inner rest
-import_section_shown config min old new b rest a =
-    let is : List Import = a.section.imports.items in
-    let reads : ReadsImports config min (open_of old) b (map import_shown is) rest =
-    imports_shown config (open_of old) (externs_of old.inner) (externs_named old.inner) 0 [] b is rest is a.reads in
-    (map import_shown is, reads, ap shown_sections a.added ∙ shown_push old.inner (Imports a.section))
+import_section_shown config min old new b rest a = grind (arith, imports_shown, externs_named, shown_push)
 
 -- What is kept of a component to which a section without functions and imports is added.
 
@@ -158,6 +162,11 @@ no_externs (Exports s) e = refl
 pub externs_push : (ss : List Section) (s : Section) → externs_of (ss ++ s ∷ []) ≡ externs_of ss ++ externs_in s
 externs_push ss s = flat_map_more externs_in ss s
 
+-- A component's tables are as what it shows and imports.
+pub tabled_as : (c : OpenComponent) (tables : Tables) (t : Tree) (ns : List NamedExtern) → c.tables ≡ tables → shown_sections c.sections.items ≡ t
+    → externs_of c.sections.items ≡ ns → Tabled tables t → HoldsExterns tables.imports ns → IsTabled c
+tabled_as c tables t ns e shown named tabled held = grind arith
+
 pub is_tabled_added : (old new : OpenComponent) (s : Section) → new.sections.items ≡ old.sections.items ++ s ∷ [] → new.tables ≡ old.tables
     → (after_part (spaces_of (shown_sections old.sections.items)) (shown_section s)).functions ≡ functions_of (shown_sections old.sections.items)
     → (after_part (spaces_of (shown_sections old.sections.items)) (shown_section s)).core_functions ≡ core_functions_of (shown_sections old.sections.items)
@@ -167,10 +176,5 @@ is_tabled_added old new s e tables fs cs is ks xs i =
     let same : externs_of new.sections.items ≡ externs_of old.sections.items =
     ap externs_of e ∙ (externs_push old.sections.items s ∙ (ap (λ z. externs_of old.sections.items ++ z) (no_externs s is)
     ∙ append-nil (externs_of old.sections.items))) in
-    let P : Tables → Type 0 = λ z. HoldsExterns z.imports (externs_of new.sections.items) in
-    record {
-      tabled = tabled_added (shown_sections old.sections.items) (shown_sections new.sections.items) (shown_section s) shown fs cs
-          (no_functions_in (shown_section s) is ks) xs
-          (subst (λ z. Tabled z (shown_sections old.sections.items)) (sym tables) i.tabled);
-      externs = subst P (sym tables) (subst (HoldsExterns old.tables.imports) (sym same) i.externs);
-    }
+    let tabled = tabled_added (shown_sections old.sections.items) _ (shown_section s) refl fs cs (no_functions_in (shown_section s) is ks) xs i.tabled in
+    tabled_as new old.tables _ _ tables shown same tabled i.externs

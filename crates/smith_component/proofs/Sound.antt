@@ -25,8 +25,8 @@ use Rattle.smith_component.specs.Sound.{IsAddable, IsQuiet, Sound, Totalled, fin
 use Rattle.smith_component.specs.declared.builder.totals.TreeTotals.{TreeTotals}
 use Rattle.smith_component.proofs.Fits.{Fits, IsSized, Short, fits_of, no_counted, own_limits-add, own_limits-component, own_limits_swap}
 use Rattle.smith_component.proofs.Fits.{own_sizes-add, own_sizes_swap}
-use Rattle.smith_component.proofs.WellFormed.{formed_so_far}
-use Rattle.smith_component.proofs.Tree.{tree_so_far-close, depth-so_far, length-anywhere-so_far, anywhere-add, depth-outer, all_so_far, all_inner}
+use Rattle.smith_component.proofs.Tree.{formed_so_far, tree_so_far-close, depth-so_far, length-anywhere-so_far, anywhere-add, depth-outer, all_so_far}
+use Rattle.smith_component.proofs.Tree.{all_inner}
 use Rattle.smith_scopes.proofs.Plain.{all_both, all_front, all_back}
 
 -- How many modules, components and instances there are when the inner component grows.
@@ -38,18 +38,12 @@ length-inside-so_far outer t p = length-anywhere-so_far components_in (record { 
 pub module_count-so_far : (outer : List Tree) (t : Tree) (p : Part)
     → module_count (tree_so_far outer (add t p)) ≡ module_count (tree_so_far outer t)
     + (length (anywhere_in modules_in p) + length (anywhere_in imported_modules_in p))
-module_count-so_far outer t p =
-    let a = length-anywhere-so_far modules_in (record { same = λ a b. refl }) outer t p in
-    let b = length-anywhere-so_far imported_modules_in (record { same = λ a b. refl }) outer t p in
-    omega (arith, a, b)
+module_count-so_far outer t p = grind (arith, length-anywhere-so_far)
 
 pub component_count-so_far : (outer : List Tree) (t : Tree) (p : Part)
     → component_count (tree_so_far outer (add t p)) ≡ component_count (tree_so_far outer t)
     + (length (anywhere_in components_in p) + length (anywhere_in imported_components_in p))
-component_count-so_far outer t p =
-    let a = length-inside-so_far outer t p in
-    let b = length-anywhere-so_far imported_components_in (record { same = λ a b. refl }) outer t p in
-    omega (arith, a, b)
+component_count-so_far outer t p = grind (arith, length-inside-so_far, length-anywhere-so_far)
 
 pub instance_count-so_far : (outer : List Tree) (t : Tree) (p : Part)
     → instance_count (tree_so_far outer (add t p)) ≡ instance_count (tree_so_far outer t) + length (anywhere_in imported_instances_in p)
@@ -57,14 +51,8 @@ instance_count-so_far outer t p = length-anywhere-so_far imported_instances_in (
 
 -- What is in a part that is not a component is its own.
 pub in_own : {A : Type 0} (f : Part → List A) (p : Part) → anywhere_in components_in p ≡ [] → anywhere_in f p ≡ f p
-in_own f (custom n c) e = refl
-in_own f (core_module m) e = refl
-in_own f (core_types ts) e = refl
 in_own f (component t) e = absurd (let z : (t ∷ inside t) ≡ [] = e in cc)
-in_own f (types ts) e = refl
-in_own f (canons fs) e = refl
-in_own f (imports is) e = refl
-in_own f (exports es) e = refl
+in_own f _ e = refl
 
 pub own_sizes_of : (config : Config) (stack : Open) → Sound config stack → OwnSizes config stack.inner
 own_sizes_of config stack s = all_inner (OwnSizes config) stack.outer stack.inner s.sized
@@ -111,52 +99,19 @@ part_sound config stack p a s =
 finished_close : (config : Config) (outer : List Tree) (parent inner : Tree) → Minima config inner
     → AllByRecursion (Minima config) (finished_in (record { outer = outer ++ parent ∷ []; inner = inner }))
     → AllByRecursion (Minima config) (finished_in (record { outer = outer; inner = add parent (component inner) }))
-finished_close config outer parent inner enough all =
-    let P : List Tree → Type 0 = AllByRecursion (Minima config) in
-    let front : List Tree = flat_map inside (outer ++ parent ∷ []) in
-    let split : front ≡ flat_map inside outer ++ inside parent = flat_map-append inside outer (parent ∷ [])
-    ∙ ap (λ x. flat_map inside outer ++ x) (append-nil (inside parent)) in
-    let before : P (flat_map inside outer ++ inside parent) = subst P split (all_front (Minima config) front (inside inner) all) in
-    let own : P (inside inner) = all_back (Minima config) front (inside inner) all in
-    let new : P (inside parent ++ (inner ∷ inside inner)) = all_both (Minima config) (inside parent) (inner ∷ inside inner)
-    (all_back (Minima config) (flat_map inside outer) (inside parent) before) (enough, own) in
-    all_both (Minima config) (flat_map inside outer) (inside (add parent (component inner)))
-    (all_front (Minima config) (flat_map inside outer) (inside parent) before)
-    (subst P (sym (anywhere-add components_in parent (component inner))) new)
+finished_close config outer parent inner enough all = grind (arith, flat_map-append, append-nil, all_front, all_back, all_both, anywhere-add)
 
 pub sound_close : (config : Config) (outer : List Tree) (parent inner : Tree) → Minima config inner
     → Sound config (record { outer = outer ++ parent ∷ []; inner = inner }) → Sound config (record { outer = outer; inner = add parent (component inner) })
-sound_close config outer parent inner enough s =
-    let e : tree_so_far (outer ++ parent ∷ []) inner ≡ tree_so_far outer (add parent (component inner)) = tree_so_far-close outer parent inner in
-    record {
-      consistent = s.consistent;
-      formed = subst WellFormed e s.formed;
-      maxima = subst (Maxima config) e s.maxima;
-      minima = finished_close config outer parent inner enough s.minima;
-      sized = subst (Sized config) e s.sized;
-    }
+sound_close config outer parent inner enough s = grind (arith, tree_so_far-close, finished_close)
 
 finished_open : (config : Config) (outer : List Tree) (inner : Tree) → AllByRecursion (Minima config) (finished_in (record { outer = outer; inner = inner }))
     → AllByRecursion (Minima config) (finished_in (record { outer = outer ++ inner ∷ []; inner = ends }))
-finished_open config outer inner all =
-    let P : List Tree → Type 0 = AllByRecursion (Minima config) in
-    let whole : flat_map inside (outer ++ inner ∷ []) ++ [] ≡ flat_map inside outer ++ inside inner =
-    append-nil (flat_map inside (outer ++ inner ∷ [])) ∙ (flat_map-append inside outer (inner ∷ [])
-    ∙ ap (λ x. flat_map inside outer ++ x) (append-nil (inside inner))) in
-    subst P (sym whole) all
+finished_open config outer inner all = grind (arith, append-nil, flat_map-append)
 
 -- What an empty component has.
 pub own_limits-ends : (config : Config) → OwnLimits config ends
-own_limits-ends config = record {
-  types = omega arith;
-  core_types = omega arith;
-  imports = omega arith;
-  functions = omega arith;
-  exports = omega arith;
-  within_types = tt;
-  within_core_types = tt;
-  names = tt;
-}
+own_limits-ends config = grind arith
 
 pub sound_open : (config : Config) (outer : List Tree) (inner : Tree) → length outer + 1 < config.max_nesting_depth
     → component_count (tree_so_far outer inner) < config.max_components → Sound config (record { outer = outer; inner = inner })
@@ -223,17 +178,7 @@ pub addable_level : (config : Config) (stack : Open) (p : Part) → FormedPart p
     → length (modules_in p) + (length (imported_modules_in p) + (length (imported_components_in p) + length (imported_instances_in p))) ≡ 0
     → anywhere_in components_in p ≡ [] → depth_in p ≡ 1
     → (length stack.outer + 1 ≤ max_depth config → length stack.outer + declared_depth_in p ≤ max_depth config) → IsAddable config stack p
-addable_level config stack p formed own sizes count none flat declared = record {
-  formed = formed;
-  own = own;
-  sizes = sizes;
-  modules = λ h. omega (arith, h, count);
-  components = λ h. omega (arith, h, count);
-  instances = λ h. omega (arith, h, count);
-  no_component = none;
-  flat = flat;
-  declared = declared;
-}
+addable_level config stack p formed own sizes count none flat declared = grind arith
 
 -- Types that find room.
 pub addable_types : (config : Config) (stack : Open) (es : List Entry) → FormedPart (types es) (scopes_in stack.outer) stack.inner
@@ -332,10 +277,7 @@ same_tail s t ss ts e = cc
 -- What is true of a root that is alone, when it has enough.
 pub root_kept : (config : Config) (outer : List Tree) (inner t : Tree) → outer ≡ [] → inner ≡ t → Minima config inner
     → Sound config (record { outer = outer; inner = inner }) → Limits config t × WellFormed t × Sized config t
-root_kept config outer inner t none is enough s =
-    let alone : Sound config (record { outer = []; inner = inner }) = subst (λ o. Sound config (record { outer = o; inner = inner })) none s in
-    let root : Sound config (record { outer = []; inner = t }) = subst (λ i. Sound config (record { outer = []; inner = i })) is alone in
-    (record { maxima = root.maxima; minima = (subst (Minima config) is enough, root.minima) }, root.formed, root.sized)
+root_kept config outer inner t none is enough s = grind arith
 
 -- Totals, when an empty component is opened in the inner one.
 pub totalled_open : (outer around : List Tree) (inner new : Tree) (old totals : TreeTotals) → around ≡ outer ++ inner ∷ [] → new ≡ ends
@@ -355,13 +297,4 @@ totalled_open outer around inner new old totals a e ms cs is t =
 pub totalled_close : (outer around : List Tree) (parent inner new : Tree) (totals : TreeTotals) → around ≡ outer ++ parent ∷ []
     → new ≡ add parent (component inner)
     → Totalled totals (record { outer = around; inner = inner }) → Totalled totals (record { outer = outer; inner = new })
-totalled_close outer around parent inner new totals a e t =
-    let close : tree_so_far (outer ++ parent ∷ []) inner ≡ tree_so_far outer (add parent (component inner)) = tree_so_far-close outer parent inner in
-    let u : Totalled totals (record { outer = outer ++ parent ∷ []; inner = inner }) =
-    subst (λ us. Totalled totals (record { outer = us; inner = inner })) a t in
-    let whole : Totalled totals (record { outer = outer; inner = add parent (component inner) }) = record {
-      modules = u.modules ∙ ap module_count close;
-      components = u.components ∙ ap component_count close;
-      instances = u.instances ∙ ap instance_count close;
-    } in
-    subst (λ t. Totalled totals (record { outer = outer; inner = t })) (sym e) whole
+totalled_close outer around parent inner new totals a e t = grind (arith, tree_so_far-close)

@@ -1,6 +1,6 @@
 -- What is in index spaces, and stays when they grow.
 use Rattle.std.proofs.Common.{◌≡◌, ℕ, ◌+◌, ◌<◌, ◌≤◌, Bool, true, false, cond, List, [], ◌∷◌, ◌++◌, fold, map, length, refl, sym, ap, ◌∙◌}
-use Rattle.std.proofs.Common.{arith, append-nil, length-append, Some, None}
+use Rattle.std.proofs.Common.{arith, length-append, Some, None}
 use Rattle.std.proofs.lemmas.Bool.{false≢true}
 use Rattle.std.proofs.lemmas.Option.{slice_get_within}
 use Rattle.std.specs.List.{AllByRecursion}
@@ -18,11 +18,10 @@ use Rattle.smith_scopes.proofs.Stack.{own_last, places-append}
 use Rattle.smith_tree.specs.Offers.{is_scalar_entry, is_scalar_type, scalar_functions}
 use Rattle.smith_component.specs.Tables.{IsGrounded}
 use Rattle.smith_tree.specs.Spaces.{Spaces, after_canon, spaces_of}
-use Rattle.smith_tree.specs.Tree.{Tree, Canon, lift, lower, types, canons, add, exports_in, exports_of, imports_in, imports_of}
+use Rattle.smith_tree.specs.Tree.{Tree, Canon, lift, lower, types}
 use Rattle.smith_tree.specs.WellFormed.{HasSignature, FormedCanon, FormedCanons}
 use Rattle.smith_component.proofs.Growth.{Extends, extends_canon, extends_part}
 use Rattle.smith_component.proofs.Tables.{all_weaker, get_longer, places_agree}
-use Rattle.smith_component.proofs.Tree.{own-add}
 use Rattle.smith_scopes.proofs.Plain.{all_both}
 pub use Rattle.smith_input.proofs.Lists.{all_at}
 
@@ -30,23 +29,9 @@ pub get_last : {A : Type 0} (xs : List A) (x : A) → slice_get (xs ++ x ∷ [])
 get_last [] x = refl
 get_last (z ∷ xs) x = get_last xs x
 
--- A canonical section leaves the scope and the imports as they are.
-
-pub imports_canons : (t : Tree) (cs : List Canon) → imports_of (add t (canons cs)) ≡ imports_of t
-imports_canons t cs = own-add imports_in t (canons cs) ∙ append-nil (imports_of t)
-
 -- the spaces with more types
 abbrev pub with_entries : Spaces → List Entry → Spaces
 with_entries s es = record { types = s.types ++ es; core_types = s.core_types; functions = s.functions; core_functions = s.core_functions }
-
-pub imports_types : (t : Tree) (es : List Entry) → imports_of (add t (types es)) ≡ imports_of t
-imports_types t es = own-add imports_in t (types es) ∙ append-nil (imports_of t)
-
-pub exports_canons : (t : Tree) (cs : List Canon) → exports_of (add t (canons cs)) ≡ exports_of t
-exports_canons t cs = own-add exports_in t (canons cs) ∙ append-nil (exports_of t)
-
-pub exports_types : (t : Tree) (es : List Entry) → exports_of (add t (types es)) ≡ exports_of t
-exports_types t es = own-add exports_in t (types es) ∙ append-nil (exports_of t)
 
 -- a component function whose type flattens
 abbrev pub IsScalarFunction : Spaces → ℕ → Type 0
@@ -54,11 +39,7 @@ IsScalarFunction s f = (signature : Signature) × HasSignature s f signature × 
 
 module _ {s u : Spaces} (e : Extends s u) where
   pub has_signature_stays : {f : ℕ} {signature : Signature} → HasSignature s f signature → HasSignature u f signature
-  has_signature_stays {f} {signature} h = record {
-    ty = h.ty;
-    stands = get_longer s.functions e.functions.0 u.functions f h.ty e.functions.1 h.stands;
-    is = get_longer s.types e.types.0 u.types h.ty (function signature) e.types.1 h.is;
-  }
+  has_signature_stays {f} {signature} h = grind (arith, get_longer)
 
   pub scalar_stays : (f : ℕ) → IsScalarFunction s f → IsScalarFunction u f
   scalar_stays f (signature, h, is) = (signature, has_signature_stays h, is)
@@ -112,9 +93,7 @@ scalars_entries s es g =
 -- One more function follows them if its type flattens.
 pub scalars_lift : (s : Spaces) (c t : ℕ) → scalar_functions (after_canon s (lift c t)) ≡ scalar_functions s ++ cond (is_scalar_type s.types t)
     (length s.functions ∷ []) []
-scalars_lift s c t =
-    places-append (is_scalar_type s.types) 0 s.functions (t ∷ [])
-    ∙ ap (λ n. scalar_functions s ++ cond (is_scalar_type s.types t) (n ∷ []) []) (let z : 0 + length s.functions ≡ length s.functions = omega arith in z)
+scalars_lift s c t = grind (arith, places-append)
 
 pub scalars_grow : (s : Spaces) (c : Canon) → length (scalar_functions s) ≤ length (scalar_functions (after_canon s c))
 scalars_grow s (lift c t) = omega (
@@ -127,17 +106,13 @@ scalars_grow s (lower f) = omega arith
 -- Types by their signatures.
 
 pub of_signature : (signature : Signature) (e : Entry) → is_of_signature signature e ≡ true → e ≡ function signature
-of_signature s (defined t) h = absurd (false≢true h)
 of_signature s (function f) h = ap function (sym ((same_signature_Decides s f).0 h))
-of_signature s (component_type ds) h = absurd (false≢true h)
-of_signature s (instance_type ds) h = absurd (false≢true h)
+of_signature s _ h = absurd (false≢true h)
 
 -- One that is equal to a signature, by its place, is of it.
 pub equal_at : (ts : List Entry) (signature : Signature) (k t : ℕ) → slice_get (places (is_of_signature signature) 0 ts) k ≡ Some t
     → slice_get ts t ≡ Some (function signature)
-equal_at ts signature k t h =
-    let p = place_stands (is_of_signature signature) ts k t h in
-    p.1 ∙ ap Some (of_signature signature p.0 p.2)
+equal_at ts signature k t h = grind (arith, place_stands, of_signature)
 
 same_test : {N K : Type 0} (signature : Signature) (e : EntryOf N K) → is_of_signature signature e ≡ is_of_signature signature (plain e)
 same_test s (defined t) = refl

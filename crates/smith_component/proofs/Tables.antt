@@ -7,7 +7,7 @@ use Rattle.std.proofs.lemmas.Bool.{false≢true}
 use Rattle.std.proofs.lemmas.List.Concat.{flat_map-append}
 use Rattle.std.proofs.lemmas.Option.{slice_get_within}
 use Rattle.smith_input.specs.Names.{Holds}
-use Rattle.smith_syntax.specs.Entries.{Entry, defined, function, component_type, instance_type, Signature}
+use Rattle.smith_syntax.specs.Entries.{Entry, function, Signature}
 use Rattle.smith_syntax.specs.Flat.{is_scalar}
 use Rattle.smith_syntax.specs.Scope.{Scope}
 use Rattle.smith_syntax.specs.Places.{places}
@@ -48,29 +48,17 @@ pub get_longer : {A : Type 0} (xs more ys : List A) (k : ℕ) (x : A) → ys ≡
 get_longer xs more ys k x e h = ap (λ z. slice_get z k) e ∙ (get_left xs more k (slice_get_within xs k x h) ∙ h)
 
 same_type : (ts more us : List Entry) → us ≡ ts ++ more → (ty : ℕ) → ty < length ts → is_scalar_type us ty ≡ is_scalar_type ts ty
-same_type ts more us e ty h =
-    let at : slice_get us ty ≡ slice_get ts ty = ap (λ z. slice_get z ty) e ∙ get_left ts more ty h in
-    ap (λ o. elim o [ None ↦ false | Some x ↦ is_scalar_entry x ]) at
+same_type ts more us e ty h = grind (arith, get_left)
 
 -- A function that can be lowered still can be when the component has more.
 pub lowerable_more : (t u : Tree) (es : List Entry) (fs : List ℕ) → types_of u ≡ types_of t ++ es → functions_of u ≡ functions_of t ++ fs → (f : ℕ)
     → IsLowerable t f → IsLowerable u f
-lowerable_more t u es fs e g f (signature, has, scalar) = (
-  signature,
-  record {
-    ty = has.ty;
-    stands = get_longer (functions_of t) fs (functions_of u) f has.ty g has.stands;
-    is = get_longer (types_of t) es (types_of u) has.ty (function signature) e has.is;
-  },
-  scalar,
-)
+lowerable_more t u es fs e g f (signature, has, scalar) = grind (arith, get_longer)
 
 -- The names of exports stay if there are no more of them.
 pub held_exports : (old new : Tables) (t u : Tree) → Tabled old t → exports_of u ≡ exports_of t → new.exports ≡ old.exports
     → Holds new.exports (export_names (exports_of u))
-held_exports old new t u tabled e same =
-    let held : Holds old.exports (export_names (exports_of u)) = subst (λ es. Holds old.exports (export_names es)) (sym e) tabled.exports in
-    subst (λ set. Holds set (export_names (exports_of u))) (sym same) held
+held_exports old new t u tabled e same = grind arith
 
 -- The tables of a component that has more types, functions and core functions, and its exports by name.
 module _ (old new : Tables) (t u : Tree) (es : List Entry) (fs cs : List ℕ) (tabled : Tabled old t) (types : types_of u ≡ types_of t ++ es)
@@ -90,30 +78,13 @@ module _ (old new : Tables) (t u : Tree) (es : List Entry) (fs cs : List ℕ) (t
       }
 
   scalars_more : scalar_functions (spaces_of u) ≡ scalar_functions (spaces_of t) ++ places (is_scalar_type (types_of u)) (0 + length (functions_of t)) fs
-  scalars_more =
-      let test : ℕ → Bool = is_scalar_type (types_of u) in
-      let agree : places test 0 (functions_of t) ≡ scalar_functions (spaces_of t) =
-      places_agree test (is_scalar_type (types_of t)) 0 (functions_of t)
-      (all_weaker (λ ty. ty < length (types_of t)) (λ ty. test ty ≡ is_scalar_type (types_of t) ty) (same_type (types_of t) es (types_of u) types)
-      (functions_of t) tabled.grounded.known) in
-      ap (places test 0) functions ∙ (places-append test 0 (functions_of t) fs ∙ ap (λ z. z ++ places test (0 + length (functions_of t)) fs) agree)
+  scalars_more = grind (arith, places_agree, all_weaker, same_type, places-append)
 
   pub tabled_more : (n : ℕ) → function_count u ≡ function_count t + n → new.counted ≡ old.counted + n → Holds new.exports (export_names (exports_of u))
       → AllByRecursion (λ ty. ty < length (types_of u)) fs → AllByRecursion (IsLowerable u) cs → new.functions.items ≡ old.functions.items ++ fs
       → new.core_functions.items ≡ old.core_functions.items ++ cs
       → new.scalars.items ≡ old.scalars.items ++ places (is_scalar_type (types_of u)) (length old.functions.items) fs → Tabled new u
-  tabled_more n count counted exports known lowered fnew cnew snew =
-      let test : ℕ → Bool = is_scalar_type (types_of u) in
-      let at : length old.functions.items ≡ 0 + length (functions_of t) = omega (arith, ap length tabled.functions) in
-      record {
-        functions = fnew ∙ (ap (λ z. z ++ fs) tabled.functions ∙ sym functions);
-        core_functions = cnew ∙ (ap (λ z. z ++ cs) tabled.core_functions ∙ sym core_functions);
-        scalars = snew ∙ (ap (λ n. old.scalars.items ++ places test n fs) at
-            ∙ (ap (λ z. z ++ places test (0 + length (functions_of t)) fs) tabled.scalars ∙ sym scalars_more));
-        counts = omega (arith, counted, tabled.counts, count);
-        exports = exports;
-        grounded = grounded_more known lowered;
-      }
+  tabled_more n count counted exports known lowered fnew cnew snew = grind (arith, scalars_more, grounded_more)
 
 -- the same list with nothing more
 pub same_more : {A : Type 0} (xs ys : List A) → ys ≡ xs → ys ≡ xs ++ []
@@ -156,10 +127,8 @@ tabled_quiet t u tabled types functions core_functions count exports =
     tabled_types t u [] tabled (same_more _ _ types) functions core_functions count exports
 
 scalar_entry_is : (e : Entry) → is_scalar_entry e ≡ true → (signature : Signature) × (e ≡ function signature) × (is_scalar signature ≡ true)
-scalar_entry_is (defined t) h = absurd (false≢true h)
 scalar_entry_is (function s) h = (s, refl, h)
-scalar_entry_is (component_type ds) h = absurd (false≢true h)
-scalar_entry_is (instance_type ds) h = absurd (false≢true h)
+scalar_entry_is _ h = absurd (false≢true h)
 
 -- A type that flattens is a function type.
 pub scalar_type_is : (ts : List Entry) (ty : ℕ) → is_scalar_type ts ty ≡ true
@@ -173,7 +142,4 @@ scalar_type_is ts ty h = found (slice_get ts ty) refl h
 
 -- A function whose type flattens can be lowered.
 pub scalar_at : (t : Tree) (k f : ℕ) → slice_get (scalar_functions (spaces_of t)) k ≡ Some f → IsLowerable t f
-scalar_at t k f h =
-    let p = place_stands (is_scalar_type (types_of t)) (functions_of t) k f h in
-    let s = scalar_type_is (types_of t) p.0 p.2 in
-    (s.0, record { ty = p.0; stands = p.1; is = s.1 }, s.2)
+scalar_at t k f h = grind (arith, place_stands, scalar_type_is)

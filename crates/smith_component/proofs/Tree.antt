@@ -3,11 +3,12 @@ use Rattle.std.proofs.Common.{◌≡◌, ℕ, ◌+◌, ◌≤◌, max, List, [],
 use Rattle.std.specs.List.{AllByRecursion, flat_map}
 use Rattle.smith_scopes.proofs.Plain.{all_back, all_both, all_front}
 use Rattle.smith_syntax.specs.Entries.{Entry, ImportEntry}
-use Rattle.smith_tree.specs.Tree.{Tree, ends, first, Part, custom, core_module, core_types, component, types, canons, imports, exports, add}
-use Rattle.smith_tree.specs.Tree.{own, anywhere}
-use Rattle.smith_tree.specs.Tree.{anywhere_in, inside, components_in, depth_by, depth_by_in}
-use Rattle.smith_tree.specs.Tree.{canons_in, function_count, function_of, imported_functions_in, imports_in}
-use Rattle.smith_tree.specs.Open.{tree_so_far}
+use Rattle.smith_tree.specs.Tree.{Tree, ends, first, Part, custom, core_module, core_types, component, types, canons, imports, exports, add, own, anywhere}
+use Rattle.smith_tree.specs.Tree.{anywhere_in, inside, components_in, depth_by, depth_by_in, canons_in, function_count, function_of, imported_functions_in}
+use Rattle.smith_tree.specs.Tree.{imports_in}
+use Rattle.smith_tree.specs.Open.{tree_so_far, scopes_from}
+use Rattle.smith_syntax.specs.Scope.{Scope}
+use Rattle.smith_tree.specs.WellFormed.{Formed, FormedPart, scope_of}
 
 -- What is open is closed.
 pub tree_so_far-close : (outer : List Tree) (u t : Tree) → tree_so_far (outer ++ u ∷ []) t ≡ tree_so_far outer (add u (component t))
@@ -103,11 +104,7 @@ Swaps P = (u a b : Tree) → P (add u (component a)) → P (add u (component b))
 -- A fact of each component stays when the inner one grows.
 pub all_so_far : (P : Tree → Type 0) → Swaps P → (outer : List Tree) (t : Tree) (p : Part) → P (add t p) → AllByRecursion P (anywhere_in components_in p)
     → AllByRecursion P (all_of (tree_so_far outer t)) → AllByRecursion P (all_of (tree_so_far outer (add t p)))
-all_so_far P swap [] t p new ins h = (
-  new,
-  subst (AllByRecursion P) (sym (anywhere-add components_in t p))
-      (all_both P (inside t) (anywhere_in components_in p) h.1 ins),
-)
+all_so_far P swap [] t p new ins h = grind (arith, anywhere-add, all_both)
 all_so_far P swap (u ∷ outer) t p new ins h =
     let x : Tree = tree_so_far outer t in
     let y : Tree = tree_so_far outer (add t p) in
@@ -121,11 +118,7 @@ all_so_far P swap (u ∷ outer) t p new ins h =
 -- It holds in front of what grew.
 pub all_before : (P : Tree → Type 0) → Swaps P → (outer : List Tree) (t : Tree) (p : Part) → (P (add t p) → P t)
     → AllByRecursion P (all_of (tree_so_far outer (add t p))) → AllByRecursion P (all_of (tree_so_far outer t))
-all_before P swap [] t p less h = (
-  less h.0,
-  all_front P (inside t) (anywhere_in components_in p)
-      (subst (AllByRecursion P) (anywhere-add components_in t p) h.1),
-)
+all_before P swap [] t p less h = grind (arith, all_front, anywhere-add)
 all_before P swap (u ∷ outer) t p less h =
     let x : Tree = tree_so_far outer t in
     let y : Tree = tree_so_far outer (add t p) in
@@ -155,3 +148,22 @@ join-ends (first p t) = ap (first p) (join-ends t)
 pub join-add : (a : Tree) (p : Part) (t : Tree) → join (add a p) t ≡ join a (first p t)
 join-add ends p t = refl
 join-add (first q a) p t = ap (first q) (join-add a p t)
+
+pub formed-add : (t : Tree) (p : Part) (outer : List Scope) (before : Tree) → Formed t outer before → FormedPart p outer (join before t)
+    → Formed (add t p) outer before
+formed-add ends p outer before f g = (subst (FormedPart p outer) (join-ends before) g, tt)
+formed-add (first q t) p outer before f g = (f.0, formed-add t p outer (add before q) f.1 (subst (FormedPart p outer) (sym (join-add before q t)) g))
+
+pub formed_front : (t : Tree) (p : Part) (outer : List Scope) (before : Tree) → Formed (add t p) outer before
+    → Formed t outer before × FormedPart p outer (join before t)
+formed_front ends p outer before f = (tt, subst (FormedPart p outer) (sym (join-ends before)) f.0)
+formed_front (first q t) p outer before f =
+    let r = formed_front t p outer (add before q) f.1 in
+    ((f.0, r.0), subst (FormedPart p outer) (join-add before q t) r.1)
+
+pub formed_so_far : (stack : List Tree) (outer : List Scope) (t : Tree) (p : Part) → Formed (tree_so_far stack t) outer ends
+    → FormedPart p (scopes_from stack outer) t → Formed (tree_so_far stack (add t p)) outer ends
+formed_so_far [] outer t p f g = formed-add t p outer ends f g
+formed_so_far (u ∷ stack) outer t p f g =
+    let r = formed_front u (component (tree_so_far stack t)) outer ends f in
+    formed-add u (component (tree_so_far stack (add t p))) outer ends r.0 (formed_so_far stack (scope_of u ∷ outer) t p r.1 g)

@@ -1,17 +1,16 @@
 -- What a turn chooses, and that it lowers what is left to do.
 use Rattle.std.proofs.Common.{◌≡◌, ℕ, zero, suc, ◌+◌, ◌^◌, ◌≤◌, List, [], ◌∷◌, ◌++◌, length, drop, arith, ap, sym, subst, ◌∙◌, refl, true, Bool, false, inl}
 use Rattle.std.proofs.Common.{inr, map, length-append, length-drop}
-use Rattle.std.specs.List.{AllByRecursion}
 use Rattle.std.specs.Prelude.{slice_get, Some}
 use Rattle.smith_input.specs.Choices.{ReadsAmong}
 use Rattle.smith_input.specs.Reading.{IsWidth, Reads, IsTail}
 use Rattle.smith_input.proofs.Offered.{offer_holds, offers_few}
 use Rattle.smith_input.proofs.Reading.{width_unique, tail_is, tail_trans}
 use Rattle.smith_format.specs.declared.config.Config.{Config}
-use Rattle.smith_tree.specs.Tree.{Tree, ends, Part, custom, core_module, core_types, component, exports, add}
+use Rattle.smith_tree.specs.Tree.{Tree, Part, custom, core_module, core_types, exports}
 use Rattle.smith_component.specs.Building.{Building, open_of}
 use Rattle.smith_tree.specs.Limits.{max_depth}
-use Rattle.smith_tree.specs.Open.{Open, more_items, is_component_offered, is_export_offered, is_finish_offered, is_module_offered, item_offers, items}
+use Rattle.smith_tree.specs.Open.{Open, more_items, is_component_offered, is_export_offered, is_finish_offered, is_module_offered, items}
 use Rattle.smith_tree.specs.Open.{items_with_input, offers, with_inner}
 use Rattle.smith_component.specs.Shown.{shown_module, shown_sections}
 use Rattle.smith_component.specs.Steps.{AddsSections}
@@ -25,12 +24,15 @@ use Rattle.smith_tree.specs.declared.choices.Item.{Item}
 use Rattle.smith_tree.specs.declared.choices.Item.TheVariants.{Finish, Custom, CoreTypes, Types, Imports, Canonical, Module, Component, Exports}
 use Rattle.smith_tree.proofs.ReadsCustom.{custom_tail}
 use Rattle.smith_component.proofs.ReadsCoreTypes.{core_types_read_tail}
-use Rattle.smith_component.proofs.ReadsModule.{stand_in_tail}
 use Rattle.smith_component.proofs.ReadsCanons.{canons_tail}
 use Rattle.smith_component.proofs.ReadsExports.{exports_tail}
 use Rattle.smith_component.proofs.ReadsImports.{imports_tail}
 use Rattle.smith_component.proofs.ReadsTypes.{types_read_tail}
 use Rattle.smith_component.proofs.Sound.{component_offered_is}
+use Rattle.smith_input.proofs.Loops.{loop_tail}
+use Rattle.smith_format.proofs.CoreReading.{function_tail, limits_tail}
+use Rattle.smith_core.specs.StandIn.{ReadsStandIn}
+use Rattle.smith_core.specs.declared.module.parts.ModuleParts.{ModuleParts}
 
 pub only_finish : (place : ℕ) (item : Item) → slice_get (Finish ∷ []) place ≡ Some item → item ≡ Finish
 only_finish zero item e = cc
@@ -66,23 +68,17 @@ tail_length rest b t = omega (arith, ap length t.1, length-drop t.0 b)
 
 closes_length : (stack next : Open) → Closes stack (building next) → length next.outer + 1 ≡ length stack.outer
 closes_length stack next (inl (a, b)) = absurd (let e : building next ≡ answered stack.inner = b in cc)
-closes_length stack next (inr (o, p, a, b)) =
-    let e : next ≡ record { outer = o; inner = add p (component stack.inner) } = cc in
-    omega (arith, ap length a, length-append o (p ∷ []), ap (λ n. length n.outer) e)
+closes_length stack next (inr (o, p, a, b)) = grind (arith, length-append)
 
 part_length : (config : Config) (stack next : Open) (p : Part) → building next ≡ with_part stack p → length next.outer ≡ length stack.outer
-part_length config stack next p e =
-    let f : next ≡ record { outer = stack.outer; inner = add stack.inner p } = cc in
-    ap (λ n. length n.outer) f
+part_length config stack next p e = grind arith
 
 -- when the inner component alone grows
 pub still_building : (old new : Building) → AddsSections old new → building (open_of new) ≡ building (with_inner (open_of old) (open_of new).inner)
 still_building old new a = ap (λ o. building (record { outer = map shown_sections o; inner = shown_sections new.inner })) a.outer
 
 inner_length : (stack next : Open) (t : Tree) → building next ≡ building (with_inner stack t) → length next.outer ≡ length stack.outer
-inner_length stack next t e =
-    let f : next ≡ with_inner stack t = cc in
-    ap (λ n. length n.outer) f
+inner_length stack next t e = grind arith
 
 -- what the sections with a minimum leave
 
@@ -102,6 +98,13 @@ fills_tail {config} {stack} {b} {full} {rest} f =
     let is = fill_tail counted.Imports config (with_inner stack f.typed) f.mid f.imported f.low f.imports in
     let fs = fill_tail counted.Functions config (with_inner stack f.imported) f.low full rest f.functions in
     tail_trans fs (tail_trans is ts)
+
+-- what a core module leaves
+stand_in_tail : (config : Config) (b : List ℕ) (m : ModuleParts) (rest : List ℕ) → ReadsStandIn config b m rest → IsTail rest b
+stand_in_tail config b m rest r =
+    let types = loop_tail (λ s c q t e. absurd e) (λ s c x q t f. function_tail f.reads) 0 tt b m.types.items r.mid tt r.types in
+    let memories = loop_tail (λ s c q t e. absurd e) (λ s c x q t f. limits_tail f.limits) 0 tt r.mid m.memories.items rest tt r.memories in
+    tail_trans memories types
 
 -- What an item leaves.
 pub does_tail : (config : Config) (item : Item) (stack : Open) (next : Next) (b r : List ℕ) → Does config item stack b next r → IsTail r b
@@ -125,10 +128,7 @@ does_depth config Types stack next b r e m (t, a, c) = omega (arith, inner_lengt
 does_depth config Imports stack next b r e m (t, a, c) = omega (arith, inner_length stack next t c)
 does_depth config Canonical stack next b r e m (t, a, c) = omega (arith, inner_length stack next t c)
 does_depth config Module stack next b r e m (parts, read, c) = omega (arith, part_length config stack next (core_module (shown_module parts)) c)
-does_depth config Component stack next b r e m (d, c) =
-    let f : next ≡ record { outer = stack.outer ++ stack.inner ∷ []; inner = ends } = cc in
-    let o = component_offered_is config stack (e refl) in
-    omega (arith, o.0, length-append stack.outer (stack.inner ∷ []), ap (λ n. length n.outer) f)
+does_depth config Component stack next b r e m (d, c) = grind (arith, component_offered_is, length-append)
 does_depth config Exports stack next b r e m (es, read, c) = omega (arith, part_length config stack next (exports es) c)
 
 -- An item that has a condition was offered.
@@ -137,69 +137,33 @@ WasOffered config stack item =
     (item ≡ Module → is_module_offered config stack ≡ true) × (item ≡ Component → is_component_offered config stack ≡ true)
     × (item ≡ Exports → is_export_offered config ≡ true)
 
+-- The condition of an item while input is left.
+abbrev Condition : Config → Open → Item → Type 0
+Condition config stack Finish = is_finish_offered config stack.inner ≡ true
+Condition config stack Custom = Unit {0}
+Condition config stack CoreTypes = Unit {0}
+Condition config stack Types = Unit {0}
+Condition config stack Imports = Unit {0}
+Condition config stack Canonical = Unit {0}
+Condition config stack Module = is_module_offered config stack ≡ true
+Condition config stack Component = is_component_offered config stack ≡ true
+Condition config stack Exports = is_export_offered config ≡ true
+
+-- It holds of what is chosen then.
+met : (config : Config) (stack : Open) (x : ℕ) (xs after : List ℕ) (item : Item) → ReadsAmong (items config stack (x ∷ xs)) (x ∷ xs) item after
+    → Condition config stack item
+met config stack x xs after item r = grind (arith, offer_holds)
+
 -- What is chosen was offered.
 pub chosen : (config : Config) (stack : Open) (left after : List ℕ) (item : Item) → ReadsAmong (items config stack left) left item after
     → WasOffered config stack item
 chosen config stack [] after item r = let f = only_finish r.place item r.named in (λ e. absurd (cc), λ e. absurd (cc), λ e. absurd (cc))
-chosen config stack (x ∷ xs) after item r =
-    let P : Item → Type 0 = WasOffered config stack in
-    let other : (i : Item) → (i ≡ Module → ⊥) → (i ≡ Component → ⊥) → (i ≡ Exports → ⊥) → P i = λ i m c x.
-    (λ e. absurd (m e), λ e. absurd (c e), λ e. absurd (x e)) in
-    let all : AllByRecursion (λ o. o.0 ≡ true → P o.1) (item_offers config stack) = (
-      λ h. other Finish (λ e. cc) (λ e. cc) (λ e. cc),
-      (
-        λ h. other Custom (λ e. cc) (λ e. cc) (λ e. cc),
-        (
-          λ h. other CoreTypes (λ e. cc) (λ e. cc) (λ e. cc),
-          (
-            λ h. other Types (λ e. cc) (λ e. cc) (λ e. cc),
-            (
-              λ h. other Imports (λ e. cc) (λ e. cc) (λ e. cc),
-              (
-                λ h. other Canonical (λ e. cc) (λ e. cc) (λ e. cc),
-                (
-                  λ h. (λ e. h, λ e. absurd (cc), λ e. absurd (cc)),
-                  (λ h. (λ e. absurd (cc), λ e. h, λ e. absurd (cc)), (λ h. (λ e. absurd (cc), λ e. absurd (cc), λ e. h), tt)),
-                ),
-              ),
-            ),
-          ),
-        ),
-      ),
-    ) in
-    offer_holds P (item_offers config stack) all r.place item r.named
+chosen config stack (x ∷ xs) after item r = grind (arith, met)
 
 -- What is finished while input is left was offered.
 pub finish_offered : (config : Config) (stack : Open) (x : ℕ) (xs after : List ℕ) → ReadsAmong (items config stack (x ∷ xs)) (x ∷ xs) Finish after
     → is_finish_offered config stack.inner ≡ true
-finish_offered config stack x xs after r =
-    let P : Item → Type 0 = λ i. i ≡ Finish → is_finish_offered config stack.inner ≡ true in
-    let all : AllByRecursion (λ o. o.0 ≡ true → P o.1) (item_offers config stack) = (
-      λ h e. h,
-      (
-        λ h e. absurd (cc),
-        (
-          λ h e. absurd (cc),
-          (
-            λ h e. absurd (cc),
-            (
-              λ h e. absurd (cc),
-              (
-                λ h e. absurd (cc),
-                (
-                  λ h e. absurd (cc),
-                  (
-                    λ h e. absurd (cc),
-                    (λ h e. absurd (cc), tt),
-                  ),
-                ),
-              ),
-            ),
-          ),
-        ),
-      ),
-    ) in
-    offer_holds P (item_offers config stack) all r.place Finish r.named refl
+finish_offered config stack x xs after r = met config stack x xs after Finish r
 
 pub does_finish : (config : Config) (stack : Open) (item : Item) (b r : List ℕ) (next : Next) → item ≡ Finish → Does config item stack b next r
     → (full : Tree) × FillsAll config stack b full r × Closes (with_inner stack full) next
@@ -257,7 +221,4 @@ pub closes_same : (stack : Open) (n m : Next) → Closes stack n → Closes stac
 closes_same stack n m (inl (a, b)) (inl (c, d)) = cc
 closes_same stack n m (inl (a, b)) (inr (o, p, c, d)) = absurd (not_empty o p (sym c ∙ a))
 closes_same stack n m (inr (o, p, c, d)) (inl (a, b)) = absurd (not_empty o p (sym c ∙ a))
-closes_same stack n m (inr (o, p, c, d)) (inr (q, r, e, f)) =
-    let s = last_same o q p r (sym c ∙ e) in
-    d ∙ ap (λ x. building (record { outer = x; inner = add p (component stack.inner) })) s.0
-    ∙ ap (λ x. building (record { outer = q; inner = add x (component stack.inner) })) s.1 ∙ sym f
+closes_same stack n m (inr (o, p, c, d)) (inr (q, r, e, f)) = grind (arith, last_same)

@@ -16,17 +16,16 @@ use Rattle.smith_input.specs.Offers.{offered}
 use Rattle.smith_tree.proofs.Everything.{everything_offered}
 use Rattle.smith_syntax.specs.CoreLimits.{CoreLimits, EntityLimits}
 use Rattle.smith_syntax.specs.Entries.{CoreEntry, Entry, core_func, core_module as module_type, defined, function, component_type, instance_type}
-use Rattle.smith_syntax.specs.Entries.{Decl, Decls, core_type_decl, type_decl, type_alias, core_type_alias, import_decl, export_decl, no_decls, then_decls}
+use Rattle.smith_syntax.specs.Entries.{Decl, Decls, core_type_decl, type_decl, no_decls, then_decls}
 use Rattle.smith_syntax.specs.Marked.{Marked, empty_marked}
-use Rattle.smith_syntax.specs.ModuleTypes.{declared_in, entities_of}
 use Rattle.smith_syntax.specs.TypeLimits.{DeclLimits, DeclsLimits, EntryLimits}
 use Rattle.smith_tree.specs.CoreTypeNeeds.{core_need}
 use Rattle.smith_tree.specs.Limits.{Maxima, Minima, OwnLimits, OwnSizes, max_depth}
 use Rattle.smith_tree.specs.Marking.{marked_after_part}
 use Rattle.smith_tree.specs.Offered.{IsOffered, OfferedPart, OfferedParts}
 use Rattle.smith_tree.specs.Readable.{AreFinishable, CanBeGenerated, IsFinishable, IsReadablePart, IsReadableRest, StandsForModule}
-use Rattle.smith_tree.specs.Spaces.{Spaces, after_part, core_types_of, no_spaces, types_of}
-use Rattle.smith_tree.specs.Tree.{Tree, Part, add, ends, first, custom, core_module, core_types, component, types, canons, imports, exports}
+use Rattle.smith_tree.specs.Spaces.{Spaces, after_part, no_spaces}
+use Rattle.smith_tree.specs.Tree.{Tree, Part, add, ends, first, core_module, component, types, canons, imports, exports}
 use Rattle.smith_tree.specs.Tree.{inside}
 use Rattle.smith_tree.specs.TypeNeeds.{need}
 use Rattle.smith_component.specs.Wider.{AreWider}
@@ -97,15 +96,7 @@ module _ {wide narrow : Config} (wider : AreWider wide narrow) where
       h
 
   function_wider : (f : Function) → FormedFunction (configured narrow) (max_results narrow) f → FormedFunction (configured wide) (max_results wide) f
-  function_wider f h =
-      let more = more_results narrow.multi_value_enabled wide.multi_value_enabled wider.multi_value in
-      let few = h.few_results in
-      record {
-        few_params = h.few_params;
-        few_results = omega (arith, few, more);
-        params = all_weaker (Contains (configured narrow)) (Contains (configured wide)) values_wider f.0 h.params;
-        results = all_weaker (Contains (configured narrow)) (Contains (configured wide)) values_wider f.1 h.results;
-      }
+  function_wider f h = grind (arith, more_results, all_weaker, values_wider)
 
   entity_wider : (e : EntityType) → EntityLimits narrow e → EntityLimits wide e
   entity_wider (Func i) h = tt
@@ -117,17 +108,7 @@ module _ {wide narrow : Config} (wider : AreWider wide narrow) where
 
   core_wider : (e : CoreEntry) → CoreLimits narrow e → CoreLimits wide e
   core_wider (core_func f) h = function_wider f h
-  core_wider (module_type ds) h = record {
-    functions = all_weaker (IsFormed narrow) (IsFormed wide) function_wider (declared_in ds) h.functions;
-    entities = all_weaker (EntityLimits narrow) (EntityLimits wide) entity_wider (entities_of ds) h.entities;
-    types = omega (arith, h.types, wider.max_types);
-    globals = omega (arith, h.globals, wider.max_globals);
-    tables = omega (arith, h.tables, wider.max_tables);
-    memories = omega (arith, h.memories, wider.max_memories);
-    tags = omega (arith, h.tags, wider.max_tags);
-    funcs = omega (arith, h.funcs, wider.max_funcs);
-    declarations = h.declarations;
-  }
+  core_wider (module_type ds) h = grind (arith, all_weaker, function_wider, entity_wider)
 
   -- types
 
@@ -141,10 +122,7 @@ module _ {wide narrow : Config} (wider : AreWider wide narrow) where
     decl_wider : (d : Decl) → DeclLimits narrow d → DeclLimits wide d
     decl_wider (core_type_decl t k) h = core_wider t h
     decl_wider (type_decl e) h = entry_wider e h
-    decl_wider (type_alias count i k) h = tt
-    decl_wider (core_type_alias count i k) h = tt
-    decl_wider (import_decl name n r) h = tt
-    decl_wider (export_decl name n r) h = tt
+    decl_wider _ h = tt
 
     decls_wider : (ds : Decls) → DeclsLimits narrow ds → DeclsLimits wide ds
     decls_wider no_decls h = tt
@@ -153,16 +131,7 @@ module _ {wide narrow : Config} (wider : AreWider wide narrow) where
   -- components
 
   own_wider : (t : Tree) → OwnLimits narrow t → OwnLimits wide t
-  own_wider t h = record {
-    types = omega (arith, h.types, wider.max_types);
-    core_types = omega (arith, h.core_types, wider.max_types);
-    imports = omega (arith, h.imports, wider.max_imports);
-    functions = omega (arith, h.functions, wider.max_funcs);
-    exports = omega (arith, h.exports, wider.max_exports);
-    within_types = all_weaker (EntryLimits narrow) (EntryLimits wide) entry_wider (types_of t) h.within_types;
-    within_core_types = all_weaker (CoreLimits narrow) (CoreLimits wide) core_wider (core_types_of t) h.within_core_types;
-    names = h.names;
-  }
+  own_wider t h = grind (arith, all_weaker, entry_wider, core_wider)
 
   maxima_wider : (t : Tree) → Maxima narrow t → Maxima wide t
   maxima_wider t h =
@@ -177,32 +146,15 @@ module _ {wide narrow : Config} (wider : AreWider wide narrow) where
       }
 
   minima_wider : (t : Tree) → Minima narrow t → Minima wide t
-  minima_wider t h = record {
-    types = omega (arith, h.types, wider.min_types);
-    imports = omega (arith, h.imports, wider.min_imports);
-    functions = omega (arith, h.functions, wider.min_funcs);
-  }
+  minima_wider t h = grind arith
 
   sizes_wider : (t : Tree) → OwnSizes narrow t → OwnSizes wide t
-  sizes_wider t h = (
-    all_weaker (IsSmall narrow) (IsSmall wide) (λ e small. omega (arith, small, wider.max_type_size)) (types_of t) h.0,
-    all_weaker (IsSmallCore narrow) (IsSmallCore wide) (λ e small. omega (arith, small, wider.max_type_size)) (core_types_of t) h.1,
-  )
+  sizes_wider t h = grind (arith, all_weaker)
 
   -- what can be read
 
   module_wider : (text : List ℕ) → StandsForModule narrow text → StandsForModule wide text
-  module_wider text (s, is, e) = (
-    s,
-    record {
-      few_types = omega (arith, is.few_types, wider.max_types);
-      types = all_weaker (IsFormed narrow) (IsFormed wide) function_wider s.types is.types;
-      enough_memories = omega (arith, is.enough_memories, wider.min_memories);
-      few_memories = omega (arith, is.few_memories, wider.max_memories);
-      memories = is.memories;
-    },
-    e,
-  )
+  module_wider text (s, is, e) = grind (arith, all_weaker, function_wider)
 
   mutual
     rest_wider : (t before : Tree) → IsReadableRest narrow t before → IsReadableRest wide t before
@@ -210,14 +162,11 @@ module _ {wide narrow : Config} (wider : AreWider wide narrow) where
     rest_wider (first p t) before h = (part_wider p before h.0, rest_wider t (add before p) h.1)
 
     part_wider : (p : Part) (before : Tree) → IsReadablePart narrow p before → IsReadablePart wide p before
-    part_wider (custom name contents) before h = h
     part_wider (core_module text) before h = module_wider text h
-    part_wider (core_types ts) before h = h
     part_wider (component t) before h = rest_wider t ends h
-    part_wider (types ts) before h = h
     part_wider (canons fs) before h = tt
-    part_wider (imports is) before h = h
     part_wider (exports es) before h = (omega (arith, h.0, wider.max_exports), h.1)
+    part_wider _ before h = h
 
   -- what is offered
 
@@ -230,16 +179,13 @@ module _ {wide narrow : Config} (wider : AreWider wide narrow) where
 
     part_offered : (same : wide.must_validate ≡ narrow.must_validate) (p : Part) (s : Spaces) (outer : List Marked) (own : Marked)
         → OfferedPart p narrow s outer own → OfferedPart p wide s outer own
-    part_offered same (custom name contents) s outer own h = tt
-    part_offered same (core_module text) s outer own h = tt
-    part_offered same (core_types ts) s outer own h = tt
     part_offered same (component t) s outer own h =
         subst (λ b. OfferedParts t wide no_spaces (own ∷ outer) (empty_marked b)) (sym same)
         (parts_offered same t no_spaces (own ∷ outer) (empty_marked narrow.must_validate) h)
     part_offered same (types ts) s outer own h = h
-    part_offered same (canons fs) s outer own h = tt
     part_offered same (imports is) s outer own h = h
     part_offered same (exports es) s outer own h = h
+    part_offered same _ s outer own h = tt
 
   offered_wider : (t : Tree) → IsOffered narrow t → IsOffered wide t
   offered_wider t h = go (on_or_off wide.must_validate)
@@ -252,16 +198,7 @@ module _ {wide narrow : Config} (wider : AreWider wide narrow) where
           (parts_offered same t no_spaces [] (empty_marked narrow.must_validate) h)
 
   pub generated_wider : (t : Tree) → CanBeGenerated narrow t → CanBeGenerated wide t
-  generated_wider t h = record {
-    formed = h.formed;
-    limits = record {
-      maxima = maxima_wider t h.limits.maxima;
-      minima = all_weaker (Minima narrow) (Minima wide) minima_wider (t ∷ inside t) h.limits.minima;
-    };
-    sized = all_weaker (OwnSizes narrow) (OwnSizes wide) sizes_wider (t ∷ inside t) h.sized;
-    readable = rest_wider t ends h.readable;
-    offered = offered_wider t h.offered;
-  }
+  generated_wider t h = grind (arith, maxima_wider, all_weaker, minima_wider, sizes_wider, rest_wider, offered_wider)
 
 pub finishable_wider : (wide narrow : Config) (t : Tree) → wide.finish_after ≤ narrow.finish_after → AreFinishable narrow t → AreFinishable wide t
 finishable_wider wide narrow t fewer h =

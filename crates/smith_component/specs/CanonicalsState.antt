@@ -10,7 +10,7 @@ use Rattle.smith_syntax.specs.Scope.{Scope}
 use Rattle.smith_types.specs.Lifting.{ReadsLiftedType}
 use Rattle.smith_scopes.specs.Scopes.{Contents, own_marked}
 use Rattle.smith_component.specs.Canonicals.{CanonTurn, Growing, NoCanon, grown, spaces_at}
-use Rattle.smith_component.specs.EntriesState.{KeepsAround}
+use Rattle.smith_component.specs.SectionsState.{KeepsAround}
 use Rattle.smith_component.specs.SectionValues.{externs_of}
 use Rattle.smith_component.specs.Shown.{shown_sections}
 use Rattle.smith_tree.specs.Shown.{shown_canon}

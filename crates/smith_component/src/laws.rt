@@ -62,12 +62,14 @@ pub fn runs_finish_all_but_the_last_components()
 {}
 
 /// The script of a plan, followed by any bytes, leads to that plan, and leaves those bytes.
+#[tactic(auto, using(crate::proofs::Plans::script_runs))]
 pub fn plans_are_read()
     ensures { (config : Config) (plan : Tree) → IsConsistent config → Within config plan
         → IsReadAs (RunsTo config) (script config plan) plan }
 {}
 
 /// The script of a plan is bytes.
+#[tactic(auto, using(crate::proofs::ScriptBytes::plan_bytes))]
 pub fn scripts_are_bytes()
     ensures { (config : Config) (plan : Tree) → IsConsistent config → Within config plan
         → AreBytes (script config plan) }
@@ -118,6 +120,7 @@ pub fn answers_are_not_refused()
 {}
 
 /// The limits and the input alone decide what is refused, and what is left then, allocation failure aside.
+#[tactic(auto, using(crate::proofs::Reproducible::refusal_same))]
 pub fn refusals_are_decided()
     ensures { (config : Config) (input : List ℕ) (d e : Error) (left rest : List ℕ)
         → IsGenerateRefusal config input d left → IsGenerateRefusal config input e rest
@@ -130,6 +133,7 @@ pub fn turns_are_decided()
 {}
 
 /// A turn leaves the last ones of the bytes after its choice.
+#[tactic(auto, using(crate::proofs::Turn::does_tail))]
 pub fn turns_leave_a_tail()
     ensures { (config : Config) (stack : Open) (left : List ℕ) (next : Next) (rest : List ℕ)
         → (turn : Turn config stack left next rest) → IsTail rest turn.after }
@@ -146,6 +150,7 @@ pub fn scripted_parts_are_added()
 {}
 
 /// If a component may be opened, the script of that choice is a turn that opens it.
+#[tactic(auto, using(crate::proofs::Script::opening_turn))]
 pub fn scripted_components_are_opened()
     ensures { (config : Config) (stack : Open) → is_component_offered config stack ≡ true
         → IsReadAs (Turn config stack) (script_item config stack.outer stack.inner ItemComponent) (with_open stack) }
@@ -153,6 +158,7 @@ pub fn scripted_components_are_opened()
 
 /// If the inner component meets the minima and may be finished, the script of the choice to finish is a turn that
 /// closes it as it is.
+#[tactic(auto, using(crate::proofs::Script::closing_turn))]
 pub fn scripted_ends_are_closed()
     ensures { (config : Config) (stack : Open) (next : Next) → Minima config stack.inner
         → IsFinishable config stack.inner → Closes stack next

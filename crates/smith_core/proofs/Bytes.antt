@@ -5,9 +5,8 @@ use Rattle.std.specs.List.{AllByRecursion, slice_get, slice_range, zip}
 use Rattle.std.specs.declared.alloc.Global.{Global}
 use Rattle.std.specs.declared.string.String.{String}
 use Rattle.std.specs.declared.vec.Vec.{Vec}
-use Rattle.smith_format.specs.Shown.{shown_func}
-use Rattle.smith_format.specs.Entities.{memory_type, tag_type}
-use Rattle.smith_format.specs.Shown.{shown_import}
+use Rattle.smith_format.specs.Shown.{shown_func, shown_import}
+use Rattle.smith_format.specs.Entities.{memory_type, tag_type, kind_byte}
 use Rattle.smith_format.specs.Piece.{Piece, ◌⊕◌, byte, bytes, u, each, many}
 use Rattle.smith_format.specs.declared.types.ExportKind.{ExportKind}
 use Rattle.smith_format.specs.declared.types.ExportKind.TheVariants as export_kind
@@ -19,7 +18,6 @@ use Rattle.smith_format.proofs.Piece.{parts_are}
 use Rattle.smith_core.specs.Module.{binary_order, section_id, is_written, last, start, contents, section, module_text}
 use Rattle.smith_core.specs.Preamble.{core_preamble}
 use Rattle.smith_core.specs.Segments.{expression, table, named_type, export, offset, functions_front, expressions_front, element_of, element, local}
-use Rattle.smith_format.specs.Entities.{kind_byte}
 use Rattle.smith_core.specs.Segments.{instructions, code_text, data_form, data_segment}
 use Rattle.smith_core.specs.SubTypes.{storage, field, composite, sub_prefix, sub_type, rec_type}
 use Rattle.smith_core.specs.declared.module.parts.ModuleParts.{ModuleParts}

@@ -156,9 +156,9 @@ are_maximum (Some n) = are_number n
 
 are_limits : (shared wide : Bool) (minimum : ℕ) (most : Option ℕ) → AreBytes (limits shared wide minimum most)
 are_limits shared wide minimum most =
-    let flags : bit (has_maximum most) 1 + (bit shared 2 + bit wide 4) < 256 =
+    let small : bit (has_maximum most) 1 + (bit shared 2 + bit wide 4) < 256 =
     omega (arith, bit_below (has_maximum most) 1, bit_below shared 2, bit_below wide 4) in
-    are_after (bit (has_maximum most) 1 + (bit shared 2 + bit wide 4)) flags
+    are_after (bit (has_maximum most) 1 + (bit shared 2 + bit wide 4)) small
     (are_join (are_number minimum) (are_maximum most))
 
 pub are_table_type : (t : TableType) → AreBytes (table_type t)

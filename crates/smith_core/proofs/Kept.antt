@@ -5,9 +5,10 @@ use Rattle.std.proofs.lemmas.List.{length-map}
 use Rattle.std.specs.List.{AllByRecursion}
 use Rattle.std.specs.Prelude.{if◌then◌else◌}
 use Rattle.smith_format.specs.CoreTypes.{core_function}
-use Rattle.smith_format.specs.Piece.{Piece, ◌⊕◌, bytes, each, many, sized, u}
+use Rattle.smith_format.specs.Piece.{Piece, ◌⊕◌, bytes, many, sized, u}
 use Rattle.smith_format.specs.Shown.{shown_func}
 use Rattle.smith_format.specs.declared.types.FuncType.{FuncType}
+use Rattle.smith_format.proofs.Many.{each-map}
 use Rattle.smith_format.proofs.Piece.{left_nil}
 use Rattle.smith_core.specs.Kept.{final_type, few_items, few_mapped, shown, stand_in_parts}
 use Rattle.smith_core.specs.Module.{module_text}
@@ -28,14 +29,10 @@ listed_some id f [] e = absurd (false≢true (sym e))
 listed_some id f (x ∷ xs) e = refl
 
 -- a section of what the items of a list show
-each_shown : {A B : Type 0} (f : B → Piece) (g : A → B) (xs : List A) → each (λ x. f (g x)) xs ≡ each f (map g xs)
-each_shown f g [] = refl
-each_shown f g (x ∷ xs) = λ i. f (g x) ⊕ each_shown f g xs i
-
 pub listed_shown : {A B : Type 0} (id : ℕ) (f : B → Piece) (g : A → B) (xs : List A) → listed id (λ x. f (g x)) xs ≡ listed id f (map g xs)
 listed_shown id f g xs =
     let count : length xs ≡ length (map g xs) = sym (length-map xs g) in
-    λ i. if any_map g xs i then sized id (u (count i) ⊕ each_shown f g xs i) else bytes []
+    λ i. if any_map g xs i then sized id (u (count i) ⊕ sym (each-map f g xs) i) else bytes []
 
 types_shown : (fs : List FuncType) → map function_at (map final_type fs) ≡ map shown_func fs
 types_shown [] = refl

@@ -1,7 +1,5 @@
-pub mod Agree
 pub mod Bytes
 pub mod BytesTypes
-pub mod Sections
 pub mod Segments
 pub mod Split
 pub mod StandIn
@@ -10,7 +8,6 @@ pub mod SubTypes
 pub mod Tiles
 pub mod TooLong
 pub mod StandInSame
-pub mod StandInExact
 pub mod StandInMade
 pub mod StandInRead
 pub mod StandInTold

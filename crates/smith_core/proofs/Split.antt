@@ -3,6 +3,7 @@ use Rattle.std.proofs.Common.{◌≡◌, ◌↔◌, ℕ, Bool, true, false, cond
 use Rattle.std.specs.List.{filter}
 use Rattle.smith_format.specs.Piece.{Piece, ◌⊕◌, bytes, each, sized}
 use Rattle.smith_format.proofs.Clear.{clash, same_section, section_head, tail}
+use Rattle.smith_format.proofs.Many.{each-map}
 use Rattle.smith_format.proofs.Piece.{left_nil}
 use Rattle.smith_core.specs.Module.{binary_order, section_id, is_written, contents, section, module_text}
 use Rattle.smith_core.specs.Preamble.{core_preamble}
@@ -29,10 +30,6 @@ same_sections ((m, c) ∷ xs) ((n, p) ∷ ys) b e h =
     let t = same_section m (bytes c) p (each core_section xs) (each any_section ys) b e f in
     let same : bytes c ≡ p = t.first ∙ sym t.second in
     let r = same_sections xs ys t.rests.rest t.rests.first t.rests.second in λ j. (i j, same j) ∷ r j
-
-each_shown : (xs : List CoreSection) → each core_section xs ≡ each any_section (map present_section xs)
-each_shown [] = refl
-each_shown (x ∷ xs) = ap (λ p. core_section x ⊕ p) (each_shown xs)
 
 -- a section that is not written has no bytes
 each_written : (m : ModuleParts) (ks : List SectionKind)
@@ -63,5 +60,5 @@ split_law m b e xs = (there, back)
 
     back : map present_section xs ≡ sections_of m → Splits b xs
     back h =
-        let same = each_shown xs ∙ ap (each any_section) h ∙ sym (each_written m binary_order) in
+        let same = sym (each-map any_section present_section xs) ∙ ap (each any_section) h ∙ sym (each_written m binary_order) in
         ap (λ p. bytes core_preamble ⊕ p) same ∙ e

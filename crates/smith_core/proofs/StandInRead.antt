@@ -1,9 +1,10 @@
--- A module of the bytes of function types and memories within the limits is read from their script.
-use Rattle.std.proofs.Common.{◌≡◌, ℕ, suc, ◌+◌, ◌<◌, ◌≤◌, ◌^◌, true, List, [], ◌∷◌, ◌++◌, map, length}
-use Rattle.std.proofs.Common.{refl, sym, ap, ◌∙◌, subst, arith, min, None, append_assoc}
+-- A module of the bytes of function types and memories within the limits is read from their script, and which bytes are one.
+use Rattle.std.proofs.Common.{◌↔◌, Some, ◌≡◌, ℕ, suc, ◌+◌, ◌<◌, ◌≤◌, ◌^◌, true, List, [], ◌∷◌, ◌++◌, map, length, refl, sym, ap, ◌∙◌, subst, arith, min, None}
+use Rattle.std.proofs.Common.{append_assoc}
 use Rattle.std.specs.List.{AllByRecursion}
 use Rattle.smith_input.specs.Loops.{Loop, Never}
-use Rattle.smith_input.specs.Script.{script_loop, script_more}
+use Rattle.smith_input.specs.Script.{AreBytes, script_loop, script_more}
+use Rattle.smith_input.proofs.ScriptBytes.{small_join, small_none}
 use Rattle.smith_input.proofs.Loops.{along_all, loop_all, loop_read}
 use Rattle.smith_format.specs.CoreFormed.{FormedFunction, FormedMemory}
 use Rattle.smith_format.specs.CoreScript.{script_function, script_memory}
@@ -21,7 +22,8 @@ use Rattle.smith_core.specs.StandInText.{StandIn, stand_in_text}
 use Rattle.smith_core.specs.declared.module.parts.ModuleParts.{ModuleParts}
 use Rattle.smith_core.specs.declared.module.types.SubType.{SubType}
 use Rattle.smith_core.proofs.StandIn.{parts_listed}
-use Rattle.smith_core.proofs.StandInMade.{few_results}
+use Rattle.smith_core.proofs.StandInMade.{few_results, small_stand_in, stand_in_made}
+use Rattle.smith_core.proofs.StandInTold.{stand_in_few}
 use Rattle.smith_core.proofs.StandInSame.{function_at, is_plain, text_is, IsPlain}
 
 -- a script of what items show
@@ -120,3 +122,22 @@ module _ (config : Config) where
         },
         text_is m parts plain ∙ ap (λ fs. stand_in_text (record { types = fs; memories = ms })) shown,
       )
+
+-- What has bytes is read from its script.
+pub text_read : (config : Config) (s : StandIn) (b : List ℕ) → IsStandIn config s → stand_in_text s ≡ Some b → (rest : List ℕ)
+    → (m : ModuleParts) × ReadsStandIn config (script_stand_in config s ++ rest) m rest × (module_text m ≡ Some b)
+text_read config s b is e rest =
+    let r = stand_in_read config s is (stand_in_few s b e) rest in
+    (r.0, r.1, r.2 ∙ e)
+
+pub exact : (config : Config) (b : List ℕ)
+    → ((input rest : List ℕ) × AreBytes input × (m : ModuleParts) × ReadsStandIn config input m rest × (module_text m ≡ Some b))
+    ↔ ((s : StandIn) × IsStandIn config s × (stand_in_text s ≡ Some b))
+exact config b = (
+  λ (input, rest, all, m, reads, text).
+      let made = stand_in_made config input m rest reads in
+      (made.0, made.1, sym made.2 ∙ text),
+  λ (s, is, text).
+      let r = text_read config s b is text [] in
+      (script_stand_in config s ++ [], [], (small_join (small_stand_in config s is) small_none).are, r.0, r.1, r.2),
+)

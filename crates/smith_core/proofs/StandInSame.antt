@@ -102,18 +102,8 @@ last_all xs = let none : length xs - length xs ≡ 0 = omega arith in ap (λ n. 
 -- what is written of these types and memories
 abbrev written : StandIn → SectionKind → Piece
 written s kind.Types = listed 1 core_function s.types
-written s kind.Imports = bytes []
-written s kind.Functions = bytes []
-written s kind.Tables = bytes []
 written s kind.Memories = listed 5 memory_type s.memories
-written s kind.Tags = bytes []
-written s kind.Globals = bytes []
-written s kind.Exports = bytes []
-written s kind.Start = bytes []
-written s kind.Elements = bytes []
-written s kind.DataCount = bytes []
-written s kind.Code = bytes []
-written s kind.Data = bytes []
+written s _ = bytes []
 
 -- the two sections alone are left of all
 two_sections : (types memories : Piece)

@@ -1,10 +1,10 @@
 -- Function types and memories are found again from the bytes of the module that they are.
-use Rattle.std.proofs.Common.{◌≡◌, ◌⊎◌, inl, inr, ℕ, zero, suc, ◌+◌, ◌/◌, ◌%◌, ◌<◌, ◌≤◌, ◌^◌, Bool, true}
-use Rattle.std.proofs.Common.{false, nat_le, nat_lt, if◌then◌else◌, List, [], ◌∷◌, ◌++◌}
-use Rattle.std.proofs.Common.{IfSome, map, take, drop, length, refl, sym, ap, ◌∙◌, subst, arith, Option, Some, None, append_assoc}
+use Rattle.std.proofs.Common.{◌≡◌, inl, inr, ℕ, zero, suc, ◌+◌, ◌/◌, ◌%◌, ◌<◌, ◌≤◌, ◌^◌, Bool, true, false, nat_le, if◌then◌else◌, List, [], ◌∷◌, ◌++◌, IfSome}
+use Rattle.std.proofs.Common.{map, take, drop, length, refl, sym, ap, ◌∙◌, subst, arith, Option, Some, None, append_assoc}
 use Rattle.std.proofs.Math.Seq.{take-append_seam, drop-append_seam}
+use Rattle.std.proofs.lemmas.Bool.{cases_lt}
 use Rattle.std.proofs.lemmas.Bool.Decides.{nat_tests}
-use Rattle.std.specs.List.{AllByRecursion, Contains, slice_index_or}
+use Rattle.std.specs.List.{AllByRecursion, Contains}
 use Rattle.smith_input.specs.Offers.{offered}
 use Rattle.smith_format.specs.CoreFormed.{FormedFunction, FormedMemory}
 use Rattle.smith_format.specs.CoreTypes.{Function, core_function, core_val}
@@ -18,36 +18,31 @@ use Rattle.smith_format.specs.declared.types.RefType.TheVariants.{FuncRef, Exter
 use Rattle.smith_format.specs.declared.types.ValType.{ValType}
 use Rattle.smith_format.specs.declared.types.ValType.TheVariants.{I32, I64, F32, F64, V128, Ref}
 use Rattle.smith_format.proofs.Digits.{digits_last, digits_more, unsigned_last}
-use Rattle.smith_format.proofs.Piece.{joined, left_none, number_fits, parts_are, u_cases, u_fits}
+use Rattle.smith_format.proofs.Piece.{joined, number_fits, parts_are, u_cases, u_fits}
 use Rattle.smith_core.specs.Preamble.{core_preamble}
 use Rattle.smith_core.specs.StandInScript.{IsStandIn, all_memories, counted_functions, function_of}
 use Rattle.smith_core.specs.StandInScript.{functions_from, memories_of, memory_of, past_number, stand_in_of, types_from, value_of, values_of}
+use Rattle.smith_core.proofs.Segments.{all_read}
 use Rattle.smith_core.proofs.StandInMade.{few_results}
 use Rattle.smith_core.specs.StandInText.{StandIn, listed, stand_in_text}
 use Rattle.smith_input.proofs.Lists.{all_both}
 
 -- Numbers.
 
-past_cases : (more n : ℕ) (z : List ℕ) → n ≤ suc more
-    → (n / 128 ≤ more → past_number (digits as_it_is 128 more (n / 128) ++ z) ≡ z) → (x : Bool) → nat_lt n 128 ≡ x
-    → past_number (digits as_it_is 128 (suc more) n ++ z) ≡ z
-past_cases more n z h later true e =
-    let below : n < 128 = grind (arith, nat_tests) in
-    let last : nat_le 128 n ≡ false = grind (arith, nat_tests) in
-    ap (λ d. past_number (d ++ z)) (digits_last as_it_is 128 (suc more) n below) ∙ ap (λ t. if t then past_number z else z) last
-past_cases more n z h later false e =
-    let above : 128 ≤ n = grind (arith, nat_tests) in
-    let first : nat_le 128 (128 + n % 128) ≡ true = grind (arith, nat_tests) in
-    let rest : List ℕ = digits as_it_is 128 more (n / 128) ++ z in
-    ap (λ d. past_number (d ++ z)) (digits_more as_it_is 128 more n above)
-    ∙ ap (λ t. if t then past_number rest else rest) first
-    ∙ later (omega arith)
+past_one : (n : ℕ) (z : List ℕ) → n < 128 → past_number (n ∷ z) ≡ z
+past_one n z h = let last : nat_le 128 n ≡ false = grind (arith, nat_tests) in ap (λ t. if t then past_number z else z) last
 
 past_digits : (more n : ℕ) (z : List ℕ) → n ≤ more → past_number (digits as_it_is 128 more n ++ z) ≡ z
 past_digits zero n z h =
-    let last : nat_le 128 n ≡ false = grind (arith, nat_tests) in
-    ap (λ d. past_number (d ++ z)) (digits_last as_it_is 128 zero n (omega (arith, h))) ∙ ap (λ t. if t then past_number z else z) last
-past_digits (suc more) n z h = past_cases more n z h (λ k. past_digits more (n / 128) z k) (nat_lt n 128) refl
+    let small : n < 128 = omega (arith, h) in ap (λ d. past_number (d ++ z)) (digits_last as_it_is 128 zero n small) ∙ past_one n z small
+past_digits (suc more) n z h = elim (cases_lt n 128) [
+  | inl small ↦ ap (λ d. past_number (d ++ z)) (digits_last as_it_is 128 (suc more) n small) ∙ past_one n z small
+  | inr large ↦
+      let first : nat_le 128 (128 + n % 128) ≡ true = grind (arith, nat_tests) in
+      let rest : List ℕ = digits as_it_is 128 more (n / 128) ++ z in
+      ap (λ d. past_number (d ++ z)) (digits_more as_it_is 128 more n large)
+      ∙ ap (λ t. if t then past_number rest else rest) first ∙ past_digits more (n / 128) z (omega arith)
+]
 
 past_unsigned : (n : ℕ) (z : List ℕ) → past_number (unsigned n ++ z) ≡ z
 unfolding unsigned
@@ -59,12 +54,11 @@ u_small n h = u_fits n (omega (arith, h)) ∙ ap Some (unsigned_last n (omega (a
 number_small : (n : ℕ) → n ≤ 20 → number n ≡ byte n
 number_small n h = number_fits n (omega (arith, h)) ∙ ap Some (unsigned_last n (omega (arith, h)))
 
-u_read : (n : ℕ) (b : List ℕ) → u n ≡ Some b → b ≡ unsigned n
-u_read n b e = by_size (u_cases n)
-  where
-    by_size : ((u n ≡ Some (unsigned n)) × (n < 2 ^ 32)) ⊎ ((u n ≡ None) × (2 ^ 32 ≤ n)) → b ≡ unsigned n
-    by_size (inl h) = let f : Some b ≡ Some (unsigned n) = sym e ∙ h.0 in cc
-    by_size (inr h) = let f : None ≡ Some b = sym h.0 ∙ e in cc
+u_read : (n : ℕ) (b : List ℕ) → u n ≡ Some b → (b ≡ unsigned n) × (n < 2 ^ 32)
+u_read n b e = elim (u_cases n) [
+  | inl h ↦ let f : Some b ≡ Some (unsigned n) = sym e ∙ h.0 in let g : b ≡ unsigned n = cc in (g, h.1)
+  | inr h ↦ absurd (let f : None ≡ Some b = sym h.0 ∙ e in cc)
+]
 
 -- A section: its id, its length, and its contents.
 section_read : (id : ℕ) (c : List ℕ) (b : List ℕ) → sized id (Some c) ≡ Some b → b ≡ id ∷ unsigned (length c) ++ c
@@ -74,21 +68,26 @@ section_read id c b e =
     let q = parts_are (u (length c)) (Some c) p.right p.q_is in
     let first : id ∷ [] ≡ p.left = let f : Some (id ∷ []) ≡ Some p.left = p.p_is in cc in
     let last : c ≡ q.right = let f : Some c ≡ Some q.right = q.q_is in cc in
-    p.is ∙ (λ i. sym first i ++ p.right) ∙ ap (λ r. id ∷ r) (q.is ∙ (λ i. u_read (length c) q.left q.p_is i ++ sym last i))
+    p.is ∙ (λ i. sym first i ++ p.right) ∙ ap (λ r. id ∷ r) (q.is ∙ (λ i. (u_read (length c) q.left q.p_is).0 i ++ sym last i))
 
-section_none : (id : ℕ) (b : List ℕ) → sized id None ≡ Some b → ⊥
+section_some : (id : ℕ) (p : Piece) (b : List ℕ) → sized id p ≡ Some b → (c : List ℕ) × (p ≡ Some c)
 unfolding framed
-section_none id b e = let p = parts_are (byte id) None b e in let f : None ≡ Some p.right = p.q_is in cc
+section_some id None b e = let p = parts_are (byte id) None b e in absurd (let f : None ≡ Some p.right = p.q_is in cc)
+section_some id (Some c) b e = (c, refl)
+
+-- the count of a list that is a section, and the bytes of its items
+listed_parts : {A : Type 0} (f : A → Piece) (id : ℕ) (xs : List A) (b : List ℕ) → sized id (many f xs) ≡ Some b
+    → (items : List ℕ) × (length xs < 2 ^ 32) × (each f xs ≡ Some items) × (many f xs ≡ Some (unsigned (length xs) ++ items))
+listed_parts f id xs b e =
+    let c = section_some id (many f xs) b e in
+    let p = parts_are (u (length xs)) (each f xs) c.0 c.1 in
+    let n = u_read (length xs) p.left p.p_is in
+    (p.right, n.1, p.q_is, c.1 ∙ ap Some p.is ∙ ap (λ front. Some (front ++ p.right)) n.0)
 
 -- Value types.
 
 abbrev ToldValue : ValType → Type 0
 ToldValue v = (n : ℕ) × (core_val v ≡ byte n) × (value_of n ≡ v)
-
-contained : {A : Type 0} (P : A → Type 0) (xs : List A) (k : ℕ) (x : A) → AllByRecursion P xs → k < length xs → slice_index_or xs k x ≡ x → P x
-contained P [] k x all h e = absurd (omega (arith, h))
-contained P (y ∷ ys) zero x all h e = subst P e all.0
-contained P (y ∷ ys) (suc k) x all h e = contained P ys k x all.1 (omega (arith, h)) e
 
 offered_all : {A : Type 0} (P : A → Type 0) (b : Bool) (xs : List A) → AllByRecursion P xs → AllByRecursion P (offered b xs)
 offered_all P true xs all = all
@@ -106,7 +105,7 @@ values_told_all config =
     (offered_all ToldValue config.reference_types_enabled (Ref FuncRef ∷ Ref ExternRef ∷ []) ((0x70, refl, refl), ((0x6f, refl, refl), tt)))
 
 value_told : (config : Config) (v : ValType) → Contains (configured config) v → ToldValue v
-value_told config v c = contained ToldValue (configured config) c.0 v (values_told_all config) c.1 c.2
+value_told config v c = all_read ToldValue (configured config) c.0 v (values_told_all config) c.1 (sym c.2)
 
 -- What a piece is, and that it is found again in front of anything.
 record Told {A : Type 0} (p : Piece) (find : List ℕ → A × List ℕ) (x : A) : Type 0 where
@@ -249,35 +248,21 @@ memory_section_told : (ms : List MemoryType) (m : List ℕ) → AllByRecursion F
 memory_section_told [] m all e = let f : [] ≡ m = let g : Some [] ≡ Some m = e in cc in (ap memories_of (sym f), subst (λ z. types_from z ≡ ([], z)) f refl)
 memory_section_told (x ∷ xs) m all e =
     let t = memories_told (x ∷ xs) all in
-    let count : ℕ = length (x ∷ xs) in
-    let said : sized 5 (u count ⊕ Some t.are) ≡ Some m = ap (λ p. sized 5 (u count ⊕ p)) (sym t.is) ∙ e in
-    by_count t count said (u_cases count)
-  where
-    by_count : (t : ToldMemories (x ∷ xs)) (count : ℕ) → sized 5 (u count ⊕ Some t.are) ≡ Some m
-        → ((u count ≡ Some (unsigned count)) × (count < 2 ^ 32)) ⊎ ((u count ≡ None) × (2 ^ 32 ≤ count))
-        → (memories_of m ≡ x ∷ xs) × (types_from m ≡ ([], m))
-    by_count t count said (inl h) =
-        let c : List ℕ = unsigned count ++ t.are in
-        let contents : u count ⊕ Some t.are ≡ Some c = ap (λ p. p ⊕ Some t.are) h.0 ∙ joined (unsigned count) t.are in
-        let is : m ≡ 5 ∷ unsigned (length c) ++ c = section_read 5 c m (ap (λ p. sized 5 p) (sym contents) ∙ said) in (
-          ap memories_of is ∙ ap (λ z. all_memories (past_number z)) (past_unsigned (length c) c) ∙ ap all_memories (past_unsigned count t.are) ∙ t.found,
-          subst (λ z. types_from z ≡ ([], z)) (sym is) refl,
-        )
-    by_count t count said (inr h) =
-        let contents : u count ⊕ Some t.are ≡ None = ap (λ p. p ⊕ Some t.are) h.0 ∙ left_none (Some t.are) in
-        absurd (section_none 5 m (ap (λ p. sized 5 p) (sym contents) ∙ said))
+    let s = listed_parts memory_type 5 (x ∷ xs) m e in
+    let count : List ℕ = unsigned (length (x ∷ xs)) in
+    let same : s.0 ≡ t.are = let f : Some s.0 ≡ Some t.are = sym s.2 ∙ t.is in cc in
+    let is : m ≡ 5 ∷ unsigned (length (count ++ s.0)) ++ (count ++ s.0) = section_read 5 (count ++ s.0) m (ap (λ p. sized 5 p) (sym s.3) ∙ e) in (
+      ap memories_of is
+          ∙ ap (λ z. all_memories (past_number z)) (past_unsigned (length (count ++ s.0)) (count ++ s.0))
+          ∙ ap all_memories (past_unsigned (length (x ∷ xs)) s.0)
+          ∙ ap all_memories same
+          ∙ t.found,
+      subst (λ z. types_from z ≡ ([], z)) (sym is) refl,
+    )
 
 few_listed : (ms : List MemoryType) (m : List ℕ) → listed 5 memory_type ms ≡ Some m → length ms < 2 ^ 32
 few_listed [] m e = omega arith
-few_listed (x ∷ xs) m e = by_count (u_cases (length (x ∷ xs)))
-  where
-    by_count : ((u (length (x ∷ xs)) ≡ Some (unsigned (length (x ∷ xs)))) × (length (x ∷ xs) < 2 ^ 32))
-        ⊎ ((u (length (x ∷ xs)) ≡ None) × (2 ^ 32 ≤ length (x ∷ xs)))
-        → length (x ∷ xs) < 2 ^ 32
-    by_count (inl h) = h.1
-    by_count (inr h) =
-        let contents : many memory_type (x ∷ xs) ≡ None = ap (λ p. p ⊕ each memory_type (x ∷ xs)) h.0 ∙ left_none (each memory_type (x ∷ xs)) in
-        absurd (section_none 5 m (ap (λ p. sized 5 p) (sym contents) ∙ e))
+few_listed (x ∷ xs) m e = (listed_parts memory_type 5 (x ∷ xs) m e).1
 
 -- what has bytes has no more memories than a list of the program can hold
 pub stand_in_few : (s : StandIn) (b : List ℕ) → stand_in_text s ≡ Some b → length s.memories < 2 ^ 63

@@ -1,7 +1,12 @@
--- Groups that tile: where each of them is, and how they are tested one after another.
+-- How the parts of a module are tested, one member of a list after another, and where each of the groups that tile is.
 use Rattle.std.proofs.Common.{◌≡◌, ℕ, zero, suc, ◌<◌, ◌≤◌, ◌↔◌, List, [], ◌∷◌, length, drop, get_or, arith}
 use Rattle.std.proofs.lemmas.List.{get_or_default}
+use Rattle.std.specs.List.{AllByRecursion}
 use Rattle.smith_core.specs.Parts.{Tiles}
+
+-- What a test has found so far: P holds of all members if it holds of the remaining ones.
+pub record Passed {A : Type 0} (P : A → Type 0) (xs : List A) (i : ℕ) : Type 0 where
+  pub so_far : AllByRecursion P (drop i xs) → AllByRecursion P xs
 
 tiles_le : (gs : List (ℕ × ℕ)) (low high : ℕ) → Tiles gs low high → low ≤ high
 tiles_le [] low high t = omega (arith, t)

@@ -8,9 +8,8 @@ use Rattle.std.specs.declared.alloc.Global.{Global}
 use Rattle.std.specs.declared.string.String.{String}
 use Rattle.std.proofs.lemmas.Bool.{false≢true}
 use Rattle.smith_format.specs.CoreTypes.{core_val, ref_val}
-use Rattle.smith_format.specs.Shown.{shown_func}
-use Rattle.smith_format.specs.Entities.{entity, memory_type, table_type, tag_type, core_import}
-use Rattle.smith_format.specs.Shown.{shown_import}
+use Rattle.smith_format.specs.Shown.{shown_func, shown_import}
+use Rattle.smith_format.specs.Entities.{entity, memory_type, table_type, tag_type, core_import, kind_byte}
 use Rattle.smith_format.specs.Piece.{Piece, ◌⊕◌, byte, bytes, u, raw, framed, text, many}
 use Rattle.smith_format.specs.TooLong.{IsTooLarge, NoBytes, ListTooLong, ContentsTooLong, RefTooLong, ValTooLong}
 use Rattle.smith_format.specs.declared.types.ExportKind.{ExportKind}
@@ -27,7 +26,6 @@ use Rattle.smith_core.specs.Module.{binary_order, section_id, is_written, last, 
 use Rattle.smith_core.specs.Preamble.{core_preamble}
 use Rattle.smith_core.specs.Parts.{Agree, NamesTable}
 use Rattle.smith_core.specs.Segments.{expression, table, named_type, export, offset, functions_front, expressions_front, element, element_of, local}
-use Rattle.smith_format.specs.Entities.{kind_byte}
 use Rattle.smith_core.specs.Segments.{instructions, code_text, data_form, data_segment}
 use Rattle.smith_core.specs.SubTypes.{storage, field, composite, sub_prefix, sub_type, rec_type}
 use Rattle.smith_core.specs.TooLong.{IndexTooLong, StorageTooLong, CompositeTooLong, SubTypeTooLong, CoreImportTooLong, TableTooLong, NamedTooLong}

@@ -24,12 +24,14 @@ pub use smith_format::laws::{
 };
 
 /// The bytes of a module are split into sections in one way: the written ones, in binary order.
+#[tactic(auto, using(crate::proofs::Split::split_law))]
 pub fn modules_are_split_in_one_way()
     ensures { (m : ModuleParts) (b : List ℕ) → module_text m ≡ Some b → (xs : List CoreSection)
         → Splits b xs ↔ (map present_section xs ≡ sections_of m) }
 {}
 
 /// The bytes of a module are bytes, and begin with the core preamble.
+#[tactic(auto, using(crate::proofs::Bytes::module_bytes, crate::proofs::Bytes::module_begins))]
 pub fn modules_are_bytes()
     ensures bytes { (m : ModuleParts) (b : List ℕ) → module_text m ≡ Some b → AllByRecursion (λ n. n < 256) b }
     ensures preamble { (m : ModuleParts) (b : List ℕ) → module_text m ≡ Some b
@@ -39,6 +41,7 @@ pub fn modules_are_bytes()
 /// A module whose parts agree has no bytes exactly if a count, an index or the length of a name, of a body, of data or
 /// of a section in it exceeds 4,294,967,295. As in the program, its names are UTF-8, its bytes are bytes, and its
 /// bounds of limits are numbers of 64 bits.
+#[tactic(auto, using(crate::proofs::TooLong::module_none))]
 pub fn long_modules_have_no_encoding()
     ensures { (m : ModuleParts) → Agree m → (module_text m ≡ None) ↔ ModuleTooLong m }
 {}
@@ -58,6 +61,7 @@ pub fn stand_ins_are_made()
 
 /// From the script of function types and memories within the limits, which have bytes, a module of these bytes is read,
 /// and it leaves what follows.
+#[tactic(auto, using(crate::proofs::StandInRead::text_read))]
 pub fn stand_ins_are_read()
     ensures { (config : Config) (s : StandIn) (b : List ℕ) → IsStandIn config s → stand_in_text s ≡ Some b
         → (rest : List ℕ)
@@ -65,6 +69,7 @@ pub fn stand_ins_are_read()
 {}
 
 /// The script of function types and memories within the limits is bytes.
+#[tactic(auto, using(crate::proofs::StandInMade::small_stand_in))]
 pub fn stand_in_scripts_are_bytes()
     ensures { (config : Config) (s : StandIn) → IsStandIn config s → AreBytes (script_stand_in config s) }
 {}

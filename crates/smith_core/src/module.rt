@@ -1,7 +1,6 @@
 //! Core modules (core specification, Modules).
 
-ghost use Rattle.std.specs.Prelude.{◌≡◌, ◌↔◌, ◌⊎◌, ◌+◌, ◌≤◌, IsOk, IfOk, IfErr, IsErrOf};
-ghost use Rattle.std.specs.Prelude.{None, Some};
+ghost use Rattle.std.specs.Prelude.{◌≡◌, ◌↔◌, ◌⊎◌, ◌+◌, ◌≤◌, IsOk, IfOk, IfErr, IsErrOf, None, Some};
 ghost use Rattle.std.specs.Vec.{vec_len, vec_capacity};
 ghost use Rattle.smith_format.specs.Writing.{Appends, Measures, Puts, piece_length};
 ghost use Rattle.smith_core.specs.Module.{module_text};

@@ -1,21 +1,21 @@
 -- What declarations begin with for the canonical ABI, and what follows it.
 use Rattle.std.proofs.Common.{◌≡◌, ℕ, ◌<◌, Bool, true, false, ◌&&◌, ◌||◌, List, [], ◌∷◌, ◌++◌, length, refl, sym, ap, ◌∙◌}
-use Rattle.std.proofs.Common.{arith, nat_lt, bytes_eq}
+use Rattle.std.proofs.Common.{append_assoc, arith, nat_lt, bytes_eq}
 use Rattle.std.proofs.lemmas.Bool.{false≢true, and_parts, lt-ltb}
 use Rattle.std.proofs.lemmas.Bool.Decides.{nat_tests}
 use Rattle.std.proofs.lemmas.Slice.Eq.{bytes_eq-Decides}
 use Rattle.std.specs.Prelude.{Option, Some, None, codes, if◌then◌else◌}
 use Rattle.smith_format.specs.CoreTypes.{Function}
 use Rattle.smith_format.specs.declared.types.EntityType.{EntityType}
-use Rattle.smith_format.specs.declared.types.EntityType.TheVariants.{Func, Table, Memory, Global, Tag}
+use Rattle.smith_format.specs.declared.types.EntityType.TheVariants.{Func, Memory}
 use Rattle.smith_format.specs.declared.types.ExportKind.TheVariants as kind
 use Rattle.smith_format.specs.declared.types.MemoryType.{MemoryType}
 use Rattle.smith_format.specs.declared.types.ValType.{ValType}
-use Rattle.smith_format.specs.declared.types.ValType.TheVariants.{I32, I64, F32, F64, V128, Ref}
-use Rattle.smith_syntax.specs.Entries.{ModuleDecl, imports, declares, aliases, exports}
+use Rattle.smith_format.specs.declared.types.ValType.TheVariants.{I32}
+use Rattle.smith_syntax.specs.Entries.{ModuleDecl, declares, exports}
 use Rattle.smith_syntax.specs.ModuleTypes.{after_free, after_front, after_function, after_memory, after_realloc, free, is_export}
 use Rattle.smith_syntax.specs.ModuleTypes.{is_function_of, is_i32, is_of_kind, is_type, realloc, same_i32s}
-use Rattle.smith_core_types.proofs.ModuleFronts.{free_decls, front_decls, memory_decls, realloc_decls}
+use Rattle.smith_core_types.proofs.ModuleFronts.{free_decls, front_decls, function_decls, memory_decls, realloc_decls}
 
 -- what is in front
 
@@ -24,16 +24,11 @@ either_false true e = refl
 either_false false e = e
 
 memory_export : (d : ModuleDecl) → is_export (codes "memory") (is_of_kind kind.Memory) d ≡ true → (m : MemoryType) × (d ≡ exports (codes "memory") (Memory m))
-memory_export (imports m n e) t = absurd (false≢true t)
-memory_export (declares f) t = absurd (false≢true t)
-memory_export (aliases count i) t = absurd (false≢true t)
-memory_export (exports n (Func i)) t = absurd (false≢true (and_parts (bytes_eq n (codes "memory")) false (either_false _ t)).1)
-memory_export (exports n (Table u)) t = absurd (false≢true (and_parts (bytes_eq n (codes "memory")) false (either_false _ t)).1)
 memory_export (exports n (Memory m)) t =
     let same : bytes_eq n (codes "memory") ≡ true = (and_parts (bytes_eq n (codes "memory")) true (either_false _ t)).0 in
     (m, ap (λ z. exports z (Memory m)) ((bytes_eq-Decides n (codes "memory")).0 same))
-memory_export (exports n (Global g)) t = absurd (false≢true (and_parts (bytes_eq n (codes "memory")) false (either_false _ t)).1)
-memory_export (exports n (Tag u)) t = absurd (false≢true (and_parts (bytes_eq n (codes "memory")) false (either_false _ t)).1)
+memory_export (exports n e) t = absurd (false≢true (and_parts (bytes_eq n (codes "memory")) false (either_false _ t)).1)
+memory_export d t = absurd (false≢true t)
 
 memory_cases : (d : ModuleDecl) (ds : List ModuleDecl) (b : Bool) → is_export (codes "memory") (is_of_kind kind.Memory) d ≡ b
     → (m : Option MemoryType) × (d ∷ ds ≡ memory_decls m ++ (if b then ds else d ∷ ds))
@@ -46,49 +41,28 @@ memory_stands (d ∷ ds) = memory_cases d ds (is_export (codes "memory") (is_of_
 
 i32_is : (x y : ValType) → (is_i32 x && is_i32 y) ≡ true → x ≡ y
 i32_is I32 I32 t = refl
-i32_is I32 I64 t = absurd (false≢true t)
-i32_is I32 F32 t = absurd (false≢true t)
-i32_is I32 F64 t = absurd (false≢true t)
-i32_is I32 V128 t = absurd (false≢true t)
-i32_is I32 (Ref r) t = absurd (false≢true t)
-i32_is I64 y t = absurd (false≢true t)
-i32_is F32 y t = absurd (false≢true t)
-i32_is F64 y t = absurd (false≢true t)
-i32_is V128 y t = absurd (false≢true t)
-i32_is (Ref r) y t = absurd (false≢true t)
+i32_is x y t = absurd (false≢true t)
 
 i32s_are : (xs ys : List ValType) → same_i32s xs ys ≡ true → xs ≡ ys
 i32s_are [] [] t = refl
-i32s_are [] (y ∷ ys) t = absurd (false≢true t)
-i32s_are (x ∷ xs) [] t = absurd (false≢true t)
 i32s_are (x ∷ xs) (y ∷ ys) t = let both = and_parts _ _ t in (λ i. i32_is x y both.0 i ∷ i32s_are xs ys both.1 i)
+i32s_are xs ys t = absurd (false≢true t)
 
 type_is : (f : Function) (d : ModuleDecl) → is_type f d ≡ true → d ≡ declares f
-type_is f (imports m n e) t = absurd (false≢true t)
 type_is f (declares g) t =
     let both = and_parts (same_i32s f.0 g.0) (same_i32s f.1 g.1) (either_false _ t) in
     (λ i. declares (sym (i32s_are f.0 g.0 both.0) i, sym (i32s_are f.1 g.1 both.1) i))
-type_is f (aliases count i) t = absurd (false≢true t)
-type_is f (exports n e) t = absurd (false≢true t)
+type_is f d t = absurd (false≢true t)
 
 function_named : (i : ℕ) (e : EntityType) → is_function_of i e ≡ true → e ≡ Func i
 function_named i (Func j) t = let same : i ≡ j = grind (arith, nat_tests) in ap Func (sym same)
-function_named i (Table t) e = absurd (false≢true e)
-function_named i (Memory m) e = absurd (false≢true e)
-function_named i (Global g) e = absurd (false≢true e)
-function_named i (Tag t) e = absurd (false≢true e)
+function_named i e t = absurd (false≢true t)
 
 function_export : (name : List ℕ) (i : ℕ) (d : ModuleDecl) → is_export name (is_function_of i) d ≡ true → d ≡ exports name (Func i)
-function_export name i (imports m n e) t = absurd (false≢true t)
-function_export name i (declares f) t = absurd (false≢true t)
-function_export name i (aliases count j) t = absurd (false≢true t)
 function_export name i (exports n e) t =
     let both = and_parts (bytes_eq n name) (is_function_of i e) (either_false _ t) in
     (λ j. exports ((bytes_eq-Decides n name).0 both.0 j) (function_named i e both.1 j))
-
--- a function type, and the export of a function of it, or nothing
-abbrev pub function_decls : List ℕ → Function → ℕ → Bool → List ModuleDecl
-function_decls name f i b = if b then declares f ∷ exports name (Func i) ∷ [] else []
+function_export name i d t = absurd (false≢true t)
 
 module _ (name : List ℕ) (f : Function) (i : ℕ) where
   function_cases : (d e : ModuleDecl) (ds : List ModuleDecl) (b : Bool) → (is_type f d && is_export name (is_function_of i) e) ≡ b
@@ -102,14 +76,6 @@ module _ (name : List ℕ) (f : Function) (i : ℕ) where
   function_stands [] = (false, refl)
   function_stands (d ∷ []) = (false, refl)
   function_stands (d ∷ e ∷ ds) = function_cases d e ds (is_type f d && is_export name (is_function_of i) e) refl
-
-pub realloc_same : (r : Bool) → function_decls (codes "canonical_abi_realloc") realloc 0 r ≡ realloc_decls r
-realloc_same true = refl
-realloc_same false = refl
-
-pub free_same : (r f : Bool) → function_decls (codes "canonical_abi_free") free (if r then 1 else 0) f ≡ free_decls r f
-free_same r true = refl
-free_same r false = refl
 
 realloc_before : (r : Bool) (ds behind : List ModuleDecl) → ds ≡ realloc_decls r ++ behind → nat_lt (length behind) (length ds) ≡ r
 realloc_before true ds behind e = let long = ap length e in let lt : length behind < length ds = omega (arith, long) in lt-ltb (length behind) (length ds) lt
@@ -130,45 +96,31 @@ free_stands ds r e =
     let place : ℕ = if nat_lt (length (after_realloc ds)) (length ds) then 1 else 0 in
     let f = function_stands (codes "canonical_abi_free") free place (after_realloc ds) in
     let same : place ≡ (if r then 1 else 0) = ap (λ b. if b then 1 else 0) (realloc_before r ds (after_realloc ds) e) in
-    (f.0, f.1 ∙ ap (λ z. z ++ after_free ds) (ap (λ n. function_decls (codes "canonical_abi_free") free n f.0) same ∙ free_same r f.0))
+    (f.0, f.1 ∙ ap (λ n. function_decls (codes "canonical_abi_free") free n f.0 ++ after_free ds) same)
 
 pub fronted : (ds : List ModuleDecl) → Fronted ds (after_memory ds) (after_realloc (after_memory ds)) (after_front ds)
 fronted ds =
     let m = memory_stands ds in
     let after : List ModuleDecl = after_memory ds in
     let r = function_stands (codes "canonical_abi_realloc") realloc 0 after in
-    let second : after ≡ realloc_decls r.0 ++ after_realloc after = r.1 ∙ ap (λ z. z ++ after_realloc after) (realloc_same r.0) in
-    let f = free_stands after r.0 second in
-    record { memory = m.0; reallocs = r.0; frees = f.0; first = m.1; second = second; third = f.1 }
+    let f = free_stands after r.0 r.1 in
+    record { memory = m.0; reallocs = r.0; frees = f.0; first = m.1; second = r.1; third = f.1 }
 
 -- the front as a whole
 
-two_lines : (m : Option MemoryType) (r : Bool) (more : List ModuleDecl) → memory_decls m ++ (realloc_decls r ++ more) ≡ front_decls m r false ++ more
-two_lines None false more = refl
-two_lines None true more = refl
-two_lines (Some m) false more = refl
-two_lines (Some m) true more = refl
-
-one_line : (m : Option MemoryType) (more : List ModuleDecl) → memory_decls m ++ more ≡ front_decls m false false ++ more
-one_line None more = refl
-one_line (Some m) more = refl
-
-three_lines : (m : Option MemoryType) (r f : Bool) (more : List ModuleDecl) → front_decls m r false ++ (free_decls r f ++ more) ≡ front_decls m r f ++ more
-three_lines None false false more = refl
-three_lines None false true more = refl
-three_lines None true false more = refl
-three_lines None true true more = refl
-three_lines (Some m) false false more = refl
-three_lines (Some m) false true more = refl
-three_lines (Some m) true false more = refl
-three_lines (Some m) true true more = refl
+lines_joined : (m : Option MemoryType) (r f : Bool) (more : List ModuleDecl)
+    → memory_decls m ++ (realloc_decls r ++ (free_decls r f ++ more)) ≡ front_decls m r f ++ more
+lines_joined m r f more =
+    sym (append_assoc (memory_decls m) (realloc_decls r) (free_decls r f ++ more))
+    ∙ sym (append_assoc (memory_decls m ++ realloc_decls r) (free_decls r f) more)
 
 module _ {ds no_memory no_realloc no_free : List ModuleDecl} (x : Fronted ds no_memory no_realloc no_free) where
   pub first_line : ds ≡ front_decls x.memory false false ++ no_memory
-  first_line = x.first ∙ one_line x.memory no_memory
+  first_line = x.first ∙ lines_joined x.memory false false no_memory
 
   pub first_lines : ds ≡ front_decls x.memory x.reallocs false ++ no_realloc
-  first_lines = x.first ∙ (ap (λ z. memory_decls x.memory ++ z) x.second ∙ two_lines x.memory x.reallocs no_realloc)
+  first_lines = x.first ∙ (ap (λ z. memory_decls x.memory ++ z) x.second ∙ lines_joined x.memory x.reallocs false no_realloc)
 
   pub whole_front : ds ≡ front_decls x.memory x.reallocs x.frees ++ no_free
-  whole_front = first_lines ∙ (ap (λ z. front_decls x.memory x.reallocs false ++ z) x.third ∙ three_lines x.memory x.reallocs x.frees no_free)
+  whole_front = x.first ∙ (ap (λ z. memory_decls x.memory ++ z) (x.second ∙ ap (λ z. realloc_decls x.reallocs ++ z) x.third)
+      ∙ lines_joined x.memory x.reallocs x.frees no_free)

@@ -1,8 +1,9 @@
 -- What a module type begins with for the canonical ABI is read from its script.
-use Rattle.std.proofs.Common.{◌≡◌, ℕ, ◌-◌, ◌<◌, ◌≤◌, Bool, true, false, List, [], ◌∷◌, ◌++◌, length, take, refl, sym, ap, ◌∙◌, subst}
-use Rattle.std.proofs.Common.{arith, append_assoc, append-nil, length-append, nat_lt}
-use Rattle.std.proofs.lemmas.Bool.{false≢true, lt-ltb, and_from}
+use Rattle.std.proofs.Common.{◌≡◌, ℕ, ◌-◌, ◌<◌, ◌≤◌, Bool, true, false, List, [], ◌∷◌, ◌++◌, length, take, refl, sym, ap, ◌∙◌, subst, arith, append_assoc}
+use Rattle.std.proofs.Common.{append-nil, length-append, nat_lt}
+use Rattle.std.proofs.lemmas.Bool.{false≢true, lt-ltb}
 use Rattle.std.proofs.lemmas.Bool.Decides.{nat_tests}
+use Rattle.std.proofs.Math.Seq.{take-append_seam}
 use Rattle.std.specs.List.{flat_map}
 use Rattle.std.specs.Prelude.{Option, Some, None, IfSome, codes, if◌then◌else◌}
 use Rattle.smith_input.specs.Script.{pick}
@@ -16,27 +17,23 @@ use Rattle.smith_format.specs.declared.types.EntityType.TheVariants.{Func, Memor
 use Rattle.smith_format.specs.declared.types.MemoryType.{MemoryType}
 use Rattle.smith_syntax.specs.CoreLimits.{ModuleLimits}
 use Rattle.smith_syntax.specs.Entries.{CoreEntry, ModuleDecl, declares, exports}
-use Rattle.smith_syntax.specs.ModuleTypes.{entities_of, free}
-use Rattle.smith_syntax.specs.ModuleTypes.{realloc, type_count}
+use Rattle.smith_syntax.specs.ModuleTypes.{entities_of, free, realloc, type_count}
 use Rattle.smith_syntax.specs.WellFormed.{FormedDecls}
 use Rattle.smith_core_types.specs.MadeCore.{FunctionLine, MemoryLine, ReadsFront, ReadsFunctionLine, ReadsLine, declined, not_allowed, taken}
 use Rattle.smith_tree.specs.CoreTypeOffers.{Declared, undeclared, with_front}
 use Rattle.smith_tree.specs.ModuleScript.{front_before, in_front, may_declare, script_asked, script_front, script_line}
-use Rattle.smith_core_types.proofs.FrontFound.{Fronted, first_line, first_lines, free_same, function_decls, realloc_same, whole_front}
-use Rattle.smith_core_types.proofs.ModuleFronts.{front_decls, front_own, front_state, memory_decls}
+use Rattle.smith_core_types.proofs.FrontFound.{Fronted, first_line, first_lines, whole_front}
+use Rattle.smith_core_types.proofs.ModuleFronts.{HasRoomFor, free_state, front_decls, front_own, front_state, function_decls, line_allowed, memory_decls}
+use Rattle.smith_core_types.proofs.ModuleFronts.{realloc_state, with_line}
 use Rattle.smith_format.proofs.CoreScript.{limits_read}
 
 -- the states
-
-take_front : (xs ys : List ModuleDecl) → take (length xs) (xs ++ ys) ≡ xs
-take_front [] ys = refl
-take_front (x ∷ xs) ys = ap (λ zs. x ∷ zs) (take_front xs ys)
 
 in_front_is : (ds front behind : List ModuleDecl) → ds ≡ front ++ behind → in_front ds behind ≡ front
 in_front_is ds front behind e =
     let long = ap length e ∙ length-append front behind in
     let count : length ds - length behind ≡ length front = omega (arith, long) in
-    ap (λ n. take n ds) count ∙ (ap (take (length front)) e ∙ take_front front behind)
+    ap (λ n. take n ds) count ∙ (ap (take (length front)) e ∙ take-append_seam front behind)
 
 state_is : (fuel : ℕ) (m : Option MemoryType) (r f : Bool) → with_front (undeclared fuel) (front_decls m r f) ≡ front_state fuel m r f
 state_is fuel None false false = refl
@@ -99,7 +96,7 @@ memory_line config fuel (Some m) ds behind rest e h =
 function_line : (may : Bool) (name : List ℕ) (f : Function) (s : Declared) (b : Bool) (ds behind : List ModuleDecl) (rest : List ℕ)
     → ds ≡ function_decls name f (length s.own) b ++ behind → (b ≡ true → may ≡ true)
     → ReadsLine may (FunctionLine name f s) s (script_line may ds behind ++ rest)
-    (if b then with_front s (function_decls name f (length s.own) true) else s) rest
+    (with_line s name f b) rest
 function_line may name f s true ds behind rest e h =
     let same : script_line may ds behind ++ rest ≡ pick 100 0 ++ rest =
     ap (λ z. z ++ rest) (line_stands may ds (declares f) (exports name (Func (length s.own)) ∷ []) behind e ∙ append-nil (pick 100 0)) in
@@ -112,35 +109,6 @@ function_line may name f s false ds behind rest e h =
 -- what the canonical ABI asks
 
 module _ (config : Config) (fuel : ℕ) where
-  realloc_allowed : (m : Option MemoryType) → (0 < config.max_funcs) × (0 < config.max_types) → may_declare config (front_state fuel m false false) ≡ true
-  realloc_allowed None h = and_from _ _ (lt-ltb 0 config.max_funcs h.0) (lt-ltb 0 config.max_types h.1)
-  realloc_allowed (Some m) h = and_from _ _ (lt-ltb 0 config.max_funcs h.0) (lt-ltb 0 config.max_types h.1)
-
-  free_allowed : (m : Option MemoryType) (r : Bool) → (length (front_own r false) < config.max_funcs) × (length (front_own r false) < config.max_types)
-      → may_declare config (front_state fuel m r false) ≡ true
-  free_allowed None false h = and_from _ _ (lt-ltb 0 config.max_funcs h.0) (lt-ltb 0 config.max_types h.1)
-  free_allowed None true h = and_from _ _ (lt-ltb 1 config.max_funcs h.0) (lt-ltb 1 config.max_types h.1)
-  free_allowed (Some m) false h = and_from _ _ (lt-ltb 0 config.max_funcs h.0) (lt-ltb 0 config.max_types h.1)
-  free_allowed (Some m) true h = and_from _ _ (lt-ltb 1 config.max_funcs h.0) (lt-ltb 1 config.max_types h.1)
-
-  after_realloc_line : (m : Option MemoryType) (r : Bool) → let s : Declared = front_state fuel m false false in
-      (if r then with_front s (function_decls (codes "canonical_abi_realloc") realloc 0 true) else s) ≡ front_state fuel m r false
-  after_realloc_line None false = refl
-  after_realloc_line None true = refl
-  after_realloc_line (Some m) false = refl
-  after_realloc_line (Some m) true = refl
-
-  after_free_line : (m : Option MemoryType) (r f : Bool) → let s : Declared = front_state fuel m r false in
-      (if f then with_front s (function_decls (codes "canonical_abi_free") free (length (front_own r false)) true) else s) ≡ front_state fuel m r f
-  after_free_line None false false = refl
-  after_free_line None false true = refl
-  after_free_line None true false = refl
-  after_free_line None true true = refl
-  after_free_line (Some m) false false = refl
-  after_free_line (Some m) false true = refl
-  after_free_line (Some m) true false = refl
-  after_free_line (Some m) true true = refl
-
   own_length : (r : Bool) → (if r then 1 else 0) ≡ length (front_own r false)
   own_length true = refl
   own_length false = refl
@@ -148,8 +116,7 @@ module _ (config : Config) (fuel : ℕ) where
   -- What the canonical ABI asks is read from its script.
   pub front_read : {ds no_memory no_realloc no_free : List ModuleDecl} (x : Fronted ds no_memory no_realloc no_free) (rest : List ℕ)
       → IfSome x.memory (λ m. FormedMemory m × (0 < config.max_memories))
-      → (x.reallocs ≡ true → (0 < config.max_funcs) × (0 < config.max_types))
-      → (x.frees ≡ true → (length (front_own x.reallocs false) < config.max_funcs) × (length (front_own x.reallocs false) < config.max_types))
+      → HasRoomFor config 0 x.reallocs → HasRoomFor config (length (front_own x.reallocs false)) x.frees
       → ReadsFront config (script_front config fuel ds no_memory no_realloc no_free ++ rest) fuel (front_state fuel x.memory x.reallocs x.frees) rest
   front_read {ds} {no_memory} {no_realloc} {no_free} x rest has_memory has_realloc has_free =
       let m : Option MemoryType = x.memory in
@@ -167,15 +134,12 @@ module _ (config : Config) (fuel : ℕ) where
       ∙ ap (λ z. a ++ (b ++ script_line (may_declare config z) no_realloc no_free)) (front_before_is fuel m r false ds no_realloc (first_lines x)) in
       let whole : script_front config fuel ds no_memory no_realloc no_free ++ rest ≡ a ++ (b ++ (c ++ rest)) =
       ap (λ z. z ++ rest) same ∙ (append_assoc a (b ++ c) rest ∙ ap (λ z. a ++ z) (append_assoc b c rest)) in
-      let second : no_memory ≡ function_decls (codes "canonical_abi_realloc") realloc 0 r ++ no_realloc =
-      x.second ∙ ap (λ z. z ++ no_realloc) (sym (realloc_same r)) in
-      let place : (if r then 1 else 0) ≡ length (front_own r false) = own_length r in
       let third : no_realloc ≡ function_decls (codes "canonical_abi_free") free (length (front_own r false)) f ++ no_free =
-      x.third ∙ ap (λ z. z ++ no_free) (sym (free_same r f) ∙ ap (λ n. function_decls (codes "canonical_abi_free") free n f) place) in
-      let reallocs = function_line (may_declare config s) (codes "canonical_abi_realloc") realloc s r no_memory no_realloc (c ++ rest) second
-      (λ e. realloc_allowed m (has_realloc e)) in
+      x.third ∙ ap (λ n. function_decls (codes "canonical_abi_free") free n f ++ no_free) (own_length r) in
+      let reallocs = function_line (may_declare config s) (codes "canonical_abi_realloc") realloc s r no_memory no_realloc (c ++ rest) x.second
+      (line_allowed config fuel m false r has_realloc) in
       let frees = function_line (may_declare config t) (codes "canonical_abi_free") free t f no_realloc no_free rest third
-      (λ e. free_allowed m r (has_free e)) in
+      (line_allowed config fuel m r f has_free) in
       subst (λ z. ReadsFront config z fuel u rest) (sym whole) (record {
         with_memory = s;
         after_memory = b ++ (c ++ rest);
@@ -183,8 +147,8 @@ module _ (config : Config) (fuel : ℕ) where
         with_realloc = t;
         after_realloc = c ++ rest;
         reallocs = subst (λ z. ReadsFunctionLine config (codes "canonical_abi_realloc") realloc s (b ++ (c ++ rest)) z (c ++ rest))
-            (after_realloc_line m r) reallocs;
-        frees = subst (λ z. ReadsFunctionLine config (codes "canonical_abi_free") free t (c ++ rest) z rest) (after_free_line m r f) frees;
+            (realloc_state fuel m r) reallocs;
+        frees = subst (λ z. ReadsFunctionLine config (codes "canonical_abi_free") free t (c ++ rest) z rest) (free_state fuel m r f) frees;
       })
 
 -- what is in front is well formed and within the limits
@@ -226,14 +190,13 @@ module _ (config : Config) where
   allowed_memory None r f more limits formed = tt
   allowed_memory (Some m) r f more limits formed = (formed, omega (arith, limits.memories))
 
-  allowed_realloc : (m : Option MemoryType) (r f : Bool) (more : List ModuleDecl) → ModuleLimits config (front_decls m r f ++ more) → r ≡ true
-      → (0 < config.max_funcs) × (0 < config.max_types)
+  allowed_realloc : (m : Option MemoryType) (r f : Bool) (more : List ModuleDecl) → ModuleLimits config (front_decls m r f ++ more) → HasRoomFor config 0 r
   allowed_realloc m false f more limits e = absurd (false≢true e)
   allowed_realloc None true f more limits e = (omega (arith, limits.funcs), omega (arith, limits.types))
   allowed_realloc (Some m) true f more limits e = (omega (arith, limits.funcs), omega (arith, limits.types))
 
-  allowed_free : (m : Option MemoryType) (r f : Bool) (more : List ModuleDecl) → ModuleLimits config (front_decls m r f ++ more) → f ≡ true
-      → (length (front_own r false) < config.max_funcs) × (length (front_own r false) < config.max_types)
+  allowed_free : (m : Option MemoryType) (r f : Bool) (more : List ModuleDecl) → ModuleLimits config (front_decls m r f ++ more)
+      → HasRoomFor config (length (front_own r false)) f
   allowed_free m r false more limits e = absurd (false≢true e)
   allowed_free None false true more limits e = (omega (arith, limits.funcs), omega (arith, limits.types))
   allowed_free None true true more limits e = (omega (arith, limits.funcs), omega (arith, limits.types))

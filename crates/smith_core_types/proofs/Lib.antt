@@ -1,4 +1,3 @@
-pub mod KeptAliases
 pub mod MadeCore
 pub mod MakingCore
 pub mod ModuleFronts
@@ -6,10 +5,9 @@ pub mod ModuleTypes
 pub mod MadeCoreSame
 pub mod ModuleScript
 pub mod ModuleSaid
-pub mod Counts
 pub mod FrontFound
 pub mod FrontScript
 pub mod CoreScript
-pub mod Readable
-pub mod Needs
+pub mod ModuleHolds
+pub mod Takes
 pub mod ScriptBytes

@@ -1,31 +1,26 @@
 -- What the program keeps of a module type that it makes, step by step.
-use Rattle.std.proofs.Common.{◌≡◌, ℕ, zero, suc, ◌+◌, ◌-◌, ◌<◌, ◌≤◌, Bool, true, false, List, [], ◌∷◌, ◌++◌, map, length, refl, sym, ap, ◌∙◌, arith, append-nil}
-use Rattle.std.proofs.Common.{length-append, bytes_eq, ◌||◌, get_or}
+use Rattle.std.proofs.Common.{◌≡◌, ℕ, zero, suc, ◌+◌, ◌-◌, ◌<◌, ◌≤◌, Bool, true, false, List, [], ◌∷◌, ◌++◌, map, length, refl, sym, ap, ◌∙◌, arith}
+use Rattle.std.proofs.Common.{length-append, bytes_eq, ◌||◌, get_or, subst}
 use Rattle.std.proofs.Math.ListN.{drop}
 use Rattle.std.proofs.lemmas.Bool.{false≢true}
 use Rattle.std.proofs.lemmas.List.{length-map, map-append}
-use Rattle.std.proofs.lemmas.List.Concat.{flat_map-cons}
-use Rattle.std.proofs.lemmas.List.Elements.{filter-append}
 use Rattle.std.proofs.lemmas.Bool.Decides.{nat_tests}
 use Rattle.std.proofs.lemmas.Option.{slice_get_within, slice_get-map}
 use Rattle.std.specs.Option.{option_to_list}
-use Rattle.std.specs.List.{filter, flat_map}
 use Rattle.std.specs.Prelude.{◌↔◌, IsTrue, nat_lt, Some, option_map, slice_get}
 use Rattle.smith_format.specs.CoreTypes.{Function}
-use Rattle.smith_format.specs.Entities.{CoreImport}
 use Rattle.smith_format.specs.declared.config.Config.{Config}
 use Rattle.smith_input.specs.Choices.{ReadsAmong}
 use Rattle.smith_input.specs.NewNames.{is_among}
 use Rattle.smith_syntax.specs.Entries.{CoreEntry, ModuleDecl, aliases, core_func, core_module}
-use Rattle.smith_core_types.specs.MadeCore.{no_export, no_import}
-use Rattle.smith_tree.specs.CoreTypeOffers.{indexes, module_items}
-use Rattle.smith_tree.specs.CoreTypeOffers.{Declared as SoFar}
-use Rattle.smith_core_types.specs.MakingCore.{AddsDecl, DeclTurn, choices_among, names_taken}
-use Rattle.smith_syntax.specs.ModuleTypes.{adds, aliased, module_export_names, module_export_of, module_import_of, names_from}
+use Rattle.smith_core_types.specs.MadeCore.{no_export, no_import, functions_named, named_by_core}
+use Rattle.smith_tree.specs.CoreTypeOffers.{indexes, module_items, Declared as SoFar}
+use Rattle.smith_core_types.specs.MakingCore.{AddsDecl, DeclTurn, choices_among, names_taken, KeepEach, KeepsNamed, KeepsAliased, own_after}
+use Rattle.smith_syntax.specs.ModuleTypes.{adds, aliased, alias_of}
 use Rattle.smith_syntax.specs.Scope.{Scope}
 use Rattle.smith_syntax.specs.Places.{is_core_func, own_of, places}
 use Rattle.smith_scopes.specs.Scopes.{Contents, inward, last_of}
-use Rattle.smith_syntax.specs.Shown.{shown_core, shown_decl}
+use Rattle.smith_syntax.specs.Shown.{shown_core, shown_decl, aliased_functions, kept_core}
 use Rattle.smith_syntax.specs.declared.core_types.CoreType.{CoreType}
 use Rattle.smith_syntax.specs.declared.core_types.ModuleTypeDef.{ModuleTypeDef}
 use Rattle.smith_tree.specs.declared.choices.ModuleItem.{ModuleItem}
@@ -34,6 +29,10 @@ use Rattle.smith_input.proofs.Rests.{drop_past, rest_at}
 use Rattle.smith_scopes.proofs.Stack.{length-last-core, own_last}
 use Rattle.smith_scopes.proofs.Places.{place_stands, get_left, get_right}
 use Rattle.std.proofs.Math.Bool.{or_assoc}
+use Rattle.smith_core_types.proofs.ModuleTypes.{exports_both, names_both, own_more}
+use Rattle.std.specs.List.{flat_map}
+use Rattle.smith_syntax.specs.declared.core_types.CoreType.TheVariants as core
+use Rattle.smith_syntax.specs.declared.core_types.ModuleTypeDef.TheVariants as decl
 
 -- indexes
 
@@ -49,27 +48,12 @@ index_at i (x ∷ xs) (suc k) h = let e : i + 1 + k ≡ i + suc k = omega arith 
 pub own_at : {A : Type 0} (xs : List A) (k : ℕ) → k < length xs → slice_get (places (λ x. true) 0 xs) k ≡ Some k
 own_at xs k h = let e : 0 + k ≡ k = omega arith in index_at 0 xs k h ∙ ap Some e
 
--- counts
-
 -- names
-
-exports_more : (d : ModuleDecl) (ds : List ModuleDecl) → module_export_names (d ∷ ds) ≡ module_export_names (d ∷ []) ++ module_export_names ds
-exports_more d ds =
-    ap (map (λ x. x.0)) (flat_map-cons module_export_of d ds) ∙ map-append (λ x. x.0) (module_export_of d) (flat_map module_export_of ds)
-    ∙ ap (λ z. map (λ x. x.0) z ++ module_export_names ds) (sym (append-nil (module_export_of d)))
-
-imports_more : (from : List ℕ) (d : ModuleDecl) (ds : List ModuleDecl) → names_from from (d ∷ ds) ≡ names_from from (d ∷ []) ++ names_from from ds
-imports_more from d ds =
-    let mine : List CoreImport → List (List ℕ) = λ z. map (λ i. i.1) (filter (λ i. bytes_eq i.0 from) z) in
-    ap mine (flat_map-cons module_import_of d ds)
-    ∙ ap (map (λ i. i.1)) (filter-append (λ i. bytes_eq i.0 from) (module_import_of d) (flat_map module_import_of ds))
-    ∙ map-append (λ i. i.1) (filter (λ i. bytes_eq i.0 from) (module_import_of d)) (filter (λ i. bytes_eq i.0 from) (flat_map module_import_of ds))
-    ∙ ap (λ z. mine z ++ names_from from ds) (sym (append-nil (module_import_of d)))
 
 taken_more : (imported : Bool) (from : List ℕ) (d : ModuleDecl) (ds : List ModuleDecl)
     → names_taken imported from (d ∷ ds) ≡ names_taken imported from (d ∷ []) ++ names_taken imported from ds
-taken_more true from d ds = imports_more from d ds
-taken_more false from d ds = exports_more d ds
+taken_more true from d ds = names_both from (d ∷ []) ds
+taken_more false from d ds = exports_both (d ∷ []) ds
 
 taken_none : (imported : Bool) (from : List ℕ) → names_taken imported from [] ≡ []
 taken_none true from = refl
@@ -183,5 +167,39 @@ pub turns_of : (config : Config) (around : Scope) (s : SoFar) (i : ModuleItem) (
 turns_of config around s i b mid rest t lasts c true (d, r, e) = (d, record { lasts = lasts; item = i; mid = mid; choice = c; reads = r; state = e })
 turns_of config around s item.Import b mid rest t lasts c false ((from, name, r, none), e) = no_import lasts c r none e
 turns_of config around s item.Export b mid rest t lasts c false ((name, r, none), e) = no_export lasts c r none e
-turns_of config around s item.Type b mid rest t lasts c false (z, e) = absurd z
-turns_of config around s item.Alias b mid rest t lasts c false (z, e) = absurd z
+turns_of config around s i b mid rest t lasts c false (z, e) = absurd z
+
+-- outer aliases that keep the function types that they name, as a module type grows by one declaration after another
+
+each_more : (around : List CoreEntry) (own : List Function) (ds : List ModuleTypeDef) (d : ModuleTypeDef) → KeepEach around own ds
+    → KeepsNamed around (own_after around own (map shown_decl ds)) d → KeepEach around own (ds ++ d ∷ [])
+each_more around own [] d all one = (one, tt)
+each_more around own (e ∷ ds) d all one = (all.0, each_more around (own ++ adds around own (shown_decl e)) ds d all.1 one)
+
+-- one more declaration, if these are the own types, and those after it
+pub keep_more : (around : List CoreEntry) (own later : List Function) (ds more : List ModuleTypeDef) (d : ModuleTypeDef)
+    → KeepEach around [] ds × (own_after around [] (map shown_decl ds) ≡ own) → KeepsNamed around own d
+    → later ≡ own ++ adds around own (shown_decl d) → more ≡ ds ++ d ∷ [] → KeepEach around [] more × (own_after around [] (map shown_decl more) ≡ later)
+keep_more around own later ds more d (all, types) one owns e = (
+  subst (KeepEach around []) (sym e) (each_more around [] ds d all (subst (λ z. KeepsNamed around z d) (sym types) one)),
+  ap (λ z. own_after around [] (map shown_decl z)) e
+      ∙ (ap (own_after around []) (map-append shown_decl ds (d ∷ []))
+      ∙ (own_more around [] (map shown_decl ds) (shown_decl d)
+      ∙ (ap (λ z. z ++ adds around z (shown_decl d)) types ∙ sym owns))),
+)
+
+-- What the outer aliases keep is what they name.
+
+one_kept : (around : List CoreEntry) (own : List Function) (d : ModuleTypeDef) → KeepsNamed around own d
+    → aliased_functions d ≡ flat_map (λ a. option_to_list (aliased around own a.0 a.1)) (alias_of (shown_decl d))
+one_kept around own (decl.OuterAlias count i ty) k = sym (ap (λ o. option_to_list o ++ []) k)
+one_kept around own d k = refl
+
+pub kept_named : (around : List CoreEntry) (own : List Function) (ds : List ModuleTypeDef) → KeepEach around own ds
+    → flat_map aliased_functions ds ≡ functions_named around own (map shown_decl ds)
+kept_named around own [] k = refl
+kept_named around own (d ∷ ds) k = λ i. one_kept around own d k.0 i ++ kept_named around (own ++ adds around own (shown_decl d)) ds k.1 i
+
+pub kept_core_named : (around : List CoreEntry) (t : CoreType) → KeepsAliased around t → kept_core t ≡ named_by_core around (shown_core t)
+kept_core_named around (core.Func f) k = refl
+kept_core_named around (core.Module m) k = kept_named around [] m.defs.items k

@@ -1,6 +1,6 @@
 -- What a module type begins with for the canonical ABI: its shapes, and what follows it.
 use Rattle.std.proofs.Common.{◌≡◌, ℕ, ◌<◌, ◌≤◌, Bool, true, false, ◌&&◌, List, [], ◌∷◌, ◌++◌, length, refl, sym, ap, ◌∙◌, subst, arith}
-use Rattle.std.proofs.lemmas.Bool.{false≢true, ltb-true, lt-ltb, and_parts}
+use Rattle.std.proofs.lemmas.Bool.{false≢true, ltb-true, lt-ltb, and_from, and_parts}
 use Rattle.std.proofs.lemmas.Bool.Decides.{nat_tests}
 use Rattle.std.specs.Prelude.{Option, Some, None, IfSome, codes, nat_lt, if◌then◌else◌}
 use Rattle.smith_format.proofs.CoreReading.{memory_formed}
@@ -11,9 +11,8 @@ use Rattle.smith_format.specs.declared.types.EntityType.TheVariants.{Func, Memor
 use Rattle.smith_format.specs.declared.types.ExportKind.TheVariants as kind
 use Rattle.smith_format.specs.declared.types.MemoryType.{MemoryType}
 use Rattle.smith_syntax.specs.Entries.{ModuleDecl, declares, exports}
-use Rattle.smith_core_types.specs.MadeCore.{ReadsLine, not_allowed, declined, taken, MemoryLine}
+use Rattle.smith_core_types.specs.MadeCore.{ReadsLine, not_allowed, declined, taken, MemoryLine, ReadsFunctionLine, ReadsFront}
 use Rattle.smith_tree.specs.CoreTypeOffers.{Declared, undeclared, with_front, allows_function, allows_type}
-use Rattle.smith_core_types.specs.MadeCore.{ReadsFunctionLine, ReadsFront}
 use Rattle.smith_syntax.specs.ModuleTypes.{realloc, free, is_export, is_of_kind, is_type, is_function_of, after_memory, after_function, after_realloc}
 use Rattle.smith_syntax.specs.ModuleTypes.{after_free, after_front}
 
@@ -23,13 +22,15 @@ abbrev pub memory_decls : Option MemoryType → List ModuleDecl
 memory_decls None = []
 memory_decls (Some m) = exports (codes "memory") (Memory m) ∷ []
 
+-- a function type, and the export of a function of it, or nothing
+abbrev pub function_decls : List ℕ → Function → ℕ → Bool → List ModuleDecl
+function_decls name f i b = if b then declares f ∷ exports name (Func i) ∷ [] else []
+
 abbrev pub realloc_decls : Bool → List ModuleDecl
-realloc_decls false = []
-realloc_decls true = declares realloc ∷ exports (codes "canonical_abi_realloc") (Func 0) ∷ []
+realloc_decls r = function_decls (codes "canonical_abi_realloc") realloc 0 r
 
 abbrev pub free_decls : Bool → Bool → List ModuleDecl
-free_decls r false = []
-free_decls r true = declares free ∷ exports (codes "canonical_abi_free") (Func (if r then 1 else 0)) ∷ []
+free_decls r f = function_decls (codes "canonical_abi_free") free (if r then 1 else 0) f
 
 abbrev pub front_own : Bool → Bool → List Function
 front_own r f = (if r then realloc ∷ [] else []) ++ (if f then free ∷ [] else [])
@@ -40,6 +41,61 @@ front_decls m r f = memory_decls m ++ realloc_decls r ++ free_decls r f
 abbrev pub front_state : ℕ → Option MemoryType → Bool → Bool → Declared
 front_state fuel m r f = record { own = front_own r f; decls = front_decls m r f; fuel = fuel }
 
+-- the state after a line for a function
+abbrev pub with_line : Declared → List ℕ → Function → Bool → Declared
+with_line s name f b = if b then with_front s (function_decls name f (length s.own) true) else s
+
+pub realloc_state : (fuel : ℕ) (m : Option MemoryType) (r : Bool)
+    → with_line (front_state fuel m false false) (codes "canonical_abi_realloc") realloc r ≡ front_state fuel m r false
+realloc_state fuel m false = refl
+realloc_state fuel None true = refl
+realloc_state fuel (Some m) true = refl
+
+pub free_state : (fuel : ℕ) (m : Option MemoryType) (r f : Bool)
+    → with_line (front_state fuel m r false) (codes "canonical_abi_free") free f ≡ front_state fuel m r f
+free_state fuel m r false = refl
+free_state fuel None false true = refl
+free_state fuel None true true = refl
+free_state fuel (Some m) false true = refl
+free_state fuel (Some m) true true = refl
+
+-- if a line is there, there is room for one more function and one more type
+abbrev pub HasRoomFor : Config → ℕ → Bool → Type 0
+HasRoomFor config n b = b ≡ true → (n < config.max_funcs) × (n < config.max_types)
+
+module _ (config : Config) (fuel : ℕ) where
+  abbrev Allows : Declared → Type 0
+  Allows s = (allows_function config s && allows_type config s) ≡ true
+
+  allowed_is : (m : Option MemoryType) (r : Bool) → let s : Declared = front_state fuel m r false in
+      (allows_function config s && allows_type config s)
+      ≡ (nat_lt (length (front_own r false)) config.max_funcs && nat_lt (length (front_own r false)) config.max_types)
+  allowed_is None false = refl
+  allowed_is None true = refl
+  allowed_is (Some m) false = refl
+  allowed_is (Some m) true = refl
+
+  pub line_allowed : (m : Option MemoryType) (r b : Bool) → HasRoomFor config (length (front_own r false)) b → b ≡ true → Allows (front_state fuel m r false)
+  line_allowed m r b room e = allowed_is m r ∙ and_from _ _ (lt-ltb _ _ (room e).0) (lt-ltb _ _ (room e).1)
+
+  line_room : (m : Option MemoryType) (r b : Bool) → (b ≡ true → Allows (front_state fuel m r false)) → HasRoomFor config (length (front_own r false)) b
+  line_room m r b may e =
+      let n : ℕ = length (front_own r false) in
+      let both = and_parts (nat_lt n config.max_funcs) (nat_lt n config.max_types) (sym (allowed_is m r) ∙ may e) in
+      (ltb-true n config.max_funcs both.0, ltb-true n config.max_types both.1)
+
+  memory_is : (b rest : List ℕ) (t : Declared) → ReadsLine (nat_lt 0 config.max_memories) MemoryLine (undeclared fuel) b t rest
+      → (m : Option MemoryType) × (t ≡ front_state fuel m false false) × IfSome m (λ m. FormedMemory m × (0 < config.max_memories))
+  memory_is b rest t (not_allowed n e) = (None, e, tt)
+  memory_is b rest t (declined m c k e) = (None, e, tt)
+  memory_is b rest t (taken may c k (m, r, i) e) = (Some m, e ∙ ap (with_front (undeclared fuel)) i, (memory_formed r, ltb-true 0 config.max_memories may))
+
+  line_is : (name : List ℕ) (f : Function) (s : Declared) (b rest : List ℕ) (t : Declared) → ReadsFunctionLine config name f s b t rest
+      → (x : Bool) × (t ≡ with_line s name f x) × (x ≡ true → Allows s)
+  line_is name f s b rest t (not_allowed n e) = (false, e, λ h. absurd (false≢true h))
+  line_is name f s b rest t (declined a c k e) = (false, e, λ h. absurd (false≢true h))
+  line_is name f s b rest t (taken may c k l e) = (true, e ∙ ap (with_front s) l.1, λ h. may)
+
 -- one of the shapes, as the limits allow it
 pub record IsFront (config : Config) (fuel : ℕ) (s : Declared) : Type 0 where
   pub memory : Option MemoryType
@@ -47,67 +103,25 @@ pub record IsFront (config : Config) (fuel : ℕ) (s : Declared) : Type 0 where
   pub frees : Bool
   pub state : s ≡ front_state fuel memory reallocs frees
   pub has_memory : IfSome memory (λ m. FormedMemory m × (0 < config.max_memories))
-  pub has_realloc : reallocs ≡ true → (0 < config.max_funcs) × (0 < config.max_types)
-  pub has_free : frees ≡ true → (length (front_own reallocs false) < config.max_funcs) × (length (front_own reallocs false) < config.max_types)
-
-both_below : (n m a b : ℕ) → (nat_lt n a && nat_lt m b) ≡ true → (n < a) × (m < b)
-both_below n m a b e = let t = and_parts (nat_lt n a) (nat_lt m b) e in (ltb-true n a t.0, ltb-true m b t.1)
-
-module _ (config : Config) (fuel : ℕ) where
-  memory_is : (b rest : List ℕ) (t : Declared) → ReadsLine (nat_lt 0 config.max_memories) MemoryLine (undeclared fuel) b t rest
-      → (m : Option MemoryType) × (t ≡ front_state fuel m false false) × IfSome m (λ m. FormedMemory m × (0 < config.max_memories))
-  memory_is b rest t (not_allowed n e) = (None, e, tt)
-  memory_is b rest t (declined m c k e) = (None, e, tt)
-  memory_is b rest t (taken may c k (m, r, i) e) = (Some m, e ∙ ap (with_front (undeclared fuel)) i, (memory_formed r, ltb-true 0 config.max_memories may))
-
-  with_realloc_is : (m : Option MemoryType) → with_front (front_state fuel m false false)
-      (declares realloc ∷ exports (codes "canonical_abi_realloc") (Func 0) ∷ []) ≡ front_state fuel m true false
-  with_realloc_is None = refl
-  with_realloc_is (Some m) = refl
-
-  realloc_allowed : (m : Option MemoryType) → (allows_function config (front_state fuel m false false) && allows_type config (front_state fuel m false false))
-      ≡ true → (0 < config.max_funcs) × (0 < config.max_types)
-  realloc_allowed None e = both_below 0 0 config.max_funcs config.max_types e
-  realloc_allowed (Some m) e = both_below 0 0 config.max_funcs config.max_types e
-
-  realloc_is : (m : Option MemoryType) (b rest : List ℕ) (t : Declared)
-      → ReadsFunctionLine config (codes "canonical_abi_realloc") realloc (front_state fuel m false false) b t rest
-      → (r : Bool) × (t ≡ front_state fuel m r false) × (r ≡ true → (0 < config.max_funcs) × (0 < config.max_types))
-  realloc_is m b rest t (not_allowed n e) = (false, e, λ f. absurd (false≢true f))
-  realloc_is m b rest t (declined a c k e) = (false, e, λ f. absurd (false≢true f))
-  realloc_is m b rest t (taken may c k l e) = (true, e ∙ (ap (with_front (front_state fuel m false false)) l.1 ∙ with_realloc_is m), λ f. realloc_allowed m may)
-
-  with_free_is : (m : Option MemoryType) (r : Bool) → with_front (front_state fuel m r false)
-      (declares free ∷ exports (codes "canonical_abi_free") (Func (length (front_own r false))) ∷ []) ≡ front_state fuel m r true
-  with_free_is None false = refl
-  with_free_is None true = refl
-  with_free_is (Some m) false = refl
-  with_free_is (Some m) true = refl
-
-  free_allowed : (m : Option MemoryType) (r : Bool) → (allows_function config (front_state fuel m r false) && allows_type config (front_state fuel m r false))
-      ≡ true
-      → (length (front_own r false) < config.max_funcs) × (length (front_own r false) < config.max_types)
-  free_allowed None false e = both_below 0 0 config.max_funcs config.max_types e
-  free_allowed None true e = both_below 1 1 config.max_funcs config.max_types e
-  free_allowed (Some m) false e = both_below 0 0 config.max_funcs config.max_types e
-  free_allowed (Some m) true e = both_below 1 1 config.max_funcs config.max_types e
-
-  free_is : (m : Option MemoryType) (r : Bool) (b rest : List ℕ) (t : Declared)
-      → ReadsFunctionLine config (codes "canonical_abi_free") free (front_state fuel m r false) b t rest
-      → (f : Bool) × (t ≡ front_state fuel m r f) × (f ≡ true
-      → (length (front_own r false) < config.max_funcs) × (length (front_own r false) < config.max_types))
-  free_is m r b rest t (not_allowed n e) = (false, e, λ f. absurd (false≢true f))
-  free_is m r b rest t (declined a c k e) = (false, e, λ f. absurd (false≢true f))
-  free_is m r b rest t (taken may c k l e) = (true, e ∙ (ap (with_front (front_state fuel m r false)) l.1 ∙ with_free_is m r), λ f. free_allowed m r may)
+  pub has_realloc : HasRoomFor config 0 reallocs
+  pub has_free : HasRoomFor config (length (front_own reallocs false)) frees
 
 pub front_is : (config : Config) (b : List ℕ) (fuel : ℕ) (s : Declared) (rest : List ℕ) → ReadsFront config b fuel s rest → IsFront config fuel s
 front_is config b fuel s rest x =
     let m = memory_is config fuel b x.after_memory x.with_memory x.memory in
     let Reallocs : Declared → Type 0 = λ d. ReadsFunctionLine config (codes "canonical_abi_realloc") realloc d x.after_memory x.with_realloc x.after_realloc in
-    let r = realloc_is config fuel m.0 x.after_memory x.after_realloc x.with_realloc (subst Reallocs m.1 x.reallocs) in
+    let r = line_is config fuel _ _ _ x.after_memory x.after_realloc x.with_realloc (subst Reallocs m.1 x.reallocs) in
     let Frees : Declared → Type 0 = λ d. ReadsFunctionLine config (codes "canonical_abi_free") free d x.after_realloc s rest in
-    let f = free_is config fuel m.0 r.0 x.after_realloc rest s (subst Frees r.1 x.frees) in
-    record { memory = m.0; reallocs = r.0; frees = f.0; state = f.1; has_memory = m.2; has_realloc = r.2; has_free = f.2 }
+    let f = line_is config fuel _ _ _ x.after_realloc rest s (subst Frees (r.1 ∙ realloc_state fuel m.0 r.0) x.frees) in
+    record {
+      memory = m.0;
+      reallocs = r.0;
+      frees = f.0;
+      state = f.1 ∙ free_state fuel m.0 r.0 f.0;
+      has_memory = m.2;
+      has_realloc = line_room config fuel m.0 false r.0 r.2;
+      has_free = line_room config fuel m.0 r.0 f.0 f.2;
+    }
 
 -- what follows it
 

@@ -1,9 +1,8 @@
 -- A module type that is well formed and within the limits: each of its declarations can be said after those before it.
-use Rattle.std.proofs.Common.{◌≡◌, ◌+◌, ◌<◌, ◌≤◌, ◌^◌, true, List, [], ◌∷◌, ◌++◌, length, refl, sym, ap, ◌∙◌, subst, arith, append_assoc}
+use Rattle.std.proofs.Common.{◌≡◌, ◌+◌, ◌<◌, ◌≤◌, ◌^◌, Bool, true, false, List, [], ◌∷◌, ◌++◌, length, refl, sym, ap, ◌∙◌, subst, arith, append_assoc}
 use Rattle.std.proofs.Common.{length-append}
 use Rattle.std.proofs.lemmas.Grind.{flat_map-append}
-use Rattle.std.proofs.lemmas.List.Elements.{filter-append}
-use Rattle.std.specs.List.{AllByRecursion, filter, flat_map}
+use Rattle.std.specs.List.{AllByRecursion, filter}
 use Rattle.std.specs.Prelude.{if◌then◌else◌}
 use Rattle.smith_input.specs.Loops.{Along}
 use Rattle.smith_format.specs.CoreFormed.{FormedFunction}
@@ -17,48 +16,39 @@ use Rattle.smith_format.specs.declared.types.ExportKind.{ExportKind}
 use Rattle.smith_format.specs.declared.types.ExportKind.TheVariants as kind
 use Rattle.smith_syntax.specs.CoreLimits.{EntityLimits, ModuleLimits}
 use Rattle.smith_syntax.specs.Entries.{ModuleDecl, imports, declares, aliases, exports}
-use Rattle.smith_syntax.specs.ModuleTypes.{adds, alias_of, count_of_kind, declared_in, entities_of, func_of, is_of_kind, entities_in}
-use Rattle.smith_syntax.specs.ModuleTypes.{type_count}
+use Rattle.smith_syntax.specs.ModuleTypes.{adds, count_of_kind, declared_in, entities_in, entities_of, func_of, is_of_kind, type_count}
 use Rattle.smith_syntax.specs.Scope.{Scope}
 use Rattle.smith_syntax.specs.WellFormed.{FormedDecl, FormedDecls}
 use Rattle.smith_tree.specs.CoreTypeOffers.{Declared, with_decl}
 use Rattle.smith_tree.specs.ReadableCoreTypes.{AreReadableModuleDecls}
 use Rattle.smith_core_types.proofs.MakingCore.{alias_adds}
 use Rattle.smith_core_types.proofs.ModuleScript.{IsSayable}
-use Rattle.smith_core_types.proofs.ModuleTypes.{DeclFits, EntityFits, limit_of}
+use Rattle.smith_core_types.proofs.ModuleTypes.{DeclFits, EntityFits, count_both, limit_of, types_both}
 use Rattle.smith_input.proofs.Lists.{all_back}
 
--- declarations in two parts
+at_most_one : (b : Bool) (e : EntityType) → length (if b then e ∷ [] else []) ≤ 1
+at_most_one true e = omega arith
+at_most_one false e = omega arith
 
-entities_both : (xs ys : List ModuleDecl) → entities_of (xs ++ ys) ≡ entities_of xs ++ entities_of ys
-entities_both xs ys = flat_map-append entities_in xs ys
+count_one : (k : ExportKind) (d : ModuleDecl) → count_of_kind k (d ∷ []) ≤ 1
+count_one k (imports m n e) = at_most_one (is_of_kind k e) e
+count_one k (exports n e) = at_most_one (is_of_kind k e) e
+count_one k d = omega arith
 
-pub count_both : (k : ExportKind) (xs ys : List ModuleDecl) → count_of_kind k (xs ++ ys) ≡ count_of_kind k xs + count_of_kind k ys
-count_both k xs ys =
-    ap (λ es. length (filter (is_of_kind k) es)) (entities_both xs ys)
-    ∙ (ap length (filter-append (is_of_kind k) (entities_of xs) (entities_of ys))
-    ∙ length-append (filter (is_of_kind k) (entities_of xs)) (filter (is_of_kind k) (entities_of ys)))
-
-types_both : (xs ys : List ModuleDecl) → type_count (xs ++ ys) ≡ type_count xs + type_count ys
-types_both xs ys =
-    let f = ap length (flat_map-append func_of xs ys) ∙ length-append (flat_map func_of xs) (flat_map func_of ys) in
-    let a = ap length (flat_map-append alias_of xs ys) ∙ length-append (flat_map alias_of xs) (flat_map alias_of ys) in
-    omega (arith, f, a)
+-- Each declaration is counted once at most.
+pub count_small : (k : ExportKind) (ds : List ModuleDecl) → count_of_kind k ds ≤ length ds
+count_small k [] = omega arith
+count_small k (d ∷ ds) = omega (arith, count_both k (d ∷ []) ds, count_one k d, count_small k ds)
 
 -- There are no more own types than declarations.
 types_few : (ds : List ModuleDecl) → type_count ds ≤ length ds
 types_few [] = omega arith
 types_few (imports m n e ∷ ds) = omega (arith, types_few ds)
-types_few (declares f ∷ ds) = omega (arith, types_few ds)
-types_few (aliases count i ∷ ds) = omega (arith, types_few ds)
-types_few (exports n e ∷ ds) = omega (arith, types_few ds)
+types_few (d ∷ ds) = omega (arith, types_few ds)
 
 own_kind : (e : EntityType) → is_of_kind (kind_of e) e ≡ true
 own_kind (Func i) = refl
-own_kind (Table t) = refl
-own_kind (Memory m) = refl
-own_kind (Global g) = refl
-own_kind (Tag t) = refl
+own_kind e = refl
 
 -- what is first counts among its kind
 own_count : (e : EntityType) (ds : List ModuleDecl) (es : List EntityType) → entities_of ds ≡ e ∷ es → 0 < count_of_kind (kind_of e) ds
@@ -81,7 +71,7 @@ module _ (config : Config) (around : Scope) (whole : List ModuleDecl) (limits : 
       → EntityFits config before e
   entity_fits before ds e es split first =
       let all : AllByRecursion (EntityLimits config) (entities_of before ++ (e ∷ es)) =
-      subst (AllByRecursion (EntityLimits config)) (ap entities_of split ∙ (entities_both before ds ∙ ap (λ z. entities_of before ++ z) first))
+      subst (AllByRecursion (EntityLimits config)) (ap entities_of split ∙ (flat_map-append entities_in before ds ∙ ap (λ z. entities_of before ++ z) first))
       limits.entities in
       let count = ap (count_of_kind (kind_of e)) split ∙ count_both (kind_of e) before ds in (
         (all_back (EntityLimits config) (entities_of before) (e ∷ es) all).0,
@@ -104,10 +94,8 @@ module _ (config : Config) (around : Scope) (whole : List ModuleDecl) (limits : 
 
   -- the own types are counted
   adds_counted : (own : List Function) (d : ModuleDecl) → FormedDecl around.core_types own d → length (adds around.core_types own d) ≡ type_count (d ∷ [])
-  adds_counted own (imports m n e) formed = refl
-  adds_counted own (declares f) formed = refl
   adds_counted own (aliases count i) formed = ap length (alias_adds around.core_types own count i formed.0 formed.1)
-  adds_counted own (exports n e) formed = refl
+  adds_counted own d formed = refl
 
   more_counted : (own : List Function) (before : List ModuleDecl) (d : ModuleDecl) → type_count before ≡ length own → FormedDecl around.core_types own d
       → type_count (before ++ d ∷ []) ≡ length (own ++ adds around.core_types own d)

@@ -1,6 +1,6 @@
 -- Declarations of module types are read from their scripts.
-use Rattle.std.proofs.Common.{◌≡◌, ◌⊎◌, inl, inr, ℕ, zero, suc, ◌+◌, ◌-◌, ◌<◌, ◌≤◌, ◌^◌, Bool, true, false, List, [], ◌∷◌, ◌++◌, length, refl, sym, ap}
-use Rattle.std.proofs.Common.{◌∙◌, subst, arith, append_assoc, nat_eq, nat_lt, Some, None, Decides}
+use Rattle.std.proofs.Common.{◌≡◌, ◌⊎◌, inl, inr, ℕ, zero, suc, ◌+◌, ◌-◌, ◌<◌, ◌≤◌, ◌^◌, Bool, true, false, List, [], ◌∷◌, ◌++◌, length, refl, sym, ap, ◌∙◌}
+use Rattle.std.proofs.Common.{subst, arith, append_assoc, nat_eq, nat_lt, Some, None, Decides}
 use Rattle.std.proofs.lemmas.Bool.{false≢true, lt-ltb, and_from}
 use Rattle.std.proofs.lemmas.Bool.Decides.{Decides-eqb}
 use Rattle.std.proofs.lemmas.Option.{slice_get_within}
@@ -16,7 +16,7 @@ use Rattle.smith_input.proofs.Offered.{offers_few, offers_found}
 use Rattle.smith_input.proofs.Picks.{reads-pick}
 use Rattle.smith_input.proofs.Reading.{flips_one, flips_zero}
 use Rattle.smith_input.proofs.ReadsTexts.{text_read}
-use Rattle.smith_format.proofs.CoreScript.{limits_read}
+use Rattle.smith_format.proofs.CoreScript.{limits_read, function_read, ref_Decides, same_val_Decides}
 use Rattle.smith_format.specs.CoreReading.{ReadsElement, only_functions, either, ReadsTable}
 use Rattle.smith_format.specs.CoreScript as core
 use Rattle.smith_format.specs.CoreScript.{script_limits}
@@ -34,7 +34,6 @@ use Rattle.smith_format.specs.declared.types.ExportKind.{ExportKind}
 use Rattle.smith_format.specs.declared.types.ExportKind.TheVariants as kind
 use Rattle.smith_format.specs.declared.types.RefType.{RefType}
 use Rattle.smith_format.specs.declared.types.RefType.TheVariants.{FuncRef, ExternRef}
-use Rattle.smith_format.proofs.CoreScript.{function_read, ref_Decides, same_val_Decides}
 use Rattle.smith_syntax.specs.Entries.{CoreEntry, ModuleDecl, core_func, core_module, imports, declares, aliases, exports}
 use Rattle.smith_syntax.specs.ModuleTypes.{aliased, module_export_names, func_in, is_tag_type, names_from}
 use Rattle.smith_syntax.specs.Scope.{Scope}
@@ -43,10 +42,8 @@ use Rattle.smith_syntax.specs.WellFormed.{FormedDecl, FormedEntity}
 use Rattle.smith_scopes.proofs.Places.{place_found}
 use Rattle.smith_scopes.proofs.Stack.{length-places}
 use Rattle.smith_core_types.specs.MadeCore.{ReadsDecl, ReadsDeclOf, ReadsEntity, ReadsEntityOf}
-use Rattle.smith_tree.specs.CoreTypeOffers.{Declared, alias_choices}
-use Rattle.smith_tree.specs.CoreTypeOffers.{entity_kinds, indexes, item_offers, kind_offers, module_items, with_decl}
-use Rattle.smith_tree.specs.ModuleScript.{alias_place, script_bit, script_decl, script_element, script_entity, script_entity_of}
-use Rattle.smith_tree.specs.ModuleScript.{script_item}
+use Rattle.smith_tree.specs.CoreTypeOffers.{Declared, alias_choices, entity_kinds, indexes, item_offers, kind_offers, module_items, with_decl}
+use Rattle.smith_tree.specs.ModuleScript.{alias_place, script_bit, script_decl, script_element, script_entity, script_entity_of, script_item}
 use Rattle.smith_tree.specs.ReadableCoreTypes.{IsReadableModuleDecl, IsReadableNewText}
 use Rattle.smith_tree.specs.contracts.choices.ModuleItem.{the_type as item_type}
 use Rattle.smith_tree.specs.contracts.choices.ModuleItemPartialEq.TheImpl.{ghosts as items}

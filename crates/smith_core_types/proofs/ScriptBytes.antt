@@ -43,7 +43,7 @@ use Rattle.smith_core_types.proofs.CoreScript.{begun, behind_sayable, lasting}
 use Rattle.smith_core_types.proofs.FrontFound.{Fronted, fronted, whole_front}
 use Rattle.smith_core_types.proofs.FrontScript.{front_formed, line_absent, line_stands}
 use Rattle.smith_core_types.proofs.MakingCore.{choices_count}
-use Rattle.smith_core_types.proofs.ModuleFronts.{free_decls, front_state, memory_decls, realloc_decls}
+use Rattle.smith_core_types.proofs.ModuleFronts.{front_state, function_decls, memory_decls}
 use Rattle.smith_core_types.proofs.ModuleScript.{IsSayable, alias_at}
 
 -- a choice of an item by its place among the items that pass a test
@@ -123,26 +123,19 @@ small_memory_line may (Some m) ds behind e f =
     subst Small (sym (line_stands may ds (exports (codes "memory") (Memory m)) [] behind e))
     (small_join (small_byte 100 0 (omega arith) (omega arith)) (small_join (small_limits m.minimum m.maximum f) small_none))
 
-small_function_line : (may : Bool) (name : List ℕ) (f : Function) (i : ℕ) (ds behind : List ModuleDecl)
-    → ds ≡ (declares f ∷ exports name (Func i) ∷ []) ++ behind → Small (script_line may ds behind)
-small_function_line may name f i ds behind e =
+small_function_line : (may : Bool) (name : List ℕ) (f : Function) (i : ℕ) (b : Bool) (ds behind : List ModuleDecl)
+    → ds ≡ function_decls name f i b ++ behind → Small (script_line may ds behind)
+small_function_line may name f i false ds behind e = small_absent may ds behind e
+small_function_line may name f i true ds behind e =
     subst Small (sym (line_stands may ds (declares f) (exports name (Func i) ∷ []) behind e))
     (small_join (small_byte 100 0 (omega arith) (omega arith)) small_none)
-
-small_realloc_line : (may r : Bool) (ds behind : List ModuleDecl) → ds ≡ realloc_decls r ++ behind → Small (script_line may ds behind)
-small_realloc_line may false ds behind e = small_absent may ds behind e
-small_realloc_line may true ds behind e = small_function_line may (codes "canonical_abi_realloc") realloc 0 ds behind e
-
-small_free_line : (may r f : Bool) (ds behind : List ModuleDecl) → ds ≡ free_decls r f ++ behind → Small (script_line may ds behind)
-small_free_line may r false ds behind e = small_absent may ds behind e
-small_free_line may r true ds behind e = small_function_line may (codes "canonical_abi_free") free (if r then 1 else 0) ds behind e
 
 small_front : (config : Config) (fuel : ℕ) {ds no_memory no_realloc no_free : List ModuleDecl} (x : Fronted ds no_memory no_realloc no_free)
     → IfSome x.memory (λ m. FormedLimits m.minimum m.maximum) → Small (script_front config fuel ds no_memory no_realloc no_free)
 small_front config fuel {ds} {no_memory} {no_realloc} {no_free} x f =
     small_join (small_memory_line (nat_lt 0 config.max_memories) x.memory ds no_memory x.first f)
-    (small_join (small_realloc_line (may_declare config (front_before fuel ds no_memory)) x.reallocs no_memory no_realloc x.second)
-    (small_free_line (may_declare config (front_before fuel ds no_realloc)) x.reallocs x.frees no_realloc no_free x.third))
+    (small_join (small_function_line (may_declare config (front_before fuel ds no_memory)) _ realloc 0 x.reallocs no_memory no_realloc x.second)
+    (small_function_line (may_declare config (front_before fuel ds no_realloc)) _ free (if x.reallocs then 1 else 0) x.frees no_realloc no_free x.third))
 
 memory_limits : (m : Option MemoryType) → IfSome m FormedMemory → IfSome m (λ m. FormedLimits m.minimum m.maximum)
 memory_limits None f = tt

@@ -8,7 +8,7 @@ use Rattle.smith_input.specs.Reading.{Reads, Flips}
 use Rattle.smith_input.specs.Texts.{ReadsNewText, ReadsText}
 use Rattle.smith_format.specs.CoreReading.{ReadsFunction, ReadsMemory, ReadsTable, ReadsTag}
 use Rattle.smith_format.specs.CoreTypes.{Function}
-use Rattle.smith_format.specs.Limits.{configured}
+use Rattle.smith_format.specs.Limits.{configured, max_results}
 use Rattle.smith_format.specs.declared.config.Config.{Config}
 use Rattle.smith_format.specs.declared.types.EntityType.{EntityType}
 use Rattle.smith_format.specs.declared.types.EntityType.TheVariants.{Func, Table, Memory, Global, Tag}
@@ -16,7 +16,6 @@ use Rattle.smith_format.specs.declared.types.ExportKind.{ExportKind}
 use Rattle.smith_format.specs.declared.types.ExportKind.TheVariants as kind
 use Rattle.smith_format.specs.declared.types.GlobalType.{GlobalType}
 use Rattle.smith_format.specs.declared.types.MemoryType.{MemoryType}
-use Rattle.smith_format.specs.Limits.{max_results}
 use Rattle.smith_syntax.specs.Entries.{CoreEntry, ModuleDecl, core_func, core_module, imports, declares, aliases, exports}
 use Rattle.smith_syntax.specs.ModuleTypes.{adds, aliased, alias_of, module_export_names, free, is_tag_type, names_from, realloc}
 use Rattle.smith_syntax.specs.Scope.{Scope}

@@ -11,11 +11,8 @@ use Rattle.smith_format.specs.declared.types.ExportKind.TheVariants as kind
 use Rattle.smith_format.specs.declared.types.FuncType.{FuncType}
 use Rattle.smith_syntax.specs.CoreLimits.{CoreLimits}
 use Rattle.smith_syntax.specs.Entries.{CoreEntry, ModuleDecl}
-use Rattle.smith_core_types.specs.MadeCore.{MadeCore, ReadsDecl, ReadsDeclOf, ReadsEntity, ReadsImportNames, ReadsExportName, EndsModuleType}
-use Rattle.smith_tree.specs.CoreTypeOffers.{alias_choices, entity_kinds}
-use Rattle.smith_core_types.specs.MadeCore.{with_fuel}
-use Rattle.smith_tree.specs.CoreTypeOffers.{with_decl}
-use Rattle.smith_tree.specs.CoreTypeOffers.{Declared as SoFar}
+use Rattle.smith_core_types.specs.MadeCore.{MadeCore, ReadsDecl, ReadsDeclOf, ReadsEntity, ReadsImportNames, ReadsExportName, EndsModuleType, with_fuel}
+use Rattle.smith_tree.specs.CoreTypeOffers.{alias_choices, entity_kinds, with_decl, Declared as SoFar}
 use Rattle.smith_syntax.specs.ModuleTypes.{adds, aliased, module_export_names, is_tag_type, names_from}
 use Rattle.smith_syntax.specs.Scope.{Scope}
 use Rattle.smith_syntax.specs.Places.{places}
@@ -40,17 +37,13 @@ so_far d fuel = record { own = shown_funcs d.own.items; decls = map shown_decl d
 -- what an entity of a kind needs: a tag a type without results, and a function a type
 abbrev pub HasTypeFor : List Function → ExportKind → Type 0
 HasTypeFor own kind.Func = 0 < length own
-HasTypeFor own kind.Table = Unit {0}
-HasTypeFor own kind.Memory = Unit {0}
-HasTypeFor own kind.Global = Unit {0}
 HasTypeFor own kind.Tag = 0 < length (places is_tag_type 0 own)
+HasTypeFor own k = Unit {0}
 
 -- what a declaration needs: an outer alias something to name
 abbrev pub HasChoiceFor : Scope → SoFar → ModuleItem → Type 0
-HasChoiceFor around s item.Import = Unit {0}
-HasChoiceFor around s item.Export = Unit {0}
-HasChoiceFor around s item.Type = Unit {0}
 HasChoiceFor around s item.Alias = 0 < length (alias_choices around s)
+HasChoiceFor around s i = Unit {0}
 
 -- the names that are imported from a module, or the exported names
 abbrev pub names_taken : Bool → List ℕ → List ModuleDecl → List (List ℕ)
@@ -65,8 +58,7 @@ MaybeEntity config s b e rest = MatchOption e ((entity_kinds config s ≡ []) ×
 abbrev pub ReadsNamesAlone : Config → SoFar → ModuleItem → List ℕ → List ℕ → Type 0
 ReadsNamesAlone config s item.Import b rest = (from name : List ℕ) × ReadsImportNames s b from name rest × (entity_kinds config s ≡ [])
 ReadsNamesAlone config s item.Export b rest = (name : List ℕ) × ReadsExportName s b name rest × (entity_kinds config s ≡ [])
-ReadsNamesAlone config s item.Type b rest = ⊥
-ReadsNamesAlone config s item.Alias b rest = ⊥
+ReadsNamesAlone config s i b rest = ⊥
 
 -- a declaration of a sort was added, or names were read alone
 abbrev pub AddsDecl : Config → Scope → SoFar → ModuleItem → List ℕ → Bool → List ℕ → SoFar → Type 0
@@ -80,10 +72,8 @@ DeclTurn config around s b false rest t = EndsModuleType config around s b rest 
 
 -- An outer alias keeps the function type that it names.
 abbrev pub KeepsNamed : List CoreEntry → List Function → ModuleTypeDef → Type 0
-KeepsNamed around own (decl.FuncDef ty) = Unit {0}
-KeepsNamed around own (decl.Import i) = Unit {0}
 KeepsNamed around own (decl.OuterAlias count i ty) = aliased around own count i ≡ Some (shown_func ty.value)
-KeepsNamed around own (decl.Export name e) = Unit {0}
+KeepsNamed around own d = Unit {0}
 
 -- Each outer alias of these declarations keeps the function type that it names, if these types are declared so far.
 abbrev pub KeepEach : List CoreEntry → List Function → List ModuleTypeDef → Type 0

@@ -43,7 +43,7 @@ fn function_around(scopes: &Scopes, rank: usize) -> Result<(u32, Rc<FuncType>), 
 }
 
 // The count of scopes and the index of what an alias names, and the function type that is there.
-fn alias_choice(
+fn read_alias(
     u: &mut Unstructured,
     scopes: &Scopes,
     own: &[Rc<FuncType>],
@@ -81,7 +81,7 @@ pub(crate) fn add_alias(
     ensures own { OnOk result (length declared.new.own.items ≤ length declared.old.own.items + 1) }
     ensures input { Consumes result u.old u.new }
 {
-    let (count, i, ty) = alias_choice(u, scopes, &declared.own)?;
+    let (count, i, ty) = read_alias(u, scopes, &declared.own)?;
     declared.own.push(ty.clone()?)?;
     declared
         .counted

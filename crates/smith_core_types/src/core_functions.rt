@@ -13,7 +13,10 @@ use std::rc::Rc;
 
 // A core function type of the configured value types.
 #[inline(always)]
-pub(crate) fn core_function(making: &Making, u: &mut Unstructured) -> Result<Rc<FuncType>, Error>
+pub(crate) fn read_core_function(
+    making: &Making,
+    u: &mut Unstructured,
+) -> Result<Rc<FuncType>, Error>
     ensures reads { IfOk result (λ t. ReadsFunction (configured making.now.config.now)
         (max_results making.now.config.now) u.old (shown_func t.value) u.new) }
     ensures input { Consumes result u.old u.new }

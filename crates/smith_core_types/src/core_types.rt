@@ -14,9 +14,9 @@ ghost use Rattle.smith_scopes.specs.Scopes.{own_scope};
 ghost use Rattle.smith_syntax.specs.Shown.{shown_core, shown_shared_core};
 ghost use Rattle.smith_syntax.specs.WellFormed.{FormedCore};
 
-use crate::core_functions::core_function;
+use crate::core_functions::read_core_function;
 use crate::making::Making;
-use crate::module_types::module_type;
+use crate::module_types::read_module_type;
 use smith_format::{Config, ValType, burn};
 use smith_input::{Error, Unstructured};
 use smith_scopes::Scopes;
@@ -25,7 +25,7 @@ use std::alloc::Global;
 use std::rc::Rc;
 
 // A core type, by the rules of `arbitrary_core_type`.
-fn made_core_type(
+fn make_core_type(
     making: &Making,
     u: &mut Unstructured,
     scopes: &Scopes,
@@ -42,9 +42,9 @@ fn made_core_type(
         return Ok(CoreType::Module(ModuleType { defs }));
     }
     if u.choose_index(2) == 0 {
-        return Ok(CoreType::Func(core_function(making, u)?));
+        return Ok(CoreType::Func(read_core_function(making, u)?));
     }
-    let defs = module_type(making, u, scopes, fuel)?;
+    let defs = read_module_type(making, u, scopes, fuel)?;
     Ok(CoreType::Module(ModuleType { defs }))
 }
 
@@ -79,7 +79,7 @@ pub fn arbitrary_core_type(
         config,
         valtypes,
     };
-    let made = made_core_type(&making, u, scopes, fuel)?;
+    let made = make_core_type(&making, u, scopes, fuel)?;
     let shared = Rc::new(alloc, made)?;
     Ok(shared)
 }

@@ -24,7 +24,7 @@ use smith_tree::kind_offers;
 use std::rc::Rc;
 
 // A global type: one of the value types, and a boolean for whether it may change.
-fn global_type(u: &mut Unstructured, valtypes: &[ValType]) -> GlobalType
+fn read_global_type(u: &mut Unstructured, valtypes: &[ValType]) -> GlobalType
     requires { 0 < length valtypes.now }
     ensures reads { (mid : List ℕ) × ReadsAmong valtypes.now u.old result.val_type mid
         × Flips mid result.mutable u.new }
@@ -36,7 +36,7 @@ fn global_type(u: &mut Unstructured, valtypes: &[ValType]) -> GlobalType
 }
 
 // One of the own types, by its index.
-fn own_type(u: &mut Unstructured, own: &[Rc<FuncType>]) -> u32
+fn read_own_type(u: &mut Unstructured, own: &[Rc<FuncType>]) -> u32
     requires some { 0 < length own.now }
     requires few { length own.now < 1000 }
     ensures reads { ReadsAmong (indexes (shown_funcs own.now)) u.old result u.new }
@@ -46,7 +46,7 @@ fn own_type(u: &mut Unstructured, own: &[Rc<FuncType>]) -> u32
 }
 
 // A tag type of one of the own types without results.
-fn tag_type(u: &mut Unstructured, own: &[Rc<FuncType>]) -> TagType
+fn read_tag_type(u: &mut Unstructured, own: &[Rc<FuncType>]) -> TagType
     requires some { 0 < length (places is_tag_type 0 (shown_funcs own.now)) }
     requires few { length own.now < 1000 }
     ensures reads { ReadsTag (places is_tag_type 0 (shown_funcs own.now)) u.old result u.new }
@@ -100,7 +100,7 @@ fn entity_kind(u: &mut Unstructured, config: &Config, declared: &Declared) -> Op
 }
 
 // An entity of a kind.
-fn entity_of(
+fn read_entity_of(
     making: &Making,
     u: &mut Unstructured,
     declared: &Declared,
@@ -113,16 +113,16 @@ fn entity_of(
     ensures tail { IsTail u.new u.old }
 {
     match kind {
-        ExportKind::Global => EntityType::Global(global_type(u, making.valtypes)),
+        ExportKind::Global => EntityType::Global(read_global_type(u, making.valtypes)),
         ExportKind::Table => EntityType::Table(arbitrary_table_type(u, making.config)),
         ExportKind::Memory => EntityType::Memory(arbitrary_memtype(u, making.config)),
-        ExportKind::Tag => EntityType::Tag(tag_type(u, &declared.own)),
-        ExportKind::Func => EntityType::Func(own_type(u, &declared.own)),
+        ExportKind::Tag => EntityType::Tag(read_tag_type(u, &declared.own)),
+        ExportKind::Func => EntityType::Func(read_own_type(u, &declared.own)),
     }
 }
 
 // An entity, or none if nothing can be imported or exported.
-pub(crate) fn entity(
+pub(crate) fn read_entity(
     making: &Making,
     u: &mut Unstructured,
     declared: &Declared,
@@ -132,5 +132,5 @@ pub(crate) fn entity(
     ensures tail { IsTail u.new u.old }
 {
     let kind = entity_kind(u, making.config, declared)?;
-    Some(entity_of(making, u, declared, kind))
+    Some(read_entity_of(making, u, declared, kind))
 }

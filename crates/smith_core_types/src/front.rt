@@ -40,6 +40,7 @@ fn memory_line(making: &Making, u: &mut Unstructured, declared: &mut Declared) -
 }
 
 // Are one more type and one more function below the limits?
+#[tactic(auto, using(std::proofs::lemmas::Grind::common_steps))]
 fn allows_line(config: &Config, declared: &Declared) -> bool
     ensures { result ≡ (allows_function config.now (so_far declared.now 0)
         && allows_type config.now (so_far declared.now 0)) }
@@ -77,7 +78,7 @@ fn function_line(
 }
 
 // What the canonical ABI asks, in its three lines.
-pub(crate) fn front(
+pub(crate) fn read_front(
     making: &Making,
     u: &mut Unstructured,
     scopes: &Scopes,

@@ -115,7 +115,8 @@ impl<'a> TakenNames for Taken<'a> {
 }
 
 // The two names of an import: the module's, and one that is imported from it for the first time.
-pub(crate) fn import_names(
+#[tactic(auto, using(std::proofs::lemmas::Grind::common_steps))]
+pub(crate) fn read_import_names(
     alloc: Global,
     u: &mut Unstructured,
     defs: &[ModuleTypeDef],
@@ -135,7 +136,7 @@ pub(crate) fn import_names(
 }
 
 // The name of an export, which is exported for the first time.
-pub(crate) fn export_name(
+pub(crate) fn read_export_name(
     alloc: Global,
     u: &mut Unstructured,
     defs: &[ModuleTypeDef],

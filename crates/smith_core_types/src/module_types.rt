@@ -15,13 +15,13 @@ ghost use Rattle.smith_syntax.specs.Shown.{shown_decl};
 ghost use Rattle.smith_tree.specs.declared.choices.ModuleItem.TheVariants as item;
 
 use crate::aliases::{add_alias, alias_count};
-use crate::core_functions::core_function;
+use crate::core_functions::read_core_function;
 use crate::counted::CountedDefs;
 use crate::declared::{Declared, declare};
-use crate::entities::entity;
-use crate::front::front;
+use crate::entities::read_entity;
+use crate::front::read_front;
 use crate::making::Making;
-use crate::module_names::{export_name, import_names};
+use crate::module_names::{read_export_name, read_import_names};
 use smith_format::{Config, Import, burn};
 use smith_input::{Error, Unstructured, choose_offered};
 use smith_scopes::Scopes;
@@ -63,7 +63,11 @@ fn module_item(
 }
 
 // An import, or false if nothing can be imported.
-fn import(making: &Making, u: &mut Unstructured, declared: &mut Declared) -> Result<bool, Error>
+fn read_import(
+    making: &Making,
+    u: &mut Unstructured,
+    declared: &mut Declared,
+) -> Result<bool, Error>
     requires few { length declared.old.own.items < 1000 }
     ensures adds { (around : _) (fuel : ℕ) → IfOk result (λ b.
         AddsDecl making.now.config.now around (so_far declared.old fuel) item.Import u.old b u.new
@@ -72,8 +76,8 @@ fn import(making: &Making, u: &mut Unstructured, declared: &mut Declared) -> Res
     ensures kept { (around : _) → KeepsDeclared around declared.old → OnOk result (KeepsDeclared around declared.new) }
     ensures input { Consumes result u.old u.new }
 {
-    let (module, name) = import_names(making.alloc, u, &declared.counted.defs)?;
-    match entity(making, u, declared) {
+    let (module, name) = read_import_names(making.alloc, u, &declared.counted.defs)?;
+    match read_entity(making, u, declared) {
         None => Ok(false),
         Some(entity_type) => {
             let import = Import {
@@ -88,7 +92,11 @@ fn import(making: &Making, u: &mut Unstructured, declared: &mut Declared) -> Res
 }
 
 // An export, or false if nothing can be exported.
-fn export(making: &Making, u: &mut Unstructured, declared: &mut Declared) -> Result<bool, Error>
+fn read_export(
+    making: &Making,
+    u: &mut Unstructured,
+    declared: &mut Declared,
+) -> Result<bool, Error>
     requires few { length declared.old.own.items < 1000 }
     ensures adds { (around : _) (fuel : ℕ) → IfOk result (λ b.
         AddsDecl making.now.config.now around (so_far declared.old fuel) item.Export u.old b u.new
@@ -97,8 +105,8 @@ fn export(making: &Making, u: &mut Unstructured, declared: &mut Declared) -> Res
     ensures kept { (around : _) → KeepsDeclared around declared.old → OnOk result (KeepsDeclared around declared.new) }
     ensures input { Consumes result u.old u.new }
 {
-    let name = export_name(making.alloc, u, &declared.counted.defs)?;
-    match entity(making, u, declared) {
+    let name = read_export_name(making.alloc, u, &declared.counted.defs)?;
+    match read_entity(making, u, declared) {
         None => Ok(false),
         Some(entity) => {
             let export = ModuleTypeDef::Export(CowStr::Owned(name), entity);
@@ -126,10 +134,10 @@ fn add_of(
     ensures input { Consumes result u.old u.new }
 {
     match item {
-        ModuleItem::Import => import(making, u, declared),
-        ModuleItem::Export => export(making, u, declared),
+        ModuleItem::Import => read_import(making, u, declared),
+        ModuleItem::Export => read_export(making, u, declared),
         ModuleItem::Type => {
-            declare(declared, core_function(making, u)?)?;
+            declare(declared, read_core_function(making, u)?)?;
             Ok(true)
         }
         ModuleItem::Alias => {
@@ -140,7 +148,7 @@ fn add_of(
 }
 
 // A turn of the loop over the declarations, after its fuel is taken: a declaration, or false if it ends the loop.
-fn turn(
+fn read_declaration(
     making: &Making,
     u: &mut Unstructured,
     scopes: &Scopes,
@@ -159,7 +167,7 @@ fn turn(
 }
 
 // The declarations after what the canonical ABI asks.
-fn declarations(
+fn read_declarations(
     making: &Making,
     u: &mut Unstructured,
     scopes: &Scopes,
@@ -183,7 +191,7 @@ fn declarations(
         if *fuel == 0 {
             return Ok(());
         }
-        if !turn(making, u, scopes, declared)? {
+        if !read_declaration(making, u, scopes, declared)? {
             return Ok(());
         }
     }
@@ -191,7 +199,7 @@ fn declarations(
 }
 
 // The declarations of a module type: what the canonical ABI asks, and then at most 100 that take fuel.
-pub(crate) fn module_type(
+pub(crate) fn read_module_type(
     making: &Making,
     u: &mut Unstructured,
     scopes: &Scopes,
@@ -202,8 +210,8 @@ pub(crate) fn module_type(
     ensures kept { IfOk result (λ defs. KeepEach (own_scope scopes.now).core_types [] defs.items) }
     ensures input { Consumes result u.old u.new }
 {
-    let mut declared = front(making, u, scopes)?;
-    declarations(making, u, scopes, fuel, &mut declared)?;
+    let mut declared = read_front(making, u, scopes)?;
+    read_declarations(making, u, scopes, fuel, &mut declared)?;
     let Declared { own: _, counted } = declared;
     let CountedDefs { defs, .. } = counted;
     Ok(defs)

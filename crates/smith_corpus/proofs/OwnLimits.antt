@@ -8,6 +8,10 @@ use Rattle.smith_corpus.specs.declared.samples.SampleError.{SampleError}
 use Rattle.smith_corpus.specs.declared.samples.SampleError.TheVariants.{BytesLeft, Refused}
 use Rattle.smith_swarm.specs.Swarm.{after_front, front_len, limit_count, swarmed}
 use Rattle.smith_swarm.proofs.Fronts.{same_limits, same_rest}
+use Rattle.std.proofs.Common.{refl, []}
+use Rattle.smith_input.specs.declared.error.Error.{Error}
+use Rattle.smith_input.specs.declared.error.Error.TheVariants.{InconsistentLimits, MinimumNotMet, ModuleRefused, TooLong, OutOfMemory, PartsDisagree}
+use Rattle.smith_component.specs.Refusals.{IsGenerateRefusal, IsNewRefusal}
 
 module _ (front rest whole : List ℕ) (joined : whole ≡ front ++ rest) (long : length front ≡ front_len (front ++ rest)) where
   pub follows : rest ≡ after_front whole
@@ -34,3 +38,17 @@ more_bytes config BytesLeft fewer h = record {
   made = h.made;
   some = h.some;
 }
+
+-- A refusal that occurs before any input is read.
+
+-- It is one of the empty input too.
+pub refused_at_once : (config : Config) (e : Error) → IsNewRefusal config e → IsGenerateRefusal config [] e []
+refused_at_once config InconsistentLimits h = (h, refl)
+refused_at_once config MinimumNotMet h = absurd h
+refused_at_once config ModuleRefused h = absurd h
+refused_at_once config TooLong h = absurd h
+refused_at_once config OutOfMemory h = h
+refused_at_once config PartsDisagree h = absurd h
+
+pub new_is_refused : (config : Config) (len : ℕ) (e : Error) → IsNewRefusal config e → IsSampleError config len (Refused e)
+new_is_refused config len e h = record { input = []; few = omega arith; left = []; refused = refused_at_once config e h }

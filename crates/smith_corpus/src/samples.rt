@@ -74,7 +74,7 @@ fn sample_of(alloc: Global, config: &Config, input: Vec<u8>) -> Result<Sample, S
 }
 
 // One try.
-#[tactic(auto, using(crate::proofs::AtOnce::new_is_refused))]
+#[tactic(auto, using(crate::proofs::OwnLimits::new_is_refused))]
 fn tried(
     alloc: Global,
     config: &Config,

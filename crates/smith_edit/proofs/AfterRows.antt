@@ -1,12 +1,12 @@
 -- What is known after entries in order.
-use Rattle.std.proofs.Common.{◌≡◌, ℕ, ◌+◌, false, true, List, [], ◌∷◌, Option, length, ap, sym, refl, ◌∙◌, arith}
+use Rattle.std.proofs.Common.{◌≡◌, ℕ, ◌+◌, false, List, [], ◌∷◌, Option, length, ap, sym, refl, ◌∙◌, arith}
 use Rattle.smith_tree.specs.Tree.{Part}
 use Rattle.smith_tree.specs.Tree as part
 use Rattle.smith_edit.specs.Edited.{after_canon, after_core, after_export, after_import, after_type, canon_edited, core_row, export_edited, import_edited}
 use Rattle.smith_edit.specs.Edited.{type_row}
 use Rattle.smith_edit.specs.Edited.{after_one, after_part, after_rows, after_section, within}
 use Rattle.smith_edit.specs.Items.{core_items, entry_items, none_inside, part_items, row_items}
-use Rattle.smith_edit.specs.Removal.{inside, past, removes}
+use Rattle.smith_edit.specs.Removal.{past, removes}
 use Rattle.smith_edit.specs.Walk.{Walk, entered, exited, skipped}
 use Rattle.smith_edit.specs.declared.scope.Scope.{Scope}
 use Rattle.smith_edit.proofs.Past.{past_none, past_past, past_step}
@@ -58,8 +58,4 @@ part_outer w p = refl
 -- a section that is not removed
 
 pub after_kept : (w v : Walk) (p : Part) → removes w.removal ≡ false → v ≡ after_part (within w) p → v ≡ after_section w p
-after_kept w v p h e =
-    let step : inside w.removal ≡ past 1 w.removal = rw h refl in
-    let on : (after_part (within w) p).removal ≡ past (part_items p + 1) w.removal =
-    part_removal (within w) p ∙ ap (past (part_items p)) step ∙ past_step w.removal (part_items p) in
-    e ∙ ap (λ r. record (after_part (within w) p) { removal = r }) on
+after_kept w v p h e = grind (arith, part_removal, past_step)

@@ -1,9 +1,9 @@
 -- What entries become, if they remain.
-use Rattle.std.proofs.Common.{◌≡◌, ℕ, ◌≤◌, Bool, true, false, List, [], ◌∷◌, ◌++◌, Option, None, Some, length, map, ap, sym, refl, subst, ◌∙◌, arith}
+use Rattle.std.proofs.Common.{◌≡◌, ℕ, ◌≤◌, true, List, [], ◌∷◌, ◌++◌, Option, None, Some, length, map, ap, sym, refl, subst, ◌∙◌, arith}
 use Rattle.std.proofs.lemmas.List.{map-id}
-use Rattle.std.specs.Prelude.{if◌then◌else◌}
 use Rattle.std.specs.List.{AllByRecursion}
 use Rattle.std.specs.Option.{option_map, option_to_list}
+use Rattle.smith_input.specs.Kebab.{Kebab}
 use Rattle.smith_format.specs.CoreTypes.{Function}
 use Rattle.smith_syntax.specs.Entries.{Case, CoreEntry, DefValType, Entry, Field, Signature, function}
 use Rattle.smith_syntax.specs.Entries.{primitive_type, record_type, variant_type, list_type, tuple_type, option_type, result_type}
@@ -15,13 +15,14 @@ use Rattle.smith_syntax.specs.declared.types.ComponentValType.{ComponentValType}
 use Rattle.smith_syntax.specs.declared.types.ComponentValType.TheVariants.{Primitive, Indexed}
 use Rattle.smith_edit.specs.Edited.{case_edited, defined_edited, field_edited, left_of, members, optional_edited, value_edited}
 use Rattle.smith_edit.specs.Removal.{past, removes}
-use Rattle.smith_edit.specs.Renumbering.{Renumbering, new_index}
+use Rattle.smith_edit.specs.Renumbering.{Renumbering}
 use Rattle.smith_edit.specs.declared.removal.Removal.{Removal}
 use Rattle.smith_edit.specs.declared.renumbering.Fate.{Fate}
 use Rattle.smith_edit.specs.declared.renumbering.Fate.TheVariants.{Kept}
 use Rattle.smith_edit.specs.declared.scope.Scope.{Scope as Spaces}
-use Rattle.smith_edit.proofs.Fewer.{members_fewer}
+use Rattle.smith_edit.proofs.Fewer.{left_is, members_fewer}
 use Rattle.smith_edit.proofs.Follows.{Follows, index_follows}
+use Rattle.smith_edit.proofs.Perhaps.{Perhaps, either, gives, mapped, more, nothing}
 use Rattle.smith_edit.proofs.Sublists.{Sub, keep, named_sub, none, skip}
 
 -- A type remains of its kind.
@@ -48,155 +49,87 @@ pub record ScopeFollows (s : Spaces) (old new : Scope) : Type 0 where
   pub types : Follows Alike s.types old.types new.types
   pub core_types : Follows AlikeCore s.core_types old.core_types new.core_types
 
--- what is mapped, if it is there
-pub from_map : {A B : Type 0} (f : A → B) (o : Option A) (y : B) → option_map f o ≡ Some y → (x : A) × (o ≡ Some x) × (f x ≡ y)
-from_map f None y e = absurd cc
-from_map f (Some x) y e = (x, refl, cc)
-
 -- members
 
-module _ {A : Type 0} (edited : A → Option A) where
-  first_all : (Q : A → Type 0) (b : Bool) (o : Option A) → ((y : A) → o ≡ Some y → Q y) → (ys : List A) → AllByRecursion Q ys
-      → AllByRecursion Q ((if b then [] else option_to_list o) ++ ys)
-  first_all Q true o h ys all = all
-  first_all Q false None h ys all = all
-  first_all Q false (Some y) h ys all = (h y refl, all)
+module _ {A N : Type 0} (edited : A → Option A) (name : A → N) (P Q : A → Type 0)
+    (each : (x : A) → P x → Perhaps (λ y. (name y ≡ name x) × Q y) (edited x)) where
+  first_formed : {o : Option A} (n : N) → Perhaps (λ y. (name y ≡ n) × Q y) o → (ys : List A) (ns : List N)
+      → Sub (map name ys) ns × AllByRecursion Q ys
+      → Sub (map name (option_to_list o ++ ys)) (n ∷ ns) × AllByRecursion Q (option_to_list o ++ ys)
+  first_formed n (nothing why) ys ns h = (skip n (map name ys) ns h.0, h.1)
+  first_formed n (gives y k) ys ns h = (subst (λ m. Sub (m ∷ map name ys) (n ∷ ns)) (sym k.0) (keep n (map name ys) ns h.0), (k.1, h.1))
 
-  pub members_all : (P Q : A → Type 0) → ((x y : A) → P x → edited x ≡ Some y → Q y) → (r : Removal) (xs : List A) → AllByRecursion P xs
-      → AllByRecursion Q (members edited r xs)
-  members_all P Q h r [] all = tt
-  members_all P Q h r (x ∷ xs) all =
-      first_all Q (removes r) (edited x) (λ y e. h x y all.0 e) (members edited (past 1 r) xs) (members_all P Q h (past 1 r) xs all.1)
-
-  first_sub : {N : Type 0} (name : A → N) (b : Bool) (o : Option A) (n : N) → ((y : A) → o ≡ Some y → name y ≡ n) → (ys : List A) (ns : List N)
-      → Sub (map name ys) ns → Sub (map name ((if b then [] else option_to_list o) ++ ys)) (n ∷ ns)
-  first_sub name true o n h ys ns s = skip n (map name ys) ns s
-  first_sub name false None n h ys ns s = skip n (map name ys) ns s
-  first_sub name false (Some y) n h ys ns s = subst (λ m. Sub (m ∷ map name ys) (n ∷ ns)) (sym (h y refl)) (keep n (map name ys) ns s)
-
-  pub members_sub : {N : Type 0} (name : A → N) → ((x y : A) → edited x ≡ Some y → name y ≡ name x) → (r : Removal) (xs : List A)
-      → Sub (map name (members edited r xs)) (map name xs)
-  members_sub name h r [] = none
-  members_sub name h r (x ∷ xs) =
-      first_sub name (removes r) (edited x) (name x) (h x) (members edited (past 1 r) xs) (map name xs) (members_sub name h (past 1 r) xs)
-
-pub left_is : {A : Type 0} (old new z : List A) → left_of old new ≡ Some z → z ≡ new
-left_is [] new z e = cc
-left_is (x ∷ xs) [] z e = absurd cc
-left_is (x ∷ xs) (y ∷ ys) z e = cc
-
-pub left_some : {A : Type 0} (old new z : List A) → 1 ≤ length old → left_of old new ≡ Some z → 1 ≤ length z
-left_some [] new z h e = absurd (omega (arith, h))
-left_some (x ∷ xs) [] z h e = absurd cc
-left_some (x ∷ xs) (y ∷ ys) z h e = let is : y ∷ ys ≡ z = cc in let n = ap length is in omega (arith, n)
+  pub members_formed : (r : Removal) (xs : List A) → AllByRecursion P xs
+      → Sub (map name (members edited r xs)) (map name xs) × AllByRecursion Q (members edited r xs)
+  members_formed r [] all = (none, tt)
+  members_formed r (x ∷ xs) all =
+      first_formed (name x) (either (removes r) (nothing tt) (each x all.0)) (members edited (past 1 r) xs) (map name xs)
+      (members_formed (past 1 r) xs all.1)
 
 -- values
 
 module _ (s : Renumbering) (own next : Scope) (follows : Follows Alike s own.types next.types) where
-  pub formed_value : (v w : ComponentValType) → FormedVal own v → value_edited s v ≡ Some w → FormedVal next w
-  formed_value (Primitive p) w h e = let is : Primitive p ≡ w = cc in subst (FormedVal next) is tt
-  formed_value (Indexed i) w h e =
-      let (j, at, is) = from_map Indexed (new_index s i) w e in
-      let (f, y, there, alike) = index_follows Alike s own.types next.types follows i j h.0 h.1 at in
-      subst (FormedVal next) is (y, there, alike.of_values ∙ h.2)
+  pub formed_value : (v : ComponentValType) → FormedVal own v → Perhaps (FormedVal next) (value_edited s v)
+  formed_value (Primitive p) h = gives (Primitive p) tt
+  formed_value (Indexed i) h =
+      mapped Indexed (λ j f. (f.1, f.2, f.3.of_values ∙ h.2)) (index_follows Alike s own.types next.types follows i h.0 h.1)
 
-  formed_field : (f g : Field) → FormedVal own f.1 → field_edited s f ≡ Some g → FormedVal next g.1
-  formed_field f g h e =
-      let (w, at, is) = from_map (λ v. (f.0, v)) (value_edited s f.1) g e in
-      subst (λ (x : Field). FormedVal next x.1) is (formed_value f.1 w h at)
+  formed_field : (f : Field) → FormedVal own f.1 → Perhaps (λ g. (g.0 ≡ f.0) × FormedVal next g.1) (field_edited s f)
+  formed_field f h = mapped (λ v. (f.0, v)) (λ v k. (refl, k)) (formed_value f.1 h)
 
-  pub field_name : (f g : Field) → field_edited s f ≡ Some g → g.0 ≡ f.0
-  field_name f g e = let (w, at, is) = from_map (λ v. (f.0, v)) (value_edited s f.1) g e in ap (λ (x : Field). x.0) (sym is)
+  formed_case : (c : Case) → FormedMaybe own c.1 → Perhaps (λ d. (d.0 ≡ c.0) × FormedMaybe next d.1) (case_edited s c)
+  formed_case (name, None) h = gives (name, None) (refl, tt)
+  formed_case (name, Some v) h = mapped (λ w. (name, Some w)) (λ w k. (refl, k)) (formed_value v h)
 
-  case_by : (name : List ℕ) (o : Option ComponentValType) (d : Case) → FormedMaybe own o → case_edited s (name, o) ≡ Some d → FormedMaybe next d.1
-  case_by name None d h e = let is : (name, None) ≡ d = cc in subst (λ (x : Case). FormedMaybe next x.1) is tt
-  case_by name (Some v) d h e =
-      let (w, at, is) = from_map (λ x. (name, Some x)) (value_edited s v) d e in
-      subst (λ (x : Case). FormedMaybe next x.1) is (formed_value v w h at)
-
-  case_name_by : (name : List ℕ) (o : Option ComponentValType) (d : Case) → case_edited s (name, o) ≡ Some d → d.0 ≡ name
-  case_name_by name None d e = let is : (name, None) ≡ d = cc in ap (λ (x : Case). x.0) (sym is)
-  case_name_by name (Some v) d e = let (w, at, is) = from_map (λ x. (name, Some x)) (value_edited s v) d e in ap (λ (x : Case). x.0) (sym is)
-
-  maybe_by : (o : Option ComponentValType) → ((w : ComponentValType) → o ≡ Some w → FormedVal next w) → FormedMaybe next o
-  maybe_by None h = tt
-  maybe_by (Some w) h = h w refl
-
-  optional_by : (b : Bool) (o : Option ComponentValType) → FormedMaybe next o → FormedMaybe next (if b then None else o)
-  optional_by true o h = tt
-  optional_by false o h = h
+  maybe_by : {o : Option ComponentValType} → Perhaps (FormedVal next) o → FormedMaybe next o
+  maybe_by (nothing why) = tt
+  maybe_by (gives w h) = h
 
   pub formed_optional : (r : Removal) (o : Option ComponentValType) → FormedMaybe own o → FormedMaybe next (optional_edited s r o)
   formed_optional r None h = tt
-  formed_optional r (Some v) h = optional_by (removes r) (value_edited s v) (maybe_by (value_edited s v) (λ w e. formed_value v w h e))
+  formed_optional r (Some v) h = maybe_by (either (removes r) (nothing tt) (formed_value v h))
 
   pub formed_fields : (r : Removal) (fs : List Field) → AllByRecursion (λ f. FormedVal own f.1) fs
-      → AllByRecursion (λ f. FormedVal next f.1) (members (field_edited s) r fs)
-  formed_fields r fs all = members_all (field_edited s) (λ f. FormedVal own f.1) (λ f. FormedVal next f.1) formed_field r fs all
+      → Sub (map (λ f. f.0) (members (field_edited s) r fs)) (map (λ f. f.0) fs)
+      × AllByRecursion (λ f. FormedVal next f.1) (members (field_edited s) r fs)
+  formed_fields = members_formed (field_edited s) (λ f. f.0) (λ f. FormedVal own f.1) (λ f. FormedVal next f.1) formed_field
 
-  pub fields_sub : (r : Removal) (fs : List Field) → Sub (map (λ f. f.0) (members (field_edited s) r fs)) (map (λ f. f.0) fs)
-  fields_sub r fs = members_sub (field_edited s) (λ f. f.0) field_name r fs
+  -- the members of a compound type, of which at most that many may be there
+  compound : {A : Type 0} (type : List A → DefValType) (edited : A → Option A) (Q : List A → Type 0) (r : Removal) (xs : List A) (n : ℕ)
+      → (1 ≤ length xs) × (length xs ≤ n) → Q (members edited r xs)
+      → ((z : List A) → Q z → (1 ≤ length z) × (length z ≤ n) → FormedDefined (type z) next)
+      → Perhaps (λ u. FormedDefined u next) (option_map type (left_of xs (members edited r xs)))
+  compound type edited Q r xs n h all make =
+      mapped type
+      (λ z k.
+      let same = ap length k.0 in
+      make z (subst Q (sym k.0) all) (k.1 h.0, omega (arith, h.1, same, members_fewer edited r xs)))
+      (left_is xs (members edited r xs))
 
-  -- how many are left
-  most : {A : Type 0} (edited : A → Option A) (r : Removal) (xs z : List A) (n : ℕ) → length xs ≤ n → z ≡ members edited r xs → length z ≤ n
-  most edited r xs z n h is = let same = ap length is in omega (arith, h, same, members_fewer edited r xs)
+  formed_labels : (type : List (List ℕ) → DefValType) (n : ℕ)
+      → ((ns : List (List ℕ)) → Named ns × (1 ≤ length ns) × (length ns ≤ n) → FormedDefined (type ns) next)
+      → (r : Removal) (ns : List (List ℕ)) → Named ns × (1 ≤ length ns) × (length ns ≤ n)
+      → Perhaps (λ u. FormedDefined u next) (option_map type (left_of ns (members Some r ns)))
+  formed_labels type n make r ns h =
+      let kept = members_formed Some (λ m. m) Kebab Kebab (λ m k. gives m (refl, k)) r ns h.0.0 in
+      let sub = subst (λ xs. Sub xs ns) (map-id (members Some r ns)) (subst (λ xs. Sub (map (λ m. m) (members Some r ns)) xs) (map-id ns) kept.0) in
+      compound type Some Named r ns n (h.1, h.2) (named_sub (members Some r ns) ns sub h.0) (λ z named long. make z (named, long.0, long.1))
 
-  formed_record : (r : Removal) (fs z : List Field) → FormedDefined (record_type fs) own → left_of fs (members (field_edited s) r fs) ≡ Some z
-      → FormedDefined (record_type z) next
-  formed_record r fs z h e =
-      let new = members (field_edited s) r fs in
-      let is : z ≡ new = left_is fs new z e in (
-        subst (λ (x : List Field). Named (map (λ f. f.0) x)) (sym is) (named_sub _ _ (fields_sub r fs) h.0),
-        subst (AllByRecursion (λ f. FormedVal next f.1)) (sym is) (formed_fields r fs h.1),
-        left_some fs new z h.2 e,
-        most (field_edited s) r fs z 100 h.3 is,
-      )
-
-  formed_variant : (r : Removal) (cs z : List Case) → FormedDefined (variant_type cs) own → left_of cs (members (case_edited s) r cs) ≡ Some z
-      → FormedDefined (variant_type z) next
-  formed_variant r cs z h e =
-      let new = members (case_edited s) r cs in
-      let is : z ≡ new = left_is cs new z e in (
-        subst (λ (x : List Case). Named (map (λ c. c.0) x)) (sym is)
-            (named_sub _ _ (members_sub (case_edited s) (λ c. c.0) (λ c d at. case_name_by c.0 c.1 d at) r cs) h.0),
-        subst (AllByRecursion (λ c. FormedMaybe next c.1)) (sym is)
-            (members_all (case_edited s) (λ c. FormedMaybe own c.1) (λ c. FormedMaybe next c.1) (λ c d p at. case_by c.0 c.1 d p at) r cs h.1),
-        left_some cs new z h.2 e,
-        most (case_edited s) r cs z 100 h.3 is,
-      )
-
-  formed_tuple : (r : Removal) (vs z : List ComponentValType) → FormedDefined (tuple_type vs) own → left_of vs (members (value_edited s) r vs) ≡ Some z
-      → FormedDefined (tuple_type z) next
-  formed_tuple r vs z h e =
-      let new = members (value_edited s) r vs in
-      let is : z ≡ new = left_is vs new z e in (
-        subst (AllByRecursion (FormedVal next)) (sym is) (members_all (value_edited s) (FormedVal own) (FormedVal next) formed_value r vs h.0),
-        left_some vs new z h.1 e,
-        most (value_edited s) r vs z 100 h.2 is,
-      )
-
-  some_name : (x y : List ℕ) → Some x ≡ Some y → y ≡ x
-  some_name x y e = cc
-
-  names_sub : (r : Removal) (ns : List (List ℕ)) → Sub (members Some r ns) ns
-  names_sub r ns = subst (λ xs. Sub xs ns) (map-id (members Some r ns))
-      (subst (λ xs. Sub (map (λ n. n) (members Some r ns)) xs) (map-id ns) (members_sub Some (λ n. n) some_name r ns))
-
-  formed_names : (r : Removal) (ns z : List (List ℕ)) (n : ℕ) → Named ns × (1 ≤ length ns) × (length ns ≤ n) → left_of ns (members Some r ns) ≡ Some z
-      → Named z × (1 ≤ length z) × (length z ≤ n)
-  formed_names r ns z n h e =
-      let new = members Some r ns in
-      let is : z ≡ new = left_is ns new z e in
-      (subst Named (sym is) (named_sub _ _ (names_sub r ns) h.0), left_some ns new z h.1 e, most Some r ns z n h.2 is)
-
-  pub formed_defined : (r : Removal) (t u : DefValType) → FormedDefined t own → defined_edited s r t ≡ Some u → FormedDefined u next
-  formed_defined r (primitive_type p) u h e = let is : primitive_type p ≡ u = cc in subst (λ x. FormedDefined x next) is tt
-  formed_defined r (record_type fs) u h e = let (z, at, is) = from_map record_type _ u e in subst (λ x. FormedDefined x next) is (formed_record r fs z h at)
-  formed_defined r (variant_type cs) u h e = let (z, at, is) = from_map variant_type _ u e in subst (λ x. FormedDefined x next) is (formed_variant r cs z h at)
-  formed_defined r (list_type v) u h e = let (w, at, is) = from_map list_type _ u e in subst (λ x. FormedDefined x next) is (formed_value v w h at)
-  formed_defined r (tuple_type vs) u h e = let (z, at, is) = from_map tuple_type _ u e in subst (λ x. FormedDefined x next) is (formed_tuple r vs z h at)
-  formed_defined r (option_type v) u h e = let (w, at, is) = from_map option_type _ u e in subst (λ x. FormedDefined x next) is (formed_value v w h at)
-  formed_defined r (result_type ok err) u h e =
-      let is : result_type (optional_edited s r ok) (optional_edited s (past (length (option_to_list ok)) r) err) ≡ u = cc in
-      subst (λ x. FormedDefined x next) is (formed_optional r ok h.0, formed_optional (past (length (option_to_list ok)) r) err h.1)
-  formed_defined r t u h e = let (z, at, is) = from_map _ _ u e in subst (λ x. FormedDefined x next) is (formed_names r _ z _ h at)
+  pub formed_defined : (r : Removal) (t : DefValType) → FormedDefined t own → Perhaps (λ u. FormedDefined u next) (defined_edited s r t)
+  formed_defined r (primitive_type p) h = gives (primitive_type p) tt
+  formed_defined r (record_type fs) h =
+      let kept = formed_fields r fs h.1 in
+      compound record_type (field_edited s) (λ z. Named (map (λ f. f.0) z) × AllByRecursion (λ f. FormedVal next f.1) z) r fs 100 (h.2, h.3)
+      (named_sub _ _ kept.0 h.0, kept.1) (λ z all long. (all.0, all.1, long.0, long.1))
+  formed_defined r (variant_type cs) h =
+      let kept = members_formed (case_edited s) (λ c. c.0) (λ c. FormedMaybe own c.1) (λ c. FormedMaybe next c.1) formed_case r cs h.1 in
+      compound variant_type (case_edited s) (λ z. Named (map (λ c. c.0) z) × AllByRecursion (λ c. FormedMaybe next c.1) z) r cs 100 (h.2, h.3)
+      (named_sub _ _ kept.0 h.0, kept.1) (λ z all long. (all.0, all.1, long.0, long.1))
+  formed_defined r (list_type v) h = mapped list_type (λ w k. k) (formed_value v h)
+  formed_defined r (tuple_type vs) h =
+      let kept = members_formed (value_edited s) (λ v. tt {0}) (FormedVal own) (FormedVal next) (λ v k. more (λ w l. (refl, l)) (formed_value v k)) r vs h.0 in
+      compound tuple_type (value_edited s) (AllByRecursion (FormedVal next)) r vs 100 (h.1, h.2) kept.1 (λ z all long. (all, long.0, long.1))
+  formed_defined r (option_type v) h = mapped option_type (λ w k. k) (formed_value v h)
+  formed_defined r (result_type ok err) h =
+      gives _ (formed_optional r ok h.0, formed_optional (past (length (option_to_list ok)) r) err h.1)
+  formed_defined r t h = formed_labels _ _ (λ ms k. k) r _ h

@@ -13,7 +13,7 @@ use Rattle.smith_edit.specs.Walk.{Walk, skipped}
 use Rattle.smith_edit.specs.declared.removal.Removal.{Removal}
 use Rattle.smith_edit.specs.declared.scope.Scope.{Scope}
 use Rattle.smith_edit.proofs.InTurn.{InRow, prepend, prepend_all}
-use Rattle.smith_edit.proofs.Lists.{map_drop, map_dropped, map_more}
+use Rattle.smith_edit.proofs.Sublists.{map_drop, map_dropped, map_more}
 use Rattle.smith_edit.proofs.Past.{past_none, past_past}
 use Rattle.smith_edit.proofs.SimplerRows.{decl_row, part_row}
 

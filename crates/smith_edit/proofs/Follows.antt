@@ -1,13 +1,14 @@
 -- Index spaces, and what they become.
-use Rattle.std.proofs.Common.{◌≡◌, ℕ, zero, suc, ◌<◌, List, [], ◌∷◌, ◌++◌, Option, None, Some, length, length-append, ap, sym, refl, subst, ◌∙◌, arith}
+use Rattle.std.proofs.Common.{◌≡◌, ℕ, zero, suc, ◌<◌, List, [], ◌∷◌, ◌++◌, Option, Some, length, length-append, ap, sym, refl, subst, arith}
 use Rattle.std.proofs.Common.{⊎_elim, append-nil}
 use Rattle.std.proofs.lemmas.Option.{slice_get_within}
 use Rattle.std.specs.Prelude.{slice_get}
-use Rattle.smith_edit.specs.Renumbering.{Renumbering, entry_at, kept_index, new_index, with_entry}
+use Rattle.smith_edit.specs.Renumbering.{Renumbering, entry_at, index_kept, index_left, kept_index, new_index, with_entry}
 use Rattle.smith_edit.specs.declared.renumbering.Fate.{Fate}
-use Rattle.smith_edit.specs.declared.renumbering.Fate.TheVariants.{Kept, Changed, Removed}
+use Rattle.smith_edit.specs.declared.renumbering.Fate.TheVariants.{Kept, Removed}
 use Rattle.smith_edit.specs.declared.renumbering.Renumbered.{Renumbered}
 use Rattle.smith_edit.proofs.LowIndexes.{entry_or, get_more}
+use Rattle.smith_edit.proofs.Perhaps.{Perhaps, gives, nothing}
 
 pub get_still : {A : Type 0} (xs ys : List A) (i : ℕ) (x : A) → slice_get xs i ≡ Some x → slice_get (xs ++ ys) i ≡ Some x
 get_still [] ys i x h = absurd cc
@@ -58,31 +59,31 @@ module _ {A : Type 0} (Rel : Fate → A → A → Type 0) where
 
   -- an index of what is there
 
-  index_by : (f : Fate) (i j : ℕ) (x : A) (new : List A) → Stays f i x new → elim f [ Kept ↦ Some i | Changed ↦ Some i | Removed ↦ None ] ≡ Some j
-      → (g : Fate) × (y : A) × (slice_get new j ≡ Some y) × Rel g x y
-  index_by Removed i j x new h e = absurd cc
-  index_by f i j x new h e = let is : i ≡ j = cc in (f, h.0, subst (λ k. slice_get new k ≡ Some h.0) is h.1, h.2)
+  abbrev pub Becomes : List A → A → ℕ → Type 0
+  Becomes new x j = (g : Fate) × (y : A) × (slice_get new j ≡ Some y) × Rel g x y
 
-  kept_by : (f : Fate) (i j : ℕ) (x : A) (new : List A) → Stays f i x new → elim f [ Kept ↦ Some i | Changed ↦ None | Removed ↦ None ] ≡ Some j
-      → (y : A) × (slice_get new j ≡ Some y) × Rel Kept x y
-  kept_by Kept i j x new h e = let is : i ≡ j = cc in (h.0, subst (λ k. slice_get new k ≡ Some h.0) is h.1, h.2)
-  kept_by f i j x new h e = absurd cc
+  index_by : (f : Fate) (i : ℕ) (x : A) (new : List A) → Stays f i x new → Perhaps (Becomes new x) (index_left (record { index = i; fate = f }))
+  index_by Removed i x new h = nothing tt
+  index_by f i x new h = gives i (f, h.0, h.1, h.2)
 
-  pub index_follows : (s : Renumbering) (old new : List A) → Follows s old new → (i j : ℕ) (x : A) → slice_get old i ≡ Some x → new_index s i ≡ Some j
-      → (g : Fate) × (y : A) × (slice_get new j ≡ Some y) × Rel g x y
-  index_follows s old new f i j x at e =
+  pub index_follows : (s : Renumbering) (old new : List A) → Follows s old new → (i : ℕ) (x : A) → slice_get old i ≡ Some x
+      → Perhaps (Becomes new x) (new_index s i)
+  index_follows s old new f i x at =
       let (r, is) = get_other old s.entries i x f.count at in
-      let same : elim r.fate [ Kept ↦ Some r.index | Changed ↦ Some r.index | Removed ↦ None ] ≡ Some j =
-      ap (λ (q : Renumbered). elim q.fate [ Kept ↦ Some q.index | Changed ↦ Some q.index | Removed ↦ None ]) (sym (entry_there s i r is)) ∙ e in
-      index_by r.fate r.index j x new (f.found i x r at is) same
+      subst (λ q. Perhaps (Becomes new x) (index_left q)) (sym (entry_there s i r is)) (index_by r.fate r.index x new (f.found i x r at is))
 
-  pub kept_follows : (s : Renumbering) (old new : List A) → Follows s old new → (i j : ℕ) (x : A) → slice_get old i ≡ Some x → kept_index s i ≡ Some j
-      → (y : A) × (slice_get new j ≡ Some y) × Rel Kept x y
-  kept_follows s old new f i j x at e =
+  abbrev pub Remains : List A → A → ℕ → Type 0
+  Remains new x j = (y : A) × (slice_get new j ≡ Some y) × Rel Kept x y
+
+  kept_by : (f : Fate) (i : ℕ) (x : A) (new : List A) → Stays f i x new → Perhaps (Remains new x) (index_kept (record { index = i; fate = f }))
+  kept_by Kept i x new h = gives i h
+  kept_by f i x new h = nothing tt
+
+  pub kept_follows : (s : Renumbering) (old new : List A) → Follows s old new → (i : ℕ) (x : A) → slice_get old i ≡ Some x
+      → Perhaps (Remains new x) (kept_index s i)
+  kept_follows s old new f i x at =
       let (r, is) = get_other old s.entries i x f.count at in
-      let same : elim r.fate [ Kept ↦ Some r.index | Changed ↦ None | Removed ↦ None ] ≡ Some j =
-      ap (λ (q : Renumbered). elim q.fate [ Kept ↦ Some q.index | Changed ↦ None | Removed ↦ None ]) (sym (entry_there s i r is)) ∙ e in
-      kept_by r.fate r.index j x new (f.found i x r at is) same
+      subst (λ q. Perhaps (Remains new x) (index_kept q)) (sym (entry_there s i r is)) (kept_by r.fate r.index x new (f.found i x r at is))
 
   -- one more entry
 

@@ -1,5 +1,5 @@
 -- Components that are joined, which are well formed.
-use Rattle.std.proofs.Common.{◌≡◌, ℕ, List, [], ◌∷◌, ◌++◌, append-nil, append_assoc, fold, length, map, ap, sym, refl, subst, ◌∙◌}
+use Rattle.std.proofs.Common.{arith, ◌≡◌, ℕ, List, [], ◌∷◌, ◌++◌, append-nil, append_assoc, fold, length, map, ap, sym, refl, subst, ◌∙◌}
 use Rattle.std.proofs.lemmas.List.{map-append}
 use Rattle.std.specs.List.{AllByRecursion}
 use Rattle.smith_input.specs.Kebab.{Kebab}
@@ -7,9 +7,9 @@ use Rattle.smith_syntax.specs.Entries.{ImportEntry}
 use Rattle.smith_syntax.specs.Scope.{Scope}
 use Rattle.smith_syntax.specs.WellFormed.{Named}
 use Rattle.smith_tree.specs.Spaces.{Spaces, after_export, after_import, after_part as spaces_after, no_spaces, spaces_of}
-use Rattle.smith_tree.specs.Tree.{ExportEntry, Part, Tree, add, ends, exports_in, exports_of, first, imports_in, imports_of, parts_of, tree_of}
+use Rattle.smith_tree.specs.Tree.{ExportEntry, Part, Tree, add, ends, exports_in, exports_of, first, imports_in, imports_of, own, parts_of, tree_of}
 use Rattle.smith_tree.specs.Tree as part
-use Rattle.smith_tree.specs.WellFormed.{Formed, FormedExports, FormedImport, FormedPart, WellFormed, export_names, import_names, scope_of}
+use Rattle.smith_tree.specs.WellFormed.{Formed, FormedExports, FormedImport, FormedPart, WellFormed, export_names, import_names}
 use Rattle.smith_edit.specs.Edited.{after_part, part_edited, tree_edited}
 use Rattle.smith_edit.specs.Edits.{all_renamed, export_renamed, following, import_renamed, joined, moved, new_name, part_renamed, renamed}
 use Rattle.smith_edit.specs.Walk.{Walk}
@@ -46,21 +46,19 @@ exports_formed : (es : List ExportEntry) (ns : List (List ℕ)) (s : Spaces) →
 exports_formed [] ns s h = tt
 exports_formed (e ∷ es) ns s h = (h.0, exports_formed es (ns ++ new_name ns e.name ∷ []) (after_export s e) h.1)
 
-imports_spaces : (is : List ImportEntry) (ns : List (List ℕ)) (s : Spaces) → fold after_import s (all_renamed (λ i. i.name) import_renamed ns is)
-    ≡ fold after_import s is
-imports_spaces [] ns s = refl
-imports_spaces (i ∷ is) ns s = imports_spaces is (ns ++ new_name ns i.name ∷ []) (after_import s i)
-
-exports_spaces : (es : List ExportEntry) (ns : List (List ℕ)) (s : Spaces) → fold after_export s (all_renamed (λ e. e.name) export_renamed ns es)
-    ≡ fold after_export s es
-exports_spaces [] ns s = refl
-exports_spaces (e ∷ es) ns s = exports_spaces es (ns ++ new_name ns e.name ∷ []) (after_export s e)
+spaces_renamed : {A : Type 0} (name : A → List ℕ) (rename : A → List ℕ → A) (after : Spaces → A → Spaces)
+    → ((s : Spaces) (x : A) (n : List ℕ) → after s (rename x n) ≡ after s x) → (xs : List A) (ns : List (List ℕ)) (s : Spaces)
+    → fold after s (all_renamed name rename ns xs) ≡ fold after s xs
+spaces_renamed name rename after same [] ns s = refl
+spaces_renamed name rename after same (x ∷ xs) ns s =
+    let new : List ℕ = new_name ns (name x) in
+    ap (λ z. fold after z (all_renamed name rename (ns ++ new ∷ []) xs)) (same s x new) ∙ spaces_renamed name rename after same xs (ns ++ new ∷ []) (after s x)
 
 -- a section with new names
 
 renamed_spaces : (x : Part) (is es : List (List ℕ)) (s : Spaces) → spaces_after s (part_renamed is es x) ≡ spaces_after s x
-renamed_spaces (part.imports js) is es s = imports_spaces js is s
-renamed_spaces (part.exports fs) is es s = exports_spaces fs es s
+renamed_spaces (part.imports js) is es s = spaces_renamed (λ i. i.name) import_renamed after_import (λ z i n. refl) js is s
+renamed_spaces (part.exports fs) is es s = spaces_renamed (λ e. e.name) export_renamed after_export (λ z e n. refl) fs es s
 renamed_spaces p is es s = refl
 
 joined_names : {A : Type 0} (name : A → List ℕ) (before xs : List A) → Named (map name before ++ map name xs) → Named (map name (before ++ xs))
@@ -70,14 +68,8 @@ renamed_part : (x : Part) (before : Tree) → BarePart x [] before → AllByRecu
     → AllByRecursion Kebab (export_names (exports_in x))
     → Named (import_names (imports_of before)) → Named (export_names (exports_of before))
     → FormedPart (part_renamed (import_names (imports_of before)) (export_names (exports_of before)) x) [] before
-renamed_part (part.imports js) before b ki ke ni ne = (
-  imports_formed (scope_of before) js (import_names (imports_of before)) b,
-  joined_names (λ i. i.name) (imports_of before) _ (renamed_named (λ i. i.name) import_renamed (λ i text. refl) js (import_names (imports_of before)) ni ki),
-)
-renamed_part (part.exports fs) before b ki ke ni ne = (
-  exports_formed fs (export_names (exports_of before)) (spaces_of before) b,
-  joined_names (λ e. e.name) (exports_of before) _ (renamed_named (λ e. e.name) export_renamed (λ e text. refl) fs (export_names (exports_of before)) ne ke),
-)
+renamed_part (part.imports js) before b ki ke ni ne = grind (arith, imports_formed, joined_names, renamed_named)
+renamed_part (part.exports fs) before b ki ke ni ne = grind (arith, exports_formed, joined_names, renamed_named)
 renamed_part p before b ki ke ni ne = b
 
 -- the names of a component that is well formed
@@ -89,42 +81,36 @@ all_later (x ∷ xs) ys h = all_later xs ys h.1
 later_kebab : {A : Type 0} (name : A → List ℕ) (before xs : List A) → Named (map name (before ++ xs)) → AllByRecursion Kebab (map name xs)
 later_kebab name before xs h = all_later (map name before) (map name xs) (subst (AllByRecursion Kebab) (map-append name before xs) h.0)
 
-import_kebab : (p : Part) (outer : List Scope) (before : Tree) → FormedPart p outer before → AllByRecursion Kebab (import_names (imports_in p))
-import_kebab (part.imports is) outer before h = later_kebab (λ i. i.name) (imports_of before) is h.1
-import_kebab p outer before h = tt
-
-export_kebab : (p : Part) (outer : List Scope) (before : Tree) → FormedPart p outer before → AllByRecursion Kebab (export_names (exports_in p))
-export_kebab (part.exports es) outer before h = later_kebab (λ e. e.name) (exports_of before) es h.1
-export_kebab p outer before h = tt
+part_kebab : (p : Part) (outer : List Scope) (before : Tree) → FormedPart p outer before
+    → AllByRecursion Kebab (import_names (imports_in p)) × AllByRecursion Kebab (export_names (exports_in p))
+part_kebab (part.imports is) outer before h = (later_kebab (λ i. i.name) (imports_of before) is h.1, tt)
+part_kebab (part.exports es) outer before h = (tt, later_kebab (λ e. e.name) (exports_of before) es h.1)
+part_kebab p outer before h = (tt, tt)
 
 same_names : {A : Type 0} (name : A → List ℕ) (xs : List A) → Named (map name xs) → Named (map name (xs ++ []))
 same_names name xs h = subst (λ ys. Named (map name ys)) (sym (append-nil xs)) h
-
-imports_named : (p : Part) (outer : List Scope) (before : Tree) → FormedPart p outer before → Named (import_names (imports_of before))
-    → Named (import_names (imports_of before ++ imports_in p))
-imports_named (part.imports is) outer before h n = h.1
-imports_named p outer before h n = same_names (λ i. i.name) (imports_of before) n
-
-exports_named : (p : Part) (outer : List Scope) (before : Tree) → FormedPart p outer before → Named (export_names (exports_of before))
-    → Named (export_names (exports_of before ++ exports_in p))
-exports_named (part.exports es) outer before h n = h.1
-exports_named p outer before h n = same_names (λ e. e.name) (exports_of before) n
 
 record BothNamed (before : Tree) : Type 0 where
   pub of_imports : Named (import_names (imports_of before))
   pub of_exports : Named (export_names (exports_of before))
 
+part_named : (p : Part) (outer : List Scope) (before : Tree) → FormedPart p outer before → BothNamed before
+    → Named (import_names (imports_of before ++ imports_in p)) × Named (export_names (exports_of before ++ exports_in p))
+part_named (part.imports is) outer before h n = (h.1, same_names (λ e. e.name) (exports_of before) n.of_exports)
+part_named (part.exports es) outer before h n = (same_names (λ i. i.name) (imports_of before) n.of_imports, h.1)
+part_named p outer before h n = (same_names (λ i. i.name) (imports_of before) n.of_imports, same_names (λ e. e.name) (exports_of before) n.of_exports)
+
 named_after : (p : Part) (outer : List Scope) (before : Tree) → FormedPart p outer before → BothNamed before → BothNamed (add before p)
-named_after p outer before h n = record {
-  of_imports = subst (λ xs. Named (import_names xs)) (sym (own_added imports_in before p)) (imports_named p outer before h n.of_imports);
-  of_exports = subst (λ xs. Named (export_names xs)) (sym (own_added exports_in before p)) (exports_named p outer before h n.of_exports);
-}
+named_after p outer before h n =
+    let names = part_named p outer before h n in
+    record {
+      of_imports = subst (λ xs. Named (import_names xs)) (sym (own_added imports_in before p)) names.0;
+      of_exports = subst (λ xs. Named (export_names xs)) (sym (own_added exports_in before p)) names.1;
+    }
 
-import_names_after : (before : Tree) (p : Part) → import_names (imports_of (add before p)) ≡ import_names (imports_of before) ++ import_names (imports_in p)
-import_names_after before p = ap import_names (own_added imports_in before p) ∙ map-append (λ i. i.name) (imports_of before) (imports_in p)
-
-export_names_after : (before : Tree) (p : Part) → export_names (exports_of (add before p)) ≡ export_names (exports_of before) ++ export_names (exports_in p)
-export_names_after before p = ap export_names (own_added exports_in before p) ∙ map-append (λ e. e.name) (exports_of before) (exports_in p)
+names_after : {A : Type 0} (name : A → List ℕ) (of : Part → List A) (before : Tree) (p : Part)
+    → map name (own of (add before p)) ≡ map name (own of before) ++ map name (of p)
+names_after name of before p = ap (map name) (own_added of before p) ∙ map-append name (own of before) (of p)
 
 -- the second component, after the first
 
@@ -140,18 +126,18 @@ moved_formed (first p t) w before before2 f r o h n =
     let v : Walk = after_part w p in
     let none : ScopesFollow w.outer [] [] = subst (λ ss. ScopesFollow ss [] []) (sym o) no_scopes in
     let (bare, follows) = part_bare p w before before2 [] [] f none h.0 in
+    let kebab = part_kebab p [] before h.0 in
     let formed : FormedPart q [] before2 =
-    renamed_part x before2 bare (sub_all Kebab _ _ (part_imports p w) (import_kebab p [] before h.0))
-    (sub_all Kebab _ _ (part_exports p w) (export_kebab p [] before h.0))
-    n.of_imports n.of_exports in
+    renamed_part x before2 bare (sub_all Kebab _ _ (part_imports p w) kebab.0) (sub_all Kebab _ _ (part_exports p w) kebab.1) n.of_imports n.of_exports in
     let here : PlaceFollows v.own (spaces_of (add before p)) (spaces_of (add before2 q)) =
     subst (λ s. PlaceFollows v.own s (spaces_of (add before2 q))) (sym (spaces_added before p))
     (subst (PlaceFollows v.own (spaces_after (spaces_of before) p)) (sym (spaces_added before2 q ∙ renamed_spaces x is es (spaces_of before2))) follows) in
     let later : Formed (renamed (tree_edited t v) (import_names (imports_of (add before2 q))) (export_names (exports_of (add before2 q)))) [] (add before2 q) =
     moved_formed t v (add before p) (add before2 q) here (unremoved_after p w r) (part_outer w p ∙ o) h.1 (named_after q [] before2 formed n) in
     let rest : Formed (renamed (tree_edited t v) (is ++ import_names (imports_in q)) (es ++ export_names (exports_in q))) [] (add before2 q) =
-    subst (λ ns. Formed (renamed (tree_edited t v) ns (es ++ export_names (exports_in q))) [] (add before2 q)) (import_names_after before2 q)
-    (subst (λ ns. Formed (renamed (tree_edited t v) (import_names (imports_of (add before2 q))) ns) [] (add before2 q)) (export_names_after before2 q) later) in
+    subst (λ ns. Formed (renamed (tree_edited t v) ns (es ++ export_names (exports_in q))) [] (add before2 q)) (names_after (λ i. i.name) imports_in before2 q)
+    (subst (λ ns. Formed (renamed (tree_edited t v) (import_names (imports_of (add before2 q))) ns) [] (add before2 q))
+    (names_after (λ e. e.name) exports_in before2 q) later) in
     subst (λ u. Formed (renamed u is es) [] before2) (sym (unremoved_first p t w r)) (formed, rest)
 
 -- both

@@ -1,8 +1,9 @@
 -- Components that remain well formed.
-use Rattle.std.proofs.Common.{◌≡◌, ℕ, Bool, true, false, List, [], ◌∷◌, ◌++◌, Option, None, Some, append-nil, append_assoc, fold, map, ap, sym, refl, subst}
+use Rattle.std.proofs.Common.{arith, ◌≡◌, ℕ, Bool, true, false, List, [], ◌∷◌, ◌++◌, Option, Some, append-nil, append_assoc, fold, map, ap, sym, refl, subst}
 use Rattle.std.proofs.Common.{◌∙◌, nat_lt}
 use Rattle.std.proofs.lemmas.Grind.{flat_map-append}
 use Rattle.std.proofs.lemmas.List.{map-append}
+use Rattle.std.proofs.lemmas.Option.{cond_some}
 use Rattle.std.proofs.lemmas.List.Sums.{fold-append}
 use Rattle.std.specs.Prelude.{if◌then◌else◌}
 use Rattle.std.specs.List.{AllByRecursion, flat_map}
@@ -11,12 +12,12 @@ use Rattle.smith_syntax.specs.Entries.{CoreEntry, Entry, ImportEntry}
 use Rattle.smith_syntax.specs.Scope.{Scope}
 use Rattle.smith_syntax.specs.WellFormed.{FormedCores, FormedTypes}
 use Rattle.smith_tree.specs.Spaces.{Spaces, after_canon, after_export, after_import, after_part as spaces_after, no_spaces, spaces_of}
-use Rattle.smith_tree.specs.Tree.{Canon, ExportEntry, Part, Tree, add, ends, exports_in, exports_of, first, imports_in, imports_of, own, parts_of}
+use Rattle.smith_tree.specs.Tree.{ExportEntry, Part, Tree, add, ends, exports_in, exports_of, first, imports_in, imports_of, own, parts_of}
 use Rattle.smith_tree.specs.Tree as part
 use Rattle.smith_tree.specs.WellFormed.{Formed, FormedCanons, FormedExports, FormedImport, FormedPart, WellFormed, export_names, import_names, scope_of}
 use Rattle.smith_edit.specs.Edited.{after_canon as edit_canon, after_core, after_export as edit_export, after_import as edit_import, after_one, after_part}
 use Rattle.smith_edit.specs.Edited.{after_section, after_type, and_part}
-use Rattle.smith_edit.specs.Edited.{canon_edited, core_row, export_edited, import_edited, one, part_edited, ref_edited, rows, tree_edited, type_row, within}
+use Rattle.smith_edit.specs.Edited.{canon_edited, core_row, export_edited, import_edited, part_edited, ref_edited, rows, tree_edited, type_row, within}
 use Rattle.smith_edit.specs.Edits.{without}
 use Rattle.smith_edit.specs.Items.{core_items, entry_items, none_inside, tree_items}
 use Rattle.smith_edit.specs.Removal.{inside, past, removes}
@@ -25,13 +26,10 @@ use Rattle.smith_edit.specs.Walk.{Walk, entered, new_scope, skipped}
 use Rattle.smith_edit.specs.declared.removal.Removal.TheVariants.{Everything, Item}
 use Rattle.smith_edit.specs.declared.scope.Scope.{Scope as Indexes}
 use Rattle.smith_edit.proofs.AfterRows.{part_outer}
-use Rattle.smith_edit.proofs.Alike.{from_map}
-use Rattle.smith_edit.proofs.Fewer.{some_same}
-use Rattle.smith_edit.proofs.FormedCores.{one_is}
-use Rattle.smith_edit.proofs.FormedRows.{CanonOk, CoreOk, ExportOk, ImportOk, TypeOk, adds_core, adds_type, canon_gone, canon_stays, core_gone}
-use Rattle.smith_edit.proofs.FormedRows.{core_stays}
-use Rattle.smith_edit.proofs.FormedRows.{export_gone, export_stays, import_gone, import_stays, rows_formed, rows_nothing, type_gone, type_stays}
-use Rattle.smith_edit.proofs.FormedTypes.{ScopesFollow, no_scopes, then_scopes}
+use Rattle.smith_edit.proofs.FormedRows.{CanonOk, CoreOk, ExportOk, ImportOk, TypeOk, adds_core, adds_type, canons_remain, cores_remain, exports_remain}
+use Rattle.smith_edit.proofs.FormedRows.{imports_remain, rows_formed, rows_nothing, types_remain}
+use Rattle.smith_edit.proofs.FormedTypes.{ScopesFollow, no_scopes, some_index, then_scopes}
+use Rattle.smith_edit.proofs.Perhaps.{Perhaps, either, gives, mapped, nothing, whatever}
 use Rattle.smith_edit.proofs.Places.{PlaceFollows, nothing_yet, scope}
 use Rattle.smith_edit.proofs.Sublists.{Sub, keep, named_sub, none, nothing_of, skip, sub_append}
 
@@ -69,25 +67,23 @@ nothing_added p w s e = refl
 -- names
 
 module _ {A N : Type 0} (items : A → ℕ) (edited : Walk → A → Option A) (after : Indexes → A → Option A → Indexes) (name : A → N)
-    (kept : (w : Walk) (x y : A) → edited w x ≡ Some y → name y ≡ name x) where
-  name_then : (o : Option A) (n : N) → ((y : A) → o ≡ Some y → name y ≡ n) → (ys : List A) (ns : List N) → Sub (map name ys) ns
+    (kept : (w : Walk) (x : A) → Perhaps (λ y. name y ≡ name x) (edited w x)) where
+  name_then : {o : Option A} (n : N) → Perhaps (λ y. name y ≡ n) o → (ys : List A) (ns : List N) → Sub (map name ys) ns
       → Sub (map name (option_to_list o ++ ys)) (n ∷ ns)
-  name_then None n h ys ns s = skip n (map name ys) ns s
-  name_then (Some y) n h ys ns s = subst (λ m. Sub (m ∷ map name ys) (n ∷ ns)) (sym (h y refl)) (keep n (map name ys) ns s)
+  name_then n (nothing why) ys ns s = skip n (map name ys) ns s
+  name_then n (gives y is) ys ns s = subst (λ m. Sub (m ∷ map name ys) (n ∷ ns)) (sym is) (keep n (map name ys) ns s)
 
   rows_names : (xs : List A) (w : Walk) → Sub (map name (rows items edited after w xs)) (map name xs)
   rows_names [] w = none
   rows_names (x ∷ xs) w =
       let v : Walk = after_one items edited after w x in
-      name_then (one items edited after w x) (name x) (λ y e. kept (skipped 1 w) x y (one_is (removes w.removal) (edited (skipped 1 w) x) y e))
-      (rows items edited after v xs) (map name xs) (rows_names xs v)
+      name_then (name x) (either (removes w.removal) (nothing tt) (kept (skipped 1 w) x)) (rows items edited after v xs) (map name xs) (rows_names xs v)
 
-import_name : (w : Walk) (i x : ImportEntry) → import_edited w i ≡ Some x → x.name ≡ i.name
-import_name w i x e = let (r, at, is) = from_map (λ y. record i { to = y }) (ref_edited w.own i.to) x e in ap (λ (y : ImportEntry). y.name) (sym is)
+import_name : (w : Walk) (i : ImportEntry) → Perhaps (λ x. x.name ≡ i.name) (import_edited w i)
+import_name w i = mapped (λ r. record i { to = r }) (λ r h. refl) (whatever {P = λ r. Unit {0}} (ref_edited w.own i.to) (λ r. tt))
 
-export_name : (w : Walk) (i x : ExportEntry) → export_edited w i ≡ Some x → x.name ≡ i.name
-export_name w i x e = let (g, at, is) = from_map (λ f. record i { func = f }) (new_index w.own.functions i.func) x e in ap (λ (y : ExportEntry). y.name)
-    (sym is)
+export_name : (w : Walk) (e : ExportEntry) → Perhaps (λ x. x.name ≡ e.name) (export_edited w e)
+export_name w e = mapped (λ f. record e { func = f }) (λ f h. refl) (some_index (new_index w.own.functions e.func))
 
 pub record NamesFollow (before before2 : Tree) : Type 0 where
   pub of_imports : Sub (import_names (imports_of before2)) (import_names (imports_of before))
@@ -103,30 +99,28 @@ part_exports p w = none
 
 sub_names : {A : Type 0} (name : A → List ℕ) (as2 cs2 as1 cs1 : List A) → Sub (map name as2) (map name as1) → Sub (map name cs2) (map name cs1)
     → Sub (map name (as2 ++ cs2)) (map name (as1 ++ cs1))
-sub_names name as2 cs2 as1 cs1 s t =
-    subst (λ xs. Sub xs (map name (as1 ++ cs1))) (sym (map-append name as2 cs2))
-    (subst (Sub (map name as2 ++ map name cs2)) (sym (map-append name as1 cs1)) (sub_append (map name as2) (map name as1) (map name cs2) (map name cs1) s t))
+sub_names name as2 cs2 as1 cs1 s t = grind (arith, map-append, sub_append)
+
+module _ {A : Type 0} (name : A → List ℕ) (of : Part → List A) (before before2 : Tree) (p : Part)
+    (s : Sub (map name (own of before2)) (map name (own of before))) where
+  more_names : (q : Part) → Sub (map name (of q)) (map name (of p)) → Sub (map name (own of (add before2 q))) (map name (own of (add before p)))
+  more_names q t = rw (own_added of before2 q, own_added of before p) (sub_names name (own of before2) (of q) (own of before) (of p) s t)
+
+  fewer_names : Sub (map name (own of before2)) (map name (own of (add before p)))
+  fewer_names = rw (own_added of before p)
+      (subst (λ xs. Sub (map name xs) (map name (own of before ++ of p))) (append-nil (own of before2))
+      (sub_names name (own of before2) [] (own of before) (of p) s (nothing_of (map name (of p)))))
 
 names_kept : (before before2 : Tree) (p : Part) (w : Walk) → NamesFollow before before2 → NamesFollow (add before p) (add before2 (part_edited p w))
 names_kept before before2 p w n = record {
-  of_imports = subst (λ xs. Sub (import_names xs) (import_names (imports_of (add before p)))) (sym (own_added imports_in before2 (part_edited p w)))
-      (subst (λ xs. Sub (import_names (imports_of before2 ++ imports_in (part_edited p w))) (import_names xs)) (sym (own_added imports_in before p))
-      (sub_names (λ i. i.name) (imports_of before2) (imports_in (part_edited p w)) (imports_of before) (imports_in p) n.of_imports (part_imports p w)));
-  of_exports = subst (λ xs. Sub (export_names xs) (export_names (exports_of (add before p)))) (sym (own_added exports_in before2 (part_edited p w)))
-      (subst (λ xs. Sub (export_names (exports_of before2 ++ exports_in (part_edited p w))) (export_names xs)) (sym (own_added exports_in before p))
-      (sub_names (λ e. e.name) (exports_of before2) (exports_in (part_edited p w)) (exports_of before) (exports_in p) n.of_exports (part_exports p w)));
+  of_imports = more_names (λ i. i.name) imports_in before before2 p n.of_imports (part_edited p w) (part_imports p w);
+  of_exports = more_names (λ e. e.name) exports_in before before2 p n.of_exports (part_edited p w) (part_exports p w);
 }
-
-more_names : {A : Type 0} (name : A → List ℕ) (as2 as1 cs : List A) → Sub (map name as2) (map name as1) → Sub (map name as2) (map name (as1 ++ cs))
-more_names name as2 as1 cs s =
-    subst (λ xs. Sub (map name xs) (map name (as1 ++ cs))) (append-nil as2) (sub_names name as2 [] as1 cs s (nothing_of (map name cs)))
 
 names_removed : (before before2 : Tree) (p : Part) → NamesFollow before before2 → NamesFollow (add before p) before2
 names_removed before before2 p n = record {
-  of_imports = subst (λ xs. Sub (import_names (imports_of before2)) (import_names xs)) (sym (own_added imports_in before p))
-      (more_names (λ i. i.name) (imports_of before2) (imports_of before) (imports_in p) n.of_imports);
-  of_exports = subst (λ xs. Sub (export_names (exports_of before2)) (export_names xs)) (sym (own_added exports_in before p))
-      (more_names (λ e. e.name) (exports_of before2) (exports_of before) (exports_in p) n.of_exports);
+  of_imports = fewer_names (λ i. i.name) imports_in before before2 p n.of_imports;
+  of_exports = fewer_names (λ e. e.name) exports_in before before2 p n.of_exports;
 }
 
 -- sections
@@ -171,7 +165,7 @@ mutual
       let s2 : Spaces = spaces_of before2 in
       let new : List CoreEntry = rows core_items core_row after_core w ts in
       let (formed, follows) = rows_formed CoreOk adds_core (λ xs z o. FormedCores xs (scope z)) (λ z o. tt) (λ x xs z o k. k) (λ x xs z o k. k)
-      core_items core_row after_core core_gone core_stays ts w s s2 outer outer2 f q h in (
+      core_items core_row after_core cores_remain ts w s s2 outer outer2 f q h in (
         formed,
         subst (λ z. PlaceFollows (after_part w (part.core_types ts)).own (record s { core_types = s.core_types ++ ts }) z) (cores_added new s2)
             (subst (λ z. PlaceFollows (after_part w (part.core_types ts)).own z (fold adds_core s2 new)) (cores_added ts s) follows),
@@ -186,20 +180,20 @@ mutual
       let s2 : Spaces = spaces_of before2 in
       let new : List Entry = rows entry_items type_row after_type w es in
       let (formed, follows) = rows_formed TypeOk adds_type (λ xs z o. FormedTypes xs (scope z) o) (λ z o. tt) (λ x xs z o k. k) (λ x xs z o k. k)
-      entry_items type_row after_type type_gone type_stays es w s s2 outer outer2 f q h in (
+      entry_items type_row after_type types_remain es w s s2 outer outer2 f q h in (
         formed,
         subst (λ z. PlaceFollows (after_part w (part.types es)).own (record s { types = s.types ++ es }) z) (types_added new s2)
             (subst (λ z. PlaceFollows (after_part w (part.types es)).own z (fold adds_type s2 new)) (types_added es s) follows),
       )
   part_bare (part.canons fs) w before before2 outer outer2 f q h =
       rows_formed CanonOk after_canon (λ xs z o. FormedCanons xs z) (λ z o. tt) (λ x xs z o k. k) (λ x xs z o k. k) none_inside canon_edited edit_canon
-      canon_gone canon_stays fs w (spaces_of before) (spaces_of before2) outer outer2 f q h
+      canons_remain fs w (spaces_of before) (spaces_of before2) outer outer2 f q h
   part_bare (part.imports is) w before before2 outer outer2 f q h =
       rows_formed ImportOk after_import (λ xs z o. AllByRecursion (FormedImport (scope z)) xs) (λ z o. tt) (λ x xs z o k. k) (λ x xs z o k. k)
-      none_inside import_edited edit_import import_gone import_stays is w (spaces_of before) (spaces_of before2) outer outer2 f q h.0
+      none_inside import_edited edit_import imports_remain is w (spaces_of before) (spaces_of before2) outer outer2 f q h.0
   part_bare (part.exports es) w before before2 outer outer2 f q h =
       rows_formed ExportOk after_export (λ xs z o. FormedExports xs z) (λ z o. tt) (λ x xs z o k. k) (λ x xs z o k. k) none_inside export_edited edit_export
-      export_gone export_stays es w (spaces_of before) (spaces_of before2) outer outer2 f q h.0
+      exports_remain es w (spaces_of before) (spaces_of before2) outer outer2 f q h.0
   part_bare p w before before2 outer outer2 f q h = (tt, f)
 
   pub tree_formed : (t : Tree) (w : Walk) (before before2 : Tree) (outer outer2 : List Scope) → PlaceFollows w.own (spaces_of before) (spaces_of before2)
@@ -227,5 +221,5 @@ mutual
 pub without_formed : (k : ℕ) (t less : Tree) → without k t ≡ Some less → WellFormed t → WellFormed less
 without_formed k t less e h =
     let w : Walk = record { removal = Item k; own = new_scope; outer = [] } in
-    let (there, is) = some_same (nat_lt k (tree_items t)) (tree_edited t w) less e in
+    let (there, is) = cond_some (nat_lt k (tree_items t)) (tree_edited t w) less e in
     subst WellFormed is (tree_formed t w ends ends [] [] nothing_yet no_scopes (record { of_imports = none; of_exports = none }) h)

@@ -4,8 +4,8 @@ use Rattle.std.proofs.lemmas.List.{map-append}
 use Rattle.std.specs.Option.{option_map}
 use Rattle.smith_edit.specs.Search.{past, sought}
 use Rattle.smith_edit.specs.declared.simpler.search.Search.{Search}
-use Rattle.smith_edit.proofs.Lists.{map_drop, map_dropped}
-use Rattle.smith_edit.proofs.Seeking.{and_then, past_none, past_past, sought_none, sought_turn}
+use Rattle.smith_edit.proofs.Sublists.{map_drop, map_dropped}
+use Rattle.smith_edit.proofs.Seeking.{and_then, past_past, sought_none, sought_turn}
 
 map_map : {A B C : Type 0} (f : B → C) (g : A → B) (o : Option A) → option_map f (option_map g o) ≡ option_map (λ x. f (g x)) o
 map_map f g None = refl

@@ -1,19 +1,19 @@
 -- Components joined, section by section.
-use Rattle.std.proofs.Common.{◌≡◌, ℕ, ◌+◌, ◌<◌, ◌≤◌, false, List, [], ◌∷◌, ◌++◌, append_assoc, drop, get_or, map, length, ap, sym, refl, ◌∙◌}
+use Rattle.std.proofs.Common.{arith, ◌≡◌, ℕ, ◌+◌, ◌<◌, ◌≤◌, List, [], ◌∷◌, ◌++◌, append_assoc, drop, get_or, map, length, ap, sym, refl, ◌∙◌}
 use Rattle.std.proofs.Common.{append-nil}
 use Rattle.std.proofs.lemmas.List.{map-append}
 use Rattle.smith_read.specs.PartNodes.{shown_part_node}
 use Rattle.smith_read.specs.declared.nodes.PartNode.{PartNode}
 use Rattle.smith_tree.specs.Tree.{Part, Tree, ends, first, exports_in, exports_of, imports_in, imports_of, parts_of, tree_of}
 use Rattle.smith_tree.specs.WellFormed.{export_names, import_names}
-use Rattle.smith_edit.specs.Edited.{after_part, after_section, and_part, part_edited, tree_edited, within}
+use Rattle.smith_edit.specs.Edited.{after_part, part_edited, tree_edited}
 use Rattle.smith_edit.specs.Edits.{part_renamed, renamed}
-use Rattle.smith_edit.specs.Removal.{inside, past, removes}
+use Rattle.smith_edit.specs.Removal.{inside, past}
 use Rattle.smith_edit.specs.Walk.{Walk}
 use Rattle.smith_edit.specs.declared.removal.Removal.{Removal}
 use Rattle.smith_edit.specs.declared.removal.Removal.TheVariants.{Nothing}
 use Rattle.smith_edit.proofs.AfterRows.{after_kept, part_removal}
-use Rattle.smith_edit.proofs.Lists.{map_drop, map_dropped}
+use Rattle.smith_edit.proofs.Sublists.{map_drop, map_dropped}
 
 pub parts_same : (ps : List Part) → parts_of (tree_of ps) ≡ ps
 parts_same [] = refl
@@ -44,15 +44,7 @@ still r e = rw e refl
 
 pub unremoved_first : (p : Part) (t : Tree) (w : Walk) → w.removal ≡ Nothing → tree_edited (first p t) w
     ≡ first (part_edited p w) (tree_edited t (after_part w p))
-unremoved_first p t w e =
-    let same : within w ≡ w = ap (λ r. record w { removal = r }) (still w.removal e) in
-    let kept : removes w.removal ≡ false = ap removes e in
-    let after : after_part (within w) p ≡ after_section w p = after_kept w (after_part (within w) p) p kept refl in
-    let here : tree_edited (first p t) w ≡ first (part_edited p (within w)) (tree_edited t (after_section w p)) =
-    ap (λ b. and_part b (part_edited p (within w)) (tree_edited t (after_section w p))) kept in
-    here
-    ∙ (ap (λ v. first (part_edited p (within w)) (tree_edited t v)) (sym after)
-    ∙ ap (λ v. first (part_edited p v) (tree_edited t (after_part v p))) same)
+unremoved_first p t w e = grind (arith, still, after_kept)
 
 pub unremoved_after : (p : Part) (w : Walk) → w.removal ≡ Nothing → (after_part w p).removal ≡ Nothing
 unremoved_after p w e = part_removal w p ∙ ap (past _) e
@@ -66,16 +58,7 @@ pub joined_step : (w v : Walk) (is es : List (List ℕ)) (xs done : List PartNod
     → map shown_part_node done ++ parts_of (renamed (tree_edited (tree_of (map shown_part_node (drop i xs))) w) is es) ≡ whole
     → map shown_part_node (done ++ z ∷ []) ++ parts_of (renamed (tree_edited (tree_of (map shown_part_node (drop (i + 1) xs))) v)
     (is ++ import_names (imports_in (shown_part_node z))) (es ++ export_names (exports_in (shown_part_node z)))) ≡ whole
-joined_step w v is es xs done i x y z whole lt at none moved after new h =
-    let p : Part = shown_part_node x in
-    let q : Part = part_renamed is es (part_edited p w) in
-    let t : Tree = tree_of (map shown_part_node (drop (i + 1) xs)) in
-    let rest : List Part = parts_of (renamed (tree_edited t (after_part w p)) (is ++ import_names (imports_in q)) (es ++ export_names (exports_in q))) in
-    let z_is : shown_part_node z ≡ q = new ∙ ap (part_renamed is es) moved in
-    rw (map-append shown_part_node done (z ∷ []), z_is, after)
-    (append_assoc (map shown_part_node done) (q ∷ []) rest
-    ∙ (sym (ap (λ u. map shown_part_node done ++ parts_of (renamed u is es)) (unremoved_first p t w none))
-    ∙ (sym (ap (λ ps. map shown_part_node done ++ parts_of (renamed (tree_edited (tree_of ps) w) is es)) (map_drop shown_part_node xs i x lt at)) ∙ h)))
+joined_step w v is es xs done i x y z whole lt at none moved after new h = grind (arith, map-append, append_assoc, unremoved_first, map_drop)
 
 pub joined_end : (w : Walk) (is es : List (List ℕ)) (xs : List PartNode) (i : ℕ) (left whole : List Part) → length xs ≤ i
     → left ++ parts_of (renamed (tree_edited (tree_of (map shown_part_node (drop i xs))) w) is es) ≡ whole → left ≡ whole

@@ -15,14 +15,11 @@ use Rattle.smith_input.proofs.NewNames.{among_more}
 use Rattle.smith_edit.specs.Edits.{all_renamed, made_new, new_name}
 use Rattle.smith_edit.specs.Names.{Knows}
 use Rattle.smith_edit.specs.declared.names.Names.{Names}
-use Rattle.smith_edit.proofs.Lists.{map_drop, map_dropped}
+use Rattle.smith_edit.proofs.Sublists.{map_drop, map_dropped}
 
 pub knows_more : (old new : Names) (names : List (List ℕ)) (name : List ℕ) → Knows old names
     → ((q : List ℕ) → contains_text new.set q ≡ (bytes_eq name q || contains_text old.set q)) → new.count ≡ old.count + 1 → Knows new (names ++ name ∷ [])
-knows_more old new names name known has count = record {
-  has = λ q. has q ∙ ap (λ b. bytes_eq name q || b) (known.has q) ∙ sym (among_more names name q);
-  count = omega (arith, count, known.count, length-append names (name ∷ []));
-}
+knows_more old new names name known has count = grind (arith, among_more, length-append)
 
 cond_or : (a b : Bool) → cond a true b ≡ (a || b)
 cond_or true b = refl
@@ -40,9 +37,7 @@ set_gains key name old new e updates q =
 
 pub made_more : (n k : ℕ) (names : List (List ℕ)) (digits text : List ℕ) → k < n → is_among names text ≡ true
     → made_new (n - k) names digits text ≡ made_new (n - (k + 1)) names digits (text ++ digits)
-made_more n k names digits text h t =
-    let less : n - k ≡ suc (n - (k + 1)) = omega arith in
-    rw less (rw t refl)
+made_more n k names digits text h t = grind arith
 
 pub made_there : (n : ℕ) (names : List (List ℕ)) (digits text : List ℕ) → is_among names text ≡ false → made_new n names digits text ≡ text
 made_there zero names digits text t = refl
@@ -53,22 +48,13 @@ module _ {X A : Type 0} (shown : X → A) (name : A → List ℕ) where
   module _ (rename : A → List ℕ → A) (law : (x : A) (text : List ℕ) → name (rename x text) ≡ text) where
     pub renamed_names : (names : List (List ℕ)) (done : List X) (x y : X) (new : List ℕ) → shown y ≡ rename (shown x) new
         → names ++ map name (map shown (done ++ y ∷ [])) ≡ names ++ map name (map shown done) ++ new ∷ []
-    renamed_names names done x y new is =
-        let here : map name (map shown (done ++ y ∷ [])) ≡ map name (map shown done) ++ new ∷ [] =
-        ap (map name) (map-append shown done (y ∷ [])) ∙ map-append name (map shown done) (shown y ∷ [])
-        ∙ ap (λ n. map name (map shown done) ++ n ∷ []) (ap name is ∙ law (shown x) new) in
-        ap (λ ns. names ++ ns) here ∙ sym (append_assoc names (map name (map shown done)) (new ∷ []))
+    renamed_names names done x y new is = grind (arith, map-append, append_assoc)
 
     pub renamed_step : (names : List (List ℕ)) (whole : List A) (xs done : List X) (i : ℕ) (x y : X) (new : List ℕ) → i < length xs → x ≡ get_or xs i x
         → new ≡ new_name (names ++ map name (map shown done)) (name (shown x)) → shown y ≡ rename (shown x) new
         → map shown done ++ all_renamed name rename (names ++ map name (map shown done)) (map shown (drop i xs)) ≡ whole
         → map shown (done ++ y ∷ []) ++ all_renamed name rename (names ++ map name (map shown (done ++ y ∷ []))) (map shown (drop (i + 1) xs)) ≡ whole
-    renamed_step names whole xs done i x y new lt at made is h =
-        let known : List (List ℕ) = names ++ map name (map shown done) in
-        rw (renamed_names names done x y new is, map-append shown done (y ∷ []), is, made)
-        (append_assoc (map shown done) (rename (shown x) (new_name known (name (shown x))) ∷ [])
-        (all_renamed name rename (known ++ new_name known (name (shown x)) ∷ []) (map shown (drop (i + 1) xs)))
-        ∙ (sym (ap (λ ys. map shown done ++ all_renamed name rename known ys) (map_drop shown xs i x lt at)) ∙ h))
+    renamed_step names whole xs done i x y new lt at made is h = grind (arith, renamed_names, map-append, append_assoc, map_drop)
 
     pub renamed_end : (known : List (List ℕ)) (whole left : List A) (xs : List X) (i : ℕ) → length xs ≤ i
         → left ++ all_renamed name rename known (map shown (drop i xs)) ≡ whole → left ≡ whole

@@ -6,19 +6,20 @@ use Rattle.std.specs.Prelude.{if◌then◌else◌, slice_get}
 use Rattle.std.specs.Option.{is_some}
 use Rattle.smith_format.specs.Piece.{Piece}
 use Rattle.smith_syntax.specs.Entries.{CoreEntry, Decl, Entry, ImportEntry, ModuleDecl}
-use Rattle.smith_syntax.specs.Entries.{aliases, declares, exports, imports}
-use Rattle.smith_syntax.specs.Entries.{core_type_decl, type_decl, type_alias, core_type_alias, import_decl, export_decl}
+use Rattle.smith_syntax.specs.Entries.{exports, imports}
+use Rattle.smith_syntax.specs.Entries.{type_decl, type_alias, import_decl, export_decl}
 use Rattle.smith_syntax.specs.WellFormed.{is_type_eq}
 use Rattle.smith_syntax.specs.declared.deftype.ComponentTypeRef.{ComponentTypeRef}
 use Rattle.smith_syntax.specs.declared.deftype.ComponentTypeRef.TheVariants as to
 use Rattle.smith_tree.specs.Tree.{Canon, ExportEntry, lift, lower}
 use Rattle.smith_edit.specs.Edited.{after_canon, after_core, after_decl, after_export, after_import, after_module_decl, after_ref, after_type}
-use Rattle.smith_edit.specs.Renumbering.{Renumbering, after, entry_at, fate_if, kept_index, new_index, with_entry}
+use Rattle.smith_edit.specs.Renumbering.{Renumbering, after, entry_at, fate_if, index_kept, index_left, kept_index, new_index, with_entry}
 use Rattle.smith_edit.specs.Walk.{Walk, aliased, entered, new_scope, with_core_function, with_core_type, with_function, with_type}
 use Rattle.smith_edit.specs.declared.renumbering.Fate.{Fate}
-use Rattle.smith_edit.specs.declared.renumbering.Fate.TheVariants.{Kept, Changed, Removed}
+use Rattle.smith_edit.specs.declared.renumbering.Fate.TheVariants.{Kept, Removed}
 use Rattle.smith_edit.specs.declared.renumbering.Renumbered.{Renumbered}
 use Rattle.smith_edit.specs.declared.scope.Scope.{Scope}
+use Rattle.smith_edit.proofs.Perhaps.{gives, nothing}
 use Rattle.smith_edit.proofs.Shorter.{Left, NoLonger}
 
 pub record Low (s : Renumbering) : Type 0 where
@@ -48,13 +49,13 @@ entry_low : (s : Renumbering) (i : ℕ) → Low s → (entry_at s i).index ≤ i
 entry_low s i l = entry_of (slice_get s.entries i) i (l.entries i)
 
 module _ (piece : ℕ → Piece) (grow : (i j : ℕ) → i ≤ j → NoLonger (piece i) (piece j)) where
-  new_by : (f : Fate) (j i : ℕ) → j ≤ i → Left piece (elim f [ Kept ↦ Some j | Changed ↦ Some j | Removed ↦ None ]) (piece i)
-  new_by Removed j i h = tt
-  new_by f j i h = grow j i h
+  new_by : (f : Fate) (j i : ℕ) → j ≤ i → Left piece (index_left (record { index = j; fate = f })) (piece i)
+  new_by Removed j i h = nothing tt
+  new_by f j i h = gives j (grow j i h)
 
-  kept_by : (f : Fate) (j i : ℕ) → j ≤ i → Left piece (elim f [ Kept ↦ Some j | Changed ↦ None | Removed ↦ None ]) (piece i)
-  kept_by Kept j i h = grow j i h
-  kept_by f j i h = tt
+  kept_by : (f : Fate) (j i : ℕ) → j ≤ i → Left piece (index_kept (record { index = j; fate = f })) (piece i)
+  kept_by Kept j i h = gives j (grow j i h)
+  kept_by f j i h = nothing tt
 
   pub new_left : (s : Renumbering) (i : ℕ) → Low s → Left piece (new_index s i) (piece i)
   new_left s i l = new_by (entry_at s i).fate (entry_at s i).index i (entry_low s i l)
@@ -64,7 +65,7 @@ module _ (piece : ℕ → Piece) (grow : (i j : ℕ) → i ≤ j → NoLonger (p
 
   aliased_by : (space : Scope → Renumbering) (o : Option Scope) (i : ℕ) → ((s : Scope) → o ≡ Some s → Low (space s))
       → Left piece (elim o [ None ↦ Some i | Some s ↦ new_index (space s) i ]) (piece i)
-  aliased_by space None i h = grow i i (omega arith)
+  aliased_by space None i h = gives i (grow i i (omega arith))
   aliased_by space (Some s) i h = new_left (space s) i (h s refl)
 
   pub aliased_left : (space : Scope → Renumbering) → ((s : Scope) → LowScope s → Low (space s)) → (w : Walk) (count i : ℕ) → LowWalk w

@@ -1,5 +1,5 @@
 -- Names that are made new.
-use Rattle.std.proofs.Common.{◌≡◌, ℕ, zero, suc, ◌+◌, ◌<◌, ◌≤◌, ◌||◌, Bool, true, false, bytes_eq, List, [], ◌∷◌, ◌++◌, length, length-append, ap, refl}
+use Rattle.std.proofs.Common.{◌≡◌, ℕ, zero, suc, ◌+◌, ◌<◌, ◌≤◌, ◌||◌, Bool, true, false, bytes_eq, List, [], ◌∷◌, ◌++◌, length, length-append, refl}
 use Rattle.std.proofs.Common.{arith, nat_lt, ⊎_elim}
 use Rattle.std.proofs.lemmas.Bool.{cases_lt}
 use Rattle.std.proofs.lemmas.Bool.Decides.{nat_tests}
@@ -49,16 +49,7 @@ long_most k (n ∷ ns) = omega (arith, one_at_most k (length n), long_most k ns)
 among_by : (text n : List ℕ) (ns : List (List ℕ)) (b c : Bool) → bytes_eq n text ≡ b → (c ≡ true → long (length text + 1) ns + 1 ≤ long (length text) ns)
     → (b || c) ≡ true
     → is_long (length text + 1) (length n) + long (length text + 1) ns + 1 ≤ is_long (length text) (length n) + long (length text) ns
-among_by text n ns true c e h is =
-    let same : n ≡ text = (bytes_eq-Decides n text).0 e in
-    let as_long : length n ≡ length text = ap length same in
-    omega (
-      arith,
-      short_is (length text + 1) (length n) (omega (arith, as_long)),
-      long_is (length text) (length n) (omega (arith, as_long)),
-      long_less
-          (length text) (length text + 1) ns (omega arith),
-    )
+among_by text n ns true c e h is = grind (arith, bytes_eq-Decides, short_is, long_is, long_less)
 among_by text n ns false c e h is = omega (arith, h is, is_long_less (length text) (length text + 1) (length n) (omega arith))
 
 among_long : (text : List ℕ) (ns : List (List ℕ)) → is_among ns text ≡ true → long (length text + 1) ns + 1 ≤ long (length text) ns
@@ -103,9 +94,7 @@ pub new_is_new : (ns : List (List ℕ)) (text : List ℕ) → is_among ns (new_n
 new_is_new ns text = made_is_new (length ns) ns (decimal (length ns)) text (some_digits (length ns)) (long_most (length text) ns)
 
 pub new_kebab : (ns : List (List ℕ)) (text : List ℕ) → Kebab text → Kebab (new_name ns text)
-new_kebab ns text h =
-    made_kebab (length ns) ns (decimal (length ns)) text
-    (λ t k. kebab_more (decimal (length ns)) (digits_in_word (decimal (length ns)) (are_digits (length ns))) k) h
+new_kebab ns text h = grind (arith, made_kebab, kebab_more, digits_in_word, are_digits)
 
 -- one more name
 

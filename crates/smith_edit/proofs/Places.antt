@@ -1,5 +1,5 @@
 -- The index spaces at a place in a component, and what they become.
-use Rattle.std.proofs.Common.{◌≡◌, ℕ, true, ◌&&◌, List, [], ◌∷◌, ◌++◌, Option, None, Some, length, map, ap, sym, refl, ◌∙◌, arith}
+use Rattle.std.proofs.Common.{◌≡◌, ℕ, true, ◌&&◌, List, [], ◌∷◌, ◌++◌, Option, None, Some, length, map, ap, sym, refl, subst, ◌∙◌, arith}
 use Rattle.std.specs.Prelude.{slice_get}
 use Rattle.std.specs.List.{list_all}
 use Rattle.std.specs.Option.{is_some, option_to_list}
@@ -11,15 +11,16 @@ use Rattle.smith_syntax.specs.Scope.{Scope}
 use Rattle.smith_syntax.specs.declared.types.ComponentValType.{ComponentValType}
 use Rattle.smith_tree.specs.Spaces.{Spaces, no_spaces}
 use Rattle.smith_tree.specs.WellFormed.{HasSignature}
-use Rattle.smith_edit.specs.Renumbering.{Renumbering, kept_index, with_entry}
+use Rattle.smith_edit.specs.Renumbering.{Renumbering, index_kept, kept_index, with_entry}
 use Rattle.smith_edit.specs.Walk.{new_scope, with_core_function, with_core_type, with_function, with_type}
 use Rattle.smith_edit.specs.declared.renumbering.Fate.{Fate}
-use Rattle.smith_edit.specs.declared.renumbering.Fate.TheVariants.{Kept, Changed, Removed}
+use Rattle.smith_edit.specs.declared.renumbering.Fate.TheVariants.{Kept, Removed}
 use Rattle.smith_edit.specs.declared.renumbering.Renumbered.{Renumbered}
 use Rattle.smith_edit.specs.declared.scope.Scope.{Scope as Indexes}
 use Rattle.smith_edit.proofs.Alike.{Alike, AlikeCore, Same, ScopeFollows}
 use Rattle.smith_edit.proofs.Follows.{Follows, IsLeft, Stays, entry_there, follows_left, follows_removed, get_other, get_still, none_yet}
-use Rattle.smith_edit.proofs.FormedTypes.{more_core, more_core_removed, more_type, more_type_removed}
+use Rattle.smith_edit.proofs.Perhaps.{Perhaps, gives, nothing}
+use Rattle.smith_edit.proofs.FormedTypes.{more_core, more_core_removed, more_type_removed}
 
 abbrev pub scope : Spaces → Scope
 scope s = record { types = s.types; core_types = s.core_types }
@@ -148,19 +149,17 @@ module _ (own : Indexes) (s s2 : Spaces) (p : PlaceFollows own s s2) where
 
 -- entries that are kept
 
-kept_fate : (f : Fate) (i j : ℕ) → elim f [ Kept ↦ Some i | Changed ↦ None | Removed ↦ None ] ≡ Some j → (f ≡ Kept) × (i ≡ j)
-kept_fate Kept i j e = (refl, cc)
-kept_fate f i j e = absurd cc
+kept_fate : (f : Fate) (n : ℕ) (o : Option Renumbered) → o ≡ Some (record { index = n; fate = f })
+    → Perhaps (λ j. o ≡ Some (record { index = j; fate = Kept })) (index_kept (record { index = n; fate = f }))
+kept_fate Kept n o e = gives n e
+kept_fate f n o e = nothing tt
 
-pub kept_entry : {A : Type 0} (s : Renumbering) (old : List A) → length s.entries ≡ length old → (i j : ℕ) (x : A) → slice_get old i ≡ Some x
-    → kept_index s i ≡ Some j
-    → slice_get s.entries i ≡ Some (record { index = j; fate = Kept })
-kept_entry s old count i j x at e =
+pub kept_entry : {A : Type 0} (s : Renumbering) (old : List A) → length s.entries ≡ length old → (i : ℕ) (x : A) → slice_get old i ≡ Some x
+    → Perhaps (λ j. slice_get s.entries i ≡ Some (record { index = j; fate = Kept })) (kept_index s i)
+kept_entry s old count i x at =
     let (r, is) = get_other old s.entries i x count at in
-    let same : elim r.fate [ Kept ↦ Some r.index | Changed ↦ None | Removed ↦ None ] ≡ Some j =
-    ap (λ (q : Renumbered). elim q.fate [ Kept ↦ Some q.index | Changed ↦ None | Removed ↦ None ]) (sym (entry_there s i r is)) ∙ e in
-    let (fate, index) = kept_fate r.fate r.index j same in
-    is ∙ ap (λ f. Some (record { index = r.index; fate = f })) fate ∙ ap (λ n. Some (record { index = n; fate = Kept })) index
+    subst (λ q. Perhaps (λ j. slice_get s.entries i ≡ Some (record { index = j; fate = Kept })) (index_kept q)) (sym (entry_there s i r is))
+    (kept_fate r.fate r.index (slice_get s.entries i) is)
 
 -- signatures of scalars
 

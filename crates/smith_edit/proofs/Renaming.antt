@@ -1,5 +1,5 @@
 -- What has a name, renamed.
-use Rattle.std.proofs.Common.{◌≡◌, ℕ, zero, suc, ◌+◌, ◌<◌, ◌≤◌, true, List, [], ◌∷◌, ◌++◌, Option, None, Some, drop, get_or, map, length, ap, sym, refl}
+use Rattle.std.proofs.Common.{◌≡◌, ℕ, zero, suc, ◌<◌, ◌≤◌, true, List, [], ◌∷◌, Option, None, Some, get_or, map, length, ap, sym, refl}
 use Rattle.std.proofs.Common.{◌∙◌, arith, ⊎_elim}
 use Rattle.std.specs.Prelude.{slice_set}
 use Rattle.std.proofs.lemmas.Bool.{cases_lt}
@@ -12,7 +12,6 @@ use Rattle.smith_edit.specs.ShortNames.{shorter_name}
 use Rattle.smith_edit.specs.Simpler.{fields_simplified, renamed_at, signature_simplified}
 use Rattle.smith_edit.specs.declared.simpler.search.Search.{Search}
 use Rattle.smith_edit.specs.declared.simpler.search.Search.TheVariants.{Ahead, Over}
-use Rattle.smith_edit.proofs.Lists.{map_drop, map_dropped}
 use Rattle.smith_edit.proofs.Seeking.{and_then, by_number, past_less, sought_more, sought_turn}
 
 module _ {A : Type 0} (name : A → List ℕ) (rename : A → List ℕ → A) (names : List (List ℕ)) where
@@ -27,9 +26,7 @@ module _ {A : Type 0} (name : A → List ℕ) (rename : A → List ℕ → A) (n
     pub renamed_none : (k : ℕ) (xs : List X) (x : X) → k < length xs → x ≡ get_or xs k x → shorter_name names (name (shown x)) ≡ None
         → renamed_at name rename names k (map shown xs) ≡ None
     renamed_none k [] x lt at none = absurd (omega arith)
-    renamed_none zero (y ∷ xs) x lt at none =
-        let same = sym at in
-        ap (λ o. option_map (λ z. z ∷ map shown xs) (option_map (rename (shown y)) o)) (ap (λ z. shorter_name names (name (shown z))) same ∙ none)
+    renamed_none zero (y ∷ xs) x lt at none = grind arith
     renamed_none (suc k) (y ∷ xs) x lt at none = ap (option_map (λ ys. shown y ∷ ys)) (renamed_none k xs x (omega arith) at none)
 
     -- copies of all, except for the one
@@ -38,12 +35,7 @@ module _ {A : Type 0} (name : A → List ℕ) (rename : A → List ℕ → A) (n
         → Some (map shown (slice_set copies k y)) ≡ renamed_at name rename names k (map shown xs)
     renamed_some k [] x copies y new lt at same some is = absurd (omega arith)
     renamed_some k (z ∷ xs) x [] y new lt at same some is = absurd cc
-    renamed_some zero (z ∷ xs) x (c ∷ copies) y new lt at same some is =
-        let here : z ≡ x = sym at in
-        let rest : map shown copies ≡ map shown xs = cc in
-        let next : shorter_name names (name (shown z)) ≡ Some new = ap (λ w. shorter_name names (name (shown w))) here ∙ some in
-        let made : shown y ≡ rename (shown z) new = is ∙ sym (ap (λ w. rename (shown w) new) here) in
-        rw (rest, made) (sym (ap (λ o. option_map (λ w. w ∷ map shown xs) (option_map (rename (shown z)) o)) next))
+    renamed_some zero (z ∷ xs) x (c ∷ copies) y new lt at same some is = grind arith
     renamed_some (suc k) (z ∷ xs) x (c ∷ copies) y new lt at same some is =
         let rest : map shown copies ≡ map shown xs = cc in
         let first : shown c ≡ shown z = cc in
@@ -56,20 +48,12 @@ signed g ps r = record { params = ps; result = r }
 pub signature_turn : (g : Signature) (s : Search) → sought (signature_items g) s (λ k. signature_simplified k g) g
     ≡ and_then (sought (length g.params) s (λ k. fields_simplified k g.params) g.params)
     (λ ps. option_map (signed g ps) (sought (length (option_to_list g.result)) (past (length g.params) s) (λ k. None) g.result))
-signature_turn g s =
-    sought_turn (signed g) (length g.params) (length (option_to_list g.result)) (λ k. fields_simplified k g.params) (λ k. None)
-    (λ k. signature_simplified k g) g.params g.result (λ k lt. refl)
-    (λ k ge. ap (option_map (λ ps. record g { params = ps })) (renamed_beyond (λ f. f.0) (λ f n. (n, f.1)) (map (λ f. f.0) g.params) k g.params ge)) s
+signature_turn g s = grind (arith, sought_turn, renamed_beyond)
 
 -- if the result is sought
 
 past_result : (g : Signature) (k : ℕ) → is_some (among (length (option_to_list g.result)) (past (length g.params) (Ahead k))) ≡ true → length g.params ≤ k
-past_result g k h =
-    ⊎_elim
-    (λ lt. let none : is_some (among (length (option_to_list g.result)) Over) ≡ true =
-    sym (ap (λ s. is_some (among (length (option_to_list g.result)) s)) (past_less (length g.params) k lt)) ∙ h in absurd cc)
-    (λ ge. ge)
-    (cases_lt k (length g.params))
+past_result g k h = grind (arith, past_less, cases_lt)
 
 result_by : {A : Type 0} (o : Option ℕ) (x : A) → is_some o ≡ true → by_number o (λ k. None) x ≡ None
 result_by None x h = absurd cc

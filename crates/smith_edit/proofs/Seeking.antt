@@ -1,39 +1,26 @@
 -- What is sought, item by item.
-use Rattle.std.proofs.Common.{◌≡◌, ℕ, zero, suc, ◌+◌, ◌-◌, ◌<◌, ◌≤◌, true, false, Option, Some, None, ap, sym, refl, ◌∙◌, arith, nat_lt, ⊎_elim, rules}
+use Rattle.std.proofs.Common.{◌≡◌, ℕ, suc, ◌+◌, ◌-◌, ◌<◌, ◌≤◌, true, false, Option, Some, None, ap, sym, refl, ◌∙◌, arith, nat_lt, ⊎_elim, rules}
 use Rattle.std.proofs.lemmas.Bool.{cases_lt}
 use Rattle.std.proofs.lemmas.Bool.Decides.{nat_tests}
+use Rattle.std.specs.Prelude.{if◌then◌else◌}
 use Rattle.std.specs.Option.{option_map}
-use Rattle.smith_edit.specs.Search.{among, is_here, past, sought}
-use Rattle.smith_edit.specs.Simpler.{itself_or}
+use Rattle.smith_edit.specs.Search.{among, past, sought}
 use Rattle.smith_edit.specs.declared.simpler.search.Search.{Search}
 use Rattle.smith_edit.specs.declared.simpler.search.Search.TheVariants.{Ahead, Over}
+use Rattle.smith_edit.proofs.Past.{pass_both, pass_less, pass_more}
 
 pub past_none : (s : Search) → past 0 s ≡ s
 past_none (Ahead m) = search rules
 past_none Over = refl
 
 pub past_less : (n m : ℕ) → m < n → past n (Ahead m) ≡ Over
-past_less n m h = let t : nat_lt m n ≡ true = grind (arith, nat_tests) in rw t refl
+past_less = pass_less Over Ahead past (λ n m. refl) (λ n. refl)
 
 pub past_more : (n m : ℕ) → n ≤ m → past n (Ahead m) ≡ Ahead (m - n)
-past_more n m h = let t : nat_lt m n ≡ false = grind (arith, nat_tests) in rw t refl
-
-past_in : (a b m : ℕ) → b ≤ m → past a (Ahead (m - b)) ≡ past (b + a) (Ahead m)
-past_in a b m h =
-    ⊎_elim
-    (λ lt. past_less a (m - b) lt ∙ sym (past_less (b + a) m (omega arith)))
-    (λ ge. past_more a (m - b) ge ∙ (let e : m - b - a ≡ m - (b + a) = omega arith in rw e (sym (past_more (b + a) m (omega arith)))))
-    (cases_lt (m - b) a)
-
-past_by : (a b m : ℕ) → past a (past b (Ahead m)) ≡ past (b + a) (Ahead m)
-past_by a b m =
-    ⊎_elim
-    (λ lt. ap (past a) (past_less b m lt) ∙ sym (past_less (b + a) m (omega arith)))
-    (λ ge. ap (past a) (past_more b m ge) ∙ past_in a b m ge)
-    (cases_lt m b)
+past_more = pass_more Over Ahead past (λ n m. refl) (λ n. refl)
 
 pub past_past : (a b : ℕ) (s : Search) → past a (past b s) ≡ past (b + a) s
-past_past a b (Ahead m) = past_by a b m
+past_past a b (Ahead m) = pass_both Over Ahead past (λ n k. refl) (λ n. refl) a b m
 past_past a b Over = refl
 
 pub ahead_one : (m : ℕ) → past 1 (Ahead (suc m)) ≡ Ahead m
@@ -65,6 +52,14 @@ module _ {A : Type 0} where
   pub sought_none : (s : Search) (g : ℕ → Option A) (x : A) → sought 0 s g x ≡ Some x
   sought_none s g x = ap (λ o. by_number o g x) (among_none s)
 
+-- the item here or one inside it, or one of the ones after it
+
+pub turn_here : {C : Type 0} (k n : ℕ) (here there : C) → k < n → (if nat_lt k n then here else there) ≡ here
+turn_here k n here there h = let t : nat_lt k n ≡ true = grind (arith, nat_tests) in rw t refl
+
+pub turn_there : {C : Type 0} (k n : ℕ) (here there : C) → n ≤ k → (if nat_lt k n then here else there) ≡ there
+turn_there k n here there h = let t : nat_lt k n ≡ false = grind (arith, nat_tests) in rw t refl
+
 -- A first that has n items, and a rest that has m.
 
 abbrev pub and_then : {A B : Type 0} → Option A → (A → Option B) → Option B
@@ -82,10 +77,7 @@ module _ {A B C : Type 0} (cons : A → B → C) (n m : ℕ) (f : ℕ → Option
   first_by (Some y) = refl
 
   first_turn : (k : ℕ) → k < n → sought (n + m) (Ahead k) h (cons x xs) ≡ in_turn (Ahead k) (sought n (Ahead k) f x)
-  first_turn k lt =
-      sought_less (n + m) k h (cons x xs) (omega arith) ∙ here k lt ∙ first_by (f k)
-      ∙ sym (ap (λ s. and_then (f k) (λ y. option_map (cons y) (sought m s g xs))) (past_less n k lt))
-      ∙ sym (ap (in_turn (Ahead k)) (sought_less n k f x lt))
+  first_turn k lt = grind (arith, sought_less, first_by, past_less)
 
   rest_there : (k : ℕ) → n ≤ k → k < n + m → sought (n + m) (Ahead k) h (cons x xs) ≡ option_map (cons x) (sought m (Ahead (k - n)) g xs)
   rest_there k ge lt =
@@ -95,10 +87,7 @@ module _ {A B C : Type 0} (cons : A → B → C) (n m : ℕ) (f : ℕ → Option
   rest_later k ge = sought_more (n + m) k h (cons x xs) ge ∙ sym (ap (option_map (cons x)) (sought_more m (k - n) g xs (omega arith)))
 
   rest_turn : (k : ℕ) → n ≤ k → sought (n + m) (Ahead k) h (cons x xs) ≡ in_turn (Ahead k) (sought n (Ahead k) f x)
-  rest_turn k ge =
-      ⊎_elim (rest_there k ge) (rest_later k) (cases_lt k (n + m))
-      ∙ sym (ap (λ s. option_map (cons x) (sought m s g xs)) (past_more n k ge))
-      ∙ sym (ap (in_turn (Ahead k)) (sought_more n k f x ge))
+  rest_turn k ge = grind (arith, rest_there, rest_later, cases_lt, past_more, sought_more)
 
   pub sought_turn : (s : Search) → sought (n + m) s h (cons x xs) ≡ in_turn s (sought n s f x)
   sought_turn (Ahead k) = ⊎_elim (first_turn k) (rest_turn k) (cases_lt k n)

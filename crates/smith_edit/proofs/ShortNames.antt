@@ -35,16 +35,11 @@ short_many n h =
 -- the last letter is appended
 
 pub pushed_few : (n : ℕ) (old new : List ℕ) → n < 26 → new ≡ old ++ (0x61 + n % 26) ∷ [] → new ≡ old ++ short_name n
-pushed_few n old new h is =
-    let same : n % 26 ≡ n = omega arith in
-    let letter : new ≡ old ++ (0x61 + n) ∷ [] = rw same at is in
-    letter ∙ ap (λ w. old ++ w) (sym (short_few n h))
+pushed_few n old new h is = grind (arith, short_few)
 
 pub pushed_many : (n : ℕ) (old mid new : List ℕ) → 26 ≤ n → mid ≡ old ++ short_name (n / 26 - 1) → new ≡ mid ++ (0x61 + n % 26) ∷ []
     → new ≡ old ++ short_name n
-pushed_many n old mid new h front is =
-    is ∙ ap (λ w. w ++ (0x61 + n % 26) ∷ []) front ∙ append_assoc old (short_name (n / 26 - 1)) ((0x61 + n % 26) ∷ [])
-    ∙ ap (λ w. old ++ w) (sym (short_many n h))
+pushed_many n old mid new h front is = grind (arith, append_assoc, short_many)
 
 -- one try of a new name, and the last
 

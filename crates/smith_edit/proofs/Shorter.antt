@@ -1,10 +1,10 @@
 -- Pieces that have no more bytes than others.
-use Rattle.std.proofs.Common.{◌≡◌, ℕ, zero, suc, ◌/◌, ◌^◌, ◌<◌, ◌≤◌, Bool, true, false, List, [], ◌∷◌, ◌++◌, Option, None, Some, length, length-append, ap}
+use Rattle.std.proofs.Common.{◌≡◌, ℕ, zero, suc, ◌/◌, ◌^◌, ◌<◌, ◌≤◌, List, [], ◌∷◌, ◌++◌, Option, None, Some, length, length-append, ap}
 use Rattle.std.proofs.Common.{sym, refl, ◌∙◌, arith}
 use Rattle.std.proofs.Common.{⊎_elim}
 use Rattle.std.proofs.lemmas.Bool.{cases_lt}
-use Rattle.std.specs.Prelude.{if◌then◌else◌, pos}
-use Rattle.std.specs.Option.{option_map, option_to_list}
+use Rattle.std.specs.Prelude.{pos}
+use Rattle.std.specs.Option.{option_to_list}
 use Rattle.smith_format.specs.Numbers.{as_it_is, digits, signed, unsigned}
 use Rattle.smith_format.specs.Piece.{Piece, ◌⊕◌, byte, each, framed, many, s_index, sized, u}
 use Rattle.smith_format.proofs.Digits.{digits_last, digits_more, digits_some}
@@ -13,6 +13,7 @@ use Rattle.smith_edit.specs.Edited.{members}
 use Rattle.smith_edit.specs.Removal.{past, removes}
 use Rattle.smith_edit.specs.declared.removal.Removal.{Removal}
 use Rattle.smith_edit.proofs.Fewer.{members_fewer}
+use Rattle.smith_edit.proofs.Perhaps.{Perhaps, either, gives, nothing}
 
 -- the first has bytes if the other has, and no more of them
 abbrev pub NoLonger : Piece → Piece → Type 0
@@ -42,6 +43,15 @@ dropped p q q2 g b e =
     let whole : length b ≡ length (c.left ++ c.right) = ap length c.is in
     (y, y_is, omega (arith, length-append c.left c.right, y_le, whole))
 
+-- one byte, for more
+pub short_byte : (n m : ℕ) (q : Piece) → NoLonger (byte n) (byte m ⊕ q)
+short_byte n m q b e =
+    let c = parts_are (byte m) q b e in
+    let one : m ∷ [] ≡ c.left = let s : Some (m ∷ []) ≡ Some c.left = c.p_is in cc in
+    let whole = ap length c.is in
+    let some = ap length one in
+    (n ∷ [], refl, omega (arith, whole, some, length-append c.left c.right))
+
 -- numbers
 
 module _ (bits : ℕ → ℕ) (last : ℕ) where
@@ -50,10 +60,7 @@ module _ (bits : ℕ → ℕ) (last : ℕ) where
 
   more_digits : (m k n j : ℕ) → length (digits bits last m (n / 128)) ≤ length (digits bits last k (j / 128)) → last ≤ n → n ≤ j
       → length (digits bits last (suc m) n) ≤ length (digits bits last (suc k) j)
-  more_digits m k n j h ge le =
-      let small = ap length (digits_more bits last m n ge) in
-      let large = ap length (digits_more bits last k j (omega (arith, ge, le))) in
-      omega (arith, small, large, h)
+  more_digits m k n j h ge le = grind (arith, digits_more)
 
   digits_grow : (m k n j : ℕ) → 0 < last → n ≤ j → j ≤ k → length (digits bits last m n) ≤ length (digits bits last k j)
   unfolding digits
@@ -100,28 +107,18 @@ sized_grow id p q f = after (byte id) (framed p) (framed q) (framed_grow p q f)
 
 -- what may be left
 abbrev pub Left : {A : Type 0} → (A → Piece) → Option A → Piece → Type 0
-Left f None q = Unit {0}
-Left f (Some x) q = NoLonger (f x) q
-
-pub mapped : {A B : Type 0} (f : A → B) (g : A → Piece) (h : B → Piece) (o : Option A) (q q2 : Piece)
-    → ((x : A) → NoLonger (g x) q → NoLonger (h (f x)) q2) → Left g o q → Left h (option_map f o) q2
-mapped f g h None q q2 more l = tt
-mapped f g h (Some x) q q2 more l = more x l
+Left f o q = Perhaps (λ x. NoLonger (f x) q) o
 
 module _ {A : Type 0} (f : A → Piece) where
-  pub first_left : (o : Option A) (xs : List A) (q q2 : Piece) → Left f o q → NoLonger (each f xs) q2 → NoLonger (each f (option_to_list o ++ xs)) (q ⊕ q2)
-  first_left None xs q q2 l m = dropped q (each f xs) q2 m
-  first_left (Some x) xs q q2 l m = glue (f x) q (each f xs) q2 l m
+  pub first_left : {o : Option A} (xs : List A) (q q2 : Piece) → Left f o q → NoLonger (each f xs) q2 → NoLonger (each f (option_to_list o ++ xs)) (q ⊕ q2)
+  first_left xs q q2 (nothing why) m = dropped q (each f xs) q2 m
+  first_left xs q q2 (gives x l) m = glue (f x) q (each f xs) q2 l m
 
   module _ (edited : A → Option A) (left : (x : A) → Left f (edited x) (f x)) where
-    first_member : (b : Bool) (x : A) (xs : List A) (q : Piece) → NoLonger (each f xs) q
-        → NoLonger (each f ((if b then [] else option_to_list (edited x)) ++ xs)) (f x ⊕ q)
-    first_member true x xs q m = dropped (f x) (each f xs) q m
-    first_member false x xs q m = first_left (edited x) xs (f x) q (left x) m
-
     each_members : (r : Removal) (xs : List A) → NoLonger (each f (members edited r xs)) (each f xs)
     each_members r [] = same (Some [])
-    each_members r (x ∷ xs) = first_member (removes r) x (members edited (past 1 r) xs) (each f xs) (each_members (past 1 r) xs)
+    each_members r (x ∷ xs) =
+        first_left (members edited (past 1 r) xs) (f x) (each f xs) (either (removes r) (nothing tt) (left x)) (each_members (past 1 r) xs)
 
     pub many_members : (r : Removal) (xs : List A) → NoLonger (many f (members edited r xs)) (many f xs)
     many_members r xs =

@@ -1,7 +1,5 @@
 -- Types, declarations and sections in a row, one of which is made simpler.
-use Rattle.std.proofs.Common.{◌≡◌, ℕ, ◌+◌, ◌-◌, ◌<◌, ◌≤◌, true, false, List, ◌∷◌, Option, refl, arith, nat_lt}
-use Rattle.std.proofs.lemmas.Bool.Decides.{nat_tests}
-use Rattle.std.specs.Option.{option_map}
+use Rattle.std.proofs.Common.{ℕ, ◌+◌, List, ◌∷◌, Option, refl}
 use Rattle.smith_syntax.specs.Entries.{Decl, Decls, Entry, in_order, then_decls}
 use Rattle.smith_tree.specs.Tree.{Part, Tree, first, tree_of}
 use Rattle.smith_read.specs.PartNodes.{shown_part_node}
@@ -13,6 +11,7 @@ use Rattle.smith_edit.specs.Items.{decl_items, decls_items, entry_items, part_it
 use Rattle.smith_edit.specs.Simpler.{decl_simplified, decls_simplified, entry_simplified, itself_or, part_simplified, sections_simplified, simpler_decl}
 use Rattle.smith_edit.specs.Simpler.{simpler_entry, simpler_part, types_simplified}
 use Rattle.smith_edit.proofs.InTurn.{InRow}
+use Rattle.smith_edit.proofs.Seeking.{turn_here, turn_there}
 
 -- with itself
 
@@ -24,13 +23,6 @@ one_decl is es k d = itself_or (simpler_decl is es d) (λ j. decl_simplified j d
 
 abbrev pub one_part : List (List ℕ) → List (List ℕ) → ℕ → Part → Option Part
 one_part is es k p = itself_or (simpler_part p) (λ j. part_simplified is es j p) k
-
-pub types_here : (k : ℕ) (e : Entry) (es : List Entry) → k < entry_items e + 1 → types_simplified k (e ∷ es) ≡ option_map (λ f. f ∷ es) (one_entry k e)
-types_here k e es h = let t : nat_lt k (entry_items e + 1) ≡ true = grind (arith, nat_tests) in rw t refl
-
-pub types_there : (k : ℕ) (e : Entry) (es : List Entry) → entry_items e + 1 ≤ k
-    → types_simplified k (e ∷ es) ≡ option_map (λ fs. e ∷ fs) (types_simplified (k - (entry_items e + 1)) es)
-types_there k e es h = let t : nat_lt k (entry_items e + 1) ≡ false = grind (arith, nat_tests) in rw t refl
 
 abbrev pub type_row : InRow TypeNode Entry (List Entry)
 type_row = record {
@@ -44,19 +36,11 @@ type_row = record {
   first = λ e es. refl;
   none = refl;
   sum = λ e es. refl;
-  here = types_here;
-  there = types_there;
+  here = λ k e es h. turn_here k (entry_items e + 1) _ _ h;
+  there = λ k e es h. turn_there k (entry_items e + 1) _ _ h;
 }
 
 module _ (is es : List (List ℕ)) where
-  pub decls_here : (k : ℕ) (d : Decl) (ds : Decls) → k < decl_items d + 1
-      → decls_simplified is es k (then_decls d ds) ≡ option_map (λ e. then_decls e ds) (one_decl is es k d)
-  decls_here k d ds h = let t : nat_lt k (decl_items d + 1) ≡ true = grind (arith, nat_tests) in rw t refl
-
-  pub decls_there : (k : ℕ) (d : Decl) (ds : Decls) → decl_items d + 1 ≤ k
-      → decls_simplified is es k (then_decls d ds) ≡ option_map (then_decls d) (decls_simplified is es (k - (decl_items d + 1)) ds)
-  decls_there k d ds h = let t : nat_lt k (decl_items d + 1) ≡ false = grind (arith, nat_tests) in rw t refl
-
   abbrev pub decl_row : InRow DeclNode Decl Decls
   decl_row = record {
     shown = shown_decl_node;
@@ -69,17 +53,9 @@ module _ (is es : List (List ℕ)) where
     first = λ d ds. refl;
     none = refl;
     sum = λ d ds. refl;
-    here = decls_here;
-    there = decls_there;
+    here = λ k d ds h. turn_here k (decl_items d + 1) _ _ h;
+    there = λ k d ds h. turn_there k (decl_items d + 1) _ _ h;
   }
-
-  pub parts_here : (k : ℕ) (p : Part) (t : Tree) → k < part_items p + 1
-      → sections_simplified is es k (first p t) ≡ option_map (λ q. first q t) (one_part is es k p)
-  parts_here k p u h = let t : nat_lt k (part_items p + 1) ≡ true = grind (arith, nat_tests) in rw t refl
-
-  pub parts_there : (k : ℕ) (p : Part) (t : Tree) → part_items p + 1 ≤ k
-      → sections_simplified is es k (first p t) ≡ option_map (first p) (sections_simplified is es (k - (part_items p + 1)) t)
-  parts_there k p u h = let t : nat_lt k (part_items p + 1) ≡ false = grind (arith, nat_tests) in rw t refl
 
   abbrev pub part_row : InRow PartNode Part Tree
   part_row = record {
@@ -93,6 +69,6 @@ module _ (is es : List (List ℕ)) where
     first = λ p ps. refl;
     none = refl;
     sum = λ p t. refl;
-    here = parts_here;
-    there = parts_there;
+    here = λ k p t h. turn_here k (part_items p + 1) _ _ h;
+    there = λ k p t h. turn_there k (part_items p + 1) _ _ h;
   }

@@ -2,6 +2,10 @@
 use Rattle.std.proofs.Common.{◌≡◌, Bool, false, bytes_eq, List, [], ◌∷◌, ◌++◌, ℕ}
 use Rattle.std.specs.List.{AllByRecursion, IsDistinct}
 use Rattle.smith_syntax.specs.WellFormed.{Named}
+use Rattle.std.proofs.Common.{zero, suc, ◌+◌, ◌<◌, ◌≤◌, Option, None, Some, append_assoc, drop, get_or, map, length, ap, sym}
+use Rattle.std.proofs.Common.{append-nil}
+use Rattle.std.proofs.Common.{refl, ◌∙◌, arith}
+use Rattle.std.specs.Option.{option_map, option_to_list}
 
 -- the first is the second without some of its items
 pub data Sub {A : Type 0} : List A → List A → Type 0 where
@@ -36,3 +40,34 @@ module _ {A : Type 0} where
 
 pub named_sub : (ys xs : List (List ℕ)) → Sub ys xs → Named xs → Named ys
 named_sub ys xs s h = (sub_all _ ys xs s h.0, sub_distinct bytes_eq ys xs s h.1)
+
+-- Lists, item by item.
+
+pub map_drop : {A B : Type 0} (f : A → B) (xs : List A) (i : ℕ) (x : A) → i < length xs → x ≡ get_or xs i x
+    → map f (drop i xs) ≡ f x ∷ map f (drop (i + 1) xs)
+map_drop f [] i x h e = absurd (omega arith)
+map_drop f (y ∷ xs) zero x h e = let same = sym e in λ j. f (same j) ∷ map f xs
+map_drop f (y ∷ xs) (suc i) x h e = let more : suc i + 1 ≡ suc (i + 1) = omega arith in rw more (map_drop f xs i x (omega arith) e)
+
+pub map_dropped : {A B : Type 0} (f : A → B) (xs : List A) (i : ℕ) → length xs ≤ i → map f (drop i xs) ≡ []
+map_dropped f [] zero h = refl
+map_dropped f [] (suc i) h = refl
+map_dropped f (y ∷ xs) zero h = absurd (omega arith)
+map_dropped f (y ∷ xs) (suc i) h = map_dropped f xs i (omega arith)
+
+-- what items have, gathered one by one after what is known
+module _ {X A N : Type 0} (shown : X → A) (all : List A → List N) (of : A → List N) (more : (x : A) (xs : List A) → all (x ∷ xs) ≡ of x ++ all xs) where
+  pub gathered_step : (known whole : List N) (xs : List X) (i : ℕ) (x : X) → i < length xs → x ≡ get_or xs i x
+      → known ++ all (map shown (drop i xs)) ≡ whole → (known ++ of (shown x)) ++ all (map shown (drop (i + 1) xs)) ≡ whole
+  gathered_step known whole xs i x lt at h = grind (arith, append_assoc, map_drop)
+
+  pub gathered_end : all [] ≡ [] → (known whole : List N) (xs : List X) (i : ℕ) → length xs ≤ i → known ++ all (map shown (drop i xs)) ≡ whole → known ≡ whole
+  gathered_end empty known whole xs i h e =
+      sym (append-nil known) ∙ (sym (ap (λ ns. known ++ ns) (ap all (map_dropped shown xs i h) ∙ empty)) ∙ e)
+
+-- what is left, with what may be left too
+pub map_more : {A B : Type 0} (g : A → B) (left : List A) (new : Option A)
+    → map g (left ++ option_to_list new) ≡ map g left ++ option_to_list (option_map g new)
+map_more g [] None = refl
+map_more g [] (Some x) = refl
+map_more g (y ∷ ys) new = ap (λ zs. g y ∷ zs) (map_more g ys new)

@@ -4,8 +4,8 @@ use Rattle.std.proofs.Common.{arith}
 use Rattle.std.proofs.lemmas.Option.{slice_get_past}
 use Rattle.std.specs.Prelude.{slice_get}
 use Rattle.smith_syntax.specs.Entries.{CoreEntry, Decl, Entry, ImportEntry, ModuleDecl}
-use Rattle.smith_syntax.specs.Entries.{aliases, declares, exports, imports}
-use Rattle.smith_syntax.specs.Entries.{core_type_decl, type_decl, type_alias, core_type_alias, import_decl, export_decl}
+use Rattle.smith_syntax.specs.Entries.{exports, imports}
+use Rattle.smith_syntax.specs.Entries.{type_decl, type_alias, import_decl, export_decl}
 use Rattle.smith_syntax.specs.WellFormed.{is_type_eq}
 use Rattle.smith_syntax.specs.declared.deftype.ComponentTypeRef.{ComponentTypeRef}
 use Rattle.smith_syntax.specs.declared.deftype.ComponentTypeRef.TheVariants as to
@@ -14,15 +14,15 @@ use Rattle.smith_edit.specs.Edited.{after_canon, after_core, after_decl, after_e
 use Rattle.smith_edit.specs.Edited.{export_edited, import_edited, ref_edited, type_fate}
 use Rattle.smith_edit.specs.Goes.{IsGone}
 use Rattle.smith_edit.specs.Items.{function_members}
-use Rattle.smith_edit.specs.Renumbering.{Renumbering, entry_at, new_index, with_entry, with_like}
+use Rattle.smith_edit.specs.Renumbering.{Renumbering, entry_at, index_left, new_index, with_entry, with_like}
 use Rattle.smith_edit.specs.Walk.{Walk, with_type}
 use Rattle.smith_edit.specs.declared.renumbering.Fate.{Fate}
 use Rattle.smith_edit.specs.declared.renumbering.Fate.TheVariants.{Kept, Changed, Removed}
 use Rattle.smith_edit.specs.declared.renumbering.Renumbered.{Renumbered}
 use Rattle.smith_edit.specs.declared.scope.Scope.{Scope}
-use Rattle.smith_edit.proofs.Alike.{from_map}
 use Rattle.smith_edit.proofs.Follows.{entry_there, get_last}
 use Rattle.smith_edit.proofs.LowIndexes.{entry_or}
+use Rattle.smith_edit.proofs.Perhaps.{Perhaps, given, gives, mapped, nothing, whatever}
 
 -- places in a list
 
@@ -41,9 +41,7 @@ kept_remains : (f : Fate) → f ≡ Kept → ¬ (f ≡ Removed)
 kept_remains f k g = let e : Kept ≡ Removed = sym k ∙ g in absurd cc
 
 pub not_gone : (s : Renumbering) (f : Fate) → ¬ (f ≡ Removed) → ¬ (IsGone (with_entry s f) (length s.entries))
-not_gone s f h g =
-    let last : Renumbered = record { index = s.next; fate = f } in
-    h (ap (λ (r : Renumbered). r.fate) (sym (entry_there (with_entry s f) (length s.entries) last (get_last s.entries last))) ∙ g)
+not_gone s f h g = grind (arith, entry_there, get_last)
 
 pub kept_not_gone : (s : Renumbering) → ¬ (IsGone (with_entry s Kept) (length s.entries))
 kept_not_gone s = not_gone s Kept (kept_remains Kept refl)
@@ -89,39 +87,37 @@ module_decl_told s (exports n e) new = none_gone s.core_types
 module_decl_told s d new = kept_not_gone s.core_types
 
 -- what has a new index is not gone
-remains : (s : Renumbering) (i j : ℕ) → new_index s i ≡ Some j → ¬ (IsGone s i)
-remains s i j e g = go (entry_at s i).fate e g
-  where
-    go : (f : Fate) → ◌≡◌ {A = Option ℕ} (elim f [ Kept ↦ Some (entry_at s i).index | Changed ↦ Some (entry_at s i).index | Removed ↦ None ]) (Some j)
-        → ¬ (f ≡ Removed)
-    go Kept e g = absurd cc
-    go f e g = absurd cc
 
-ref_told : (own : Scope) (r q : ComponentTypeRef) → ref_edited own r ≡ Some q
-    → ¬ (IsGone (after_ref own r true).functions (length own.functions.entries))
-ref_told own (to.Func i) q e =
-    let (j, at, is) = from_map to.Func (new_index own.types i) q e in
-    not_gone own.functions (entry_at own.types i).fate (remains own.types i j at)
-ref_told own r q e = none_gone own.functions
+index_by : (f : Fate) (n : ℕ) → Perhaps (λ j. ¬ (f ≡ Removed)) (index_left (record { index = n; fate = f }))
+index_by Removed n = nothing tt
+index_by f n = gives n (λ g. absurd cc)
+
+index_told : (s : Renumbering) (i : ℕ) → Perhaps (λ j. ¬ (IsGone s i)) (new_index s i)
+index_told s i = index_by (entry_at s i).fate (entry_at s i).index
+
+ref_told : (own : Scope) (r : ComponentTypeRef)
+    → Perhaps (λ q. ¬ (IsGone (after_ref own r true).functions (length own.functions.entries))) (ref_edited own r)
+ref_told own (to.Func i) = mapped to.Func (λ j h. not_gone own.functions (entry_at own.types i).fate h) (index_told own.types i)
+ref_told own r = whatever (ref_edited own r) (λ q. none_gone own.functions)
 
 pub import_told : (w : Walk) (i new : ImportEntry) → import_edited w i ≡ Some new
     → ¬ (IsGone (after_import w.own i (Some new)).functions (length w.own.functions.entries))
 import_told w i new e =
-    let (q, at, is) = from_map (λ r. record i { to = r }) (ref_edited w.own i.to) new e in
-    ref_told w.own i.to q at
+    given {P = λ x. ¬ (IsGone (after_import w.own i (Some x)).functions (length w.own.functions.entries))} new
+    (mapped (λ r. record i { to = r }) (λ q h. h) (ref_told w.own i.to)) e
 
 abbrev like_of : Renumbering → Option Renumbered → Renumbering
 like_of s o = elim o [ None ↦ s | Some r ↦ with_entry s r.fate ]
 
-like_told : (s : Renumbering) (i j : ℕ) → new_index s i ≡ Some j → ¬ (IsGone (with_like s i true) (length s.entries))
-like_told s i j e = go (slice_get s.entries i) refl
+like_told : (s : Renumbering) (i : ℕ) → ¬ (IsGone s i) → ¬ (IsGone (with_like s i true) (length s.entries))
+like_told s i h = go (slice_get s.entries i) refl
   where
     go : (o : Option Renumbered) → slice_get s.entries i ≡ o → ¬ (IsGone (like_of s o) (length s.entries))
     go None at = none_gone s
-    go (Some r) at = not_gone s r.fate (λ g. remains s i j e (ap (λ (x : Renumbered). x.fate) (entry_there s i r at) ∙ g))
+    go (Some r) at = not_gone s r.fate (λ g. h (ap (λ (x : Renumbered). x.fate) (entry_there s i r at) ∙ g))
 
 pub export_told : (w : Walk) (x new : ExportEntry) → export_edited w x ≡ Some new
     → ¬ (IsGone (after_export w.own x (Some new)).functions (length w.own.functions.entries))
-export_told w x new e =
-    let (j, at, is) = from_map (λ f. record x { func = f }) (new_index w.own.functions x.func) new e in
-    like_told w.own.functions x.func j at
+export_told w x new e = grind (arith, given, mapped, like_told, index_told)
+
+pub ruleset told = (told_before, type_told, core_told, canon_told, decl_told, module_decl_told, import_told, export_told)

@@ -28,7 +28,7 @@ use Rattle.smith_edit.specs.declared.scope.Scope.{Scope}
 -- Members: they are in no index space, and have nothing inside.
 abbrev pub members : {A : Type 0} → (A → Option A) → Removal → List A → List A
 members edited r [] = []
-members edited r (x ∷ xs) = (if removes r then [] else option_to_list (edited x)) ++ members edited (past 1 r) xs
+members edited r (x ∷ xs) = option_to_list (if removes r then None else edited x) ++ members edited (past 1 r) xs
 
 -- The members that are left of a compound type. It is removed if none is left.
 abbrev pub left_of : {A : Type 0} → List A → List A → Option (List A)

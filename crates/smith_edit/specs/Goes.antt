@@ -3,7 +3,7 @@ use Rattle.std.specs.Prelude.{◌≡◌, ◌⊎◌, ℕ, true, List, [], ◌∷�
 use Rattle.smith_format.specs.declared.types.EntityType.{EntityType}
 use Rattle.smith_format.specs.declared.types.EntityType.TheVariants as entity
 use Rattle.smith_syntax.specs.Entries.{Case, Decl, DefValType, Entry, Field, ModuleDecl}
-use Rattle.smith_syntax.specs.Entries.{aliases, declares, exports, imports, defined, function, component_type, instance_type}
+use Rattle.smith_syntax.specs.Entries.{aliases, declares, exports, imports, defined}
 use Rattle.smith_syntax.specs.Entries.{core_type_decl, type_decl, type_alias, core_type_alias, import_decl, export_decl}
 use Rattle.smith_syntax.specs.declared.deftype.ComponentTypeRef.{ComponentTypeRef}
 use Rattle.smith_syntax.specs.declared.deftype.ComponentTypeRef.TheVariants as to

@@ -4,8 +4,8 @@ use Rattle.std.specs.Prelude.{ℕ, ◌+◌, List, [], ◌∷◌, length}
 use Rattle.std.specs.Option.{option_to_list}
 use Rattle.smith_format.specs.CoreTypes.{Function}
 use Rattle.smith_syntax.specs.Entries.{CoreEntry, core_func, core_module, Decl, Decls, DefValType, Entry, ModuleDecl, Signature}
-use Rattle.smith_syntax.specs.Entries.{aliases, declares, exports, imports, defined, function, component_type, instance_type}
-use Rattle.smith_syntax.specs.Entries.{core_type_decl, type_decl, type_alias, core_type_alias, import_decl, export_decl, no_decls, then_decls}
+use Rattle.smith_syntax.specs.Entries.{declares, defined, function, component_type, instance_type}
+use Rattle.smith_syntax.specs.Entries.{core_type_decl, type_decl, no_decls, then_decls}
 use Rattle.smith_tree.specs.Tree.{Tree, Part, ends, first}
 use Rattle.smith_tree.specs.Tree as part
 use Rattle.smith_edit.specs.Shapes.{Shape, cases, fields, labels, pair, shape, values}

@@ -28,12 +28,20 @@ abbrev pub entry_at : Renumbering → ℕ → Renumbered
 entry_at s i = elim (slice_get s.entries i) [ None ↦ record { index = i; fate = Kept } | Some e ↦ e ]
 
 -- the new index, if the entry is not removed
+
+abbrev pub index_left : Renumbered → Option ℕ
+index_left e = elim e.fate [ Kept ↦ Some e.index | Changed ↦ Some e.index | Removed ↦ None ]
+
 abbrev pub new_index : Renumbering → ℕ → Option ℕ
-new_index s i = let e = entry_at s i in elim e.fate [ Kept ↦ Some e.index | Changed ↦ Some e.index | Removed ↦ None ]
+new_index s i = index_left (entry_at s i)
 
 -- the new index, if the entry is neither removed nor changed
+
+abbrev pub index_kept : Renumbered → Option ℕ
+index_kept e = elim e.fate [ Kept ↦ Some e.index | Changed ↦ None | Removed ↦ None ]
+
 abbrev pub kept_index : Renumbering → ℕ → Option ℕ
-kept_index s i = let e = entry_at s i in elim e.fate [ Kept ↦ Some e.index | Changed ↦ None | Removed ↦ None ]
+kept_index s i = index_kept (entry_at s i)
 
 -- the fate of what remains or is removed
 abbrev pub fate_if : Bool → Fate → Fate

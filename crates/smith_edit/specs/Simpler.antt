@@ -5,11 +5,11 @@ use Rattle.smith_core.specs.Preamble.{core_preamble}
 use Rattle.smith_syntax.specs.Entries.{Case, Decl, Decls, DefValType, Entry, Field, Signature}
 use Rattle.smith_syntax.specs.Entries.{defined, function, component_type, instance_type}
 use Rattle.smith_syntax.specs.Entries.{primitive_type}
-use Rattle.smith_syntax.specs.Entries.{core_type_decl, type_decl, type_alias, core_type_alias, import_decl, export_decl, no_decls, then_decls}
+use Rattle.smith_syntax.specs.Entries.{type_decl, import_decl, export_decl, no_decls, then_decls}
 use Rattle.smith_syntax.specs.WellFormed.{decl_exports, decl_imports, names}
 use Rattle.smith_syntax.specs.declared.types.PrimitiveValType.{PrimitiveValType}
 use Rattle.smith_syntax.specs.declared.types.PrimitiveValType.TheVariants as prim
-use Rattle.smith_tree.specs.Tree.{ExportEntry, Tree, Part, ends, first, exports_of, imports_of}
+use Rattle.smith_tree.specs.Tree.{Tree, Part, ends, first, exports_of, imports_of}
 use Rattle.smith_tree.specs.Tree as part
 use Rattle.smith_tree.specs.WellFormed.{export_names, import_names}
 use Rattle.smith_edit.specs.Edits.{export_renamed, import_renamed}
@@ -37,20 +37,18 @@ renamed_at name rename names (suc k) (x ∷ xs) = option_map (λ ys. x ∷ ys) (
 abbrev pub member_renamed : {A : Type 0} → (A → List ℕ) → (A → List ℕ → A) → ℕ → List A → Option (List A)
 member_renamed name rename k xs = renamed_at name rename (map name xs) k xs
 
-abbrev pub field_renamed : Field → List ℕ → Field
-field_renamed f name = (name, f.1)
-
-abbrev pub case_renamed : Case → List ℕ → Case
-case_renamed c name = (name, c.1)
+-- a field or a case
+abbrev pub pair_renamed : {A : Type 0} → List ℕ × A → List ℕ → List ℕ × A
+pair_renamed p name = (name, p.1)
 
 abbrev pub label_renamed : List ℕ → List ℕ → List ℕ
 label_renamed n name = name
 
 abbrev pub fields_simplified : ℕ → List Field → Option (List Field)
-fields_simplified k fs = member_renamed (λ f. f.0) field_renamed k fs
+fields_simplified k fs = member_renamed (λ f. f.0) pair_renamed k fs
 
 abbrev pub cases_simplified : ℕ → List Case → Option (List Case)
-cases_simplified k cs = member_renamed (λ c. c.0) case_renamed k cs
+cases_simplified k cs = member_renamed (λ c. c.0) pair_renamed k cs
 
 abbrev pub labels_simplified : ℕ → List (List ℕ) → Option (List (List ℕ))
 labels_simplified k ns = member_renamed (λ n. n) label_renamed k ns

@@ -1,15 +1,15 @@
 //! Core types that a component declares.
 
 ghost use Rattle.std.specs.Prelude.{◌≡◌, IfOk, OnOk};
-ghost use Rattle.std.specs.Option.{option_map};
 ghost use Rattle.smith_format.specs.Shown.{shown_func};
-ghost use Rattle.smith_syntax.specs.Entries.{ModuleDecl, exports, imports};
+ghost use Rattle.smith_syntax.specs.Entries.{ModuleDecl};
 ghost use Rattle.smith_read.specs.Nodes.{shown_core_node, shown_module_node};
 ghost use Rattle.smith_edit.specs.Edited.{after_module_decl, core_edited, entity_edited, function_edited};
 ghost use Rattle.smith_edit.specs.Edited.{module_decl_edited, rows};
 ghost use Rattle.smith_edit.specs.Items.{core_items, function_items, module_decl_items};
 ghost use Rattle.smith_edit.specs.Walk.{shown_walk, skipped};
 
+use crate::items::function_items;
 use crate::members::edit_members;
 use crate::renumbering::{Fate, Renumbering};
 use crate::rows::{Row, edit_rows};
@@ -33,47 +33,13 @@ fn edit_entity(types: &Renumbering, to: EntityType) -> Option<EntityType>
     ensures { result ≡ entity_edited types.now to }
 {
     match to {
-        EntityType::Func(index) => Some(EntityType::Func(types.new_index(index)?)),
+        EntityType::Func(index) => types.new_index(index).map(EntityType::Func),
         EntityType::Tag(ty) => {
             let func_type_idx = types.new_index(ty.func_type_idx)?;
             Some(EntityType::Tag(TagType { func_type_idx }))
         }
         EntityType::Table(_) | EntityType::Memory(_) | EntityType::Global(_) => Some(to),
     }
-}
-
-// What is imported by two names; none if it refers to what is removed.
-fn edit_import(
-    walk: &Walk,
-    module_name: &str,
-    name: &str,
-    to: EntityType,
-) -> Result<Option<ModuleNode>, AllocError>
-    ensures { IfOk result (λ r. option_map shown_module_node r
-        ≡ option_map (imports module_name.now name.now) (entity_edited walk.now.scopes.own.core_types to)) }
-{
-    let Some(entity) = edit_entity(&walk.scopes.own.core_types, to) else {
-        return Ok(None);
-    };
-    let module = String::from_str(walk.alloc, module_name)?;
-    let name = String::from_str(walk.alloc, name)?;
-    Ok(Some(ModuleNode::Import {
-        module,
-        name,
-        entity,
-    }))
-}
-
-// What is exported by a name; none if it refers to what is removed.
-fn edit_export(walk: &Walk, name: &str, to: EntityType) -> Result<Option<ModuleNode>, AllocError>
-    ensures { IfOk result (λ r. option_map shown_module_node r
-        ≡ option_map (exports name.now) (entity_edited walk.now.scopes.own.core_types to)) }
-{
-    let Some(entity) = edit_entity(&walk.scopes.own.core_types, to) else {
-        return Ok(None);
-    };
-    let name = String::from_str(walk.alloc, name)?;
-    Ok(Some(ModuleNode::Export { name, entity }))
 }
 
 impl Row for ModuleNode {
@@ -87,6 +53,14 @@ impl Row for ModuleNode {
 
     ghost adds = { after_module_decl };
 
+    fn items_inside(&self) -> Result<usize, AllocError> {
+        match self {
+            ModuleNode::Func(ty) => function_items(ty),
+            ModuleNode::Import { .. } | ModuleNode::OuterAlias { .. } | ModuleNode::Export { .. } =>
+                { Ok(0) }
+        }
+    }
+
     fn edited(&self, walk: &mut Walk) -> Result<Option<ModuleNode>, AllocError> {
         match self {
             ModuleNode::Func(ty) => Ok(Some(ModuleNode::Func(edit_function(walk, ty)?))),
@@ -94,7 +68,18 @@ impl Row for ModuleNode {
                 module,
                 name,
                 entity,
-            } => edit_import(walk, module.as_str(), name.as_str(), *entity),
+            } => {
+                let Some(entity) = edit_entity(&walk.scopes.own.core_types, *entity) else {
+                    return Ok(None);
+                };
+                let module = String::from_str(walk.alloc, module.as_str())?;
+                let name = String::from_str(walk.alloc, name.as_str())?;
+                Ok(Some(ModuleNode::Import {
+                    module,
+                    name,
+                    entity,
+                }))
+            }
             ModuleNode::OuterAlias { count, index } => {
                 match walk.aliased_core_type(*count, *index) {
                     Some(index) => Ok(Some(ModuleNode::OuterAlias {
@@ -104,7 +89,13 @@ impl Row for ModuleNode {
                     None => Ok(None),
                 }
             }
-            ModuleNode::Export { name, entity } => edit_export(walk, name.as_str(), *entity),
+            ModuleNode::Export { name, entity } => {
+                let Some(entity) = edit_entity(&walk.scopes.own.core_types, *entity) else {
+                    return Ok(None);
+                };
+                let name = String::from_str(walk.alloc, name.as_str())?;
+                Ok(Some(ModuleNode::Export { name, entity }))
+            }
         }
     }
 

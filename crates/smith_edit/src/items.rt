@@ -1,87 +1,36 @@
 //! How many items there are.
 
-ghost use Rattle.std.specs.Prelude.{◌≡◌, ℕ, map, IfOk};
+ghost use Rattle.std.specs.Prelude.{◌≡◌, map, IfOk};
 ghost use Rattle.smith_format.specs.Shown.{shown_func};
-ghost use Rattle.smith_syntax.specs.Entries.{CoreEntry, Entry, ModuleDecl, in_order};
+ghost use Rattle.smith_syntax.specs.Entries.{in_order};
 ghost use Rattle.smith_tree.specs.Tree.{tree_of};
-ghost use Rattle.smith_read.specs.Nodes.{shown_core_node, shown_module_node};
+ghost use Rattle.smith_read.specs.Nodes.{shown_core_node};
 ghost use Rattle.smith_read.specs.TypeNodes.{shown_decl_node, shown_type_node};
 ghost use Rattle.smith_read.specs.PartNodes.{shown_part_node, shown_tree};
 ghost use Rattle.smith_edit.specs.Items.{core_items, decl_items, decls_items, entry_items, function_items};
-ghost use Rattle.smith_edit.specs.Items.{module_decl_items, part_items, row_items, tree_items};
+ghost use Rattle.smith_edit.specs.Items.{part_items, row_items, tree_items};
 
 use crate::counts::sum;
 use crate::members::{signature_items, value_items};
+use crate::rows::Row;
 use smith_format::FuncType;
-use smith_read::{ComponentTree, CoreNode, DeclNode, ModuleNode, PartNode, TypeNode};
+use smith_read::{ComponentTree, CoreNode, DeclNode, PartNode, TypeNode};
 use std::alloc::AllocError;
 
-/// What is an entry of a section, or a declaration of a module type.
-pub(crate) trait HasItems: Drop {
-    ghost Shown: { Type 0 };
-
-    ghost shown: { Self → Shown };
-
-    ghost inside: { Shown → ℕ };
-
-    /// How many items are inside.
-    fn items(&self) -> Result<usize, AllocError>
-        ensures { IfOk result (λ n. n ≡ inside (shown self.now)) };
-}
-
-impl HasItems for ModuleNode {
-    ghost Shown = { ModuleDecl };
-
-    ghost shown = { shown_module_node };
-
-    ghost inside = { module_decl_items };
-
-    fn items(&self) -> Result<usize, AllocError> {
-        match self {
-            ModuleNode::Func(ty) => function_items(ty),
-            ModuleNode::Import { .. } | ModuleNode::OuterAlias { .. } | ModuleNode::Export { .. } =>
-                { Ok(0) }
-        }
-    }
-}
-
-impl HasItems for CoreNode {
-    ghost Shown = { CoreEntry };
-
-    ghost shown = { shown_core_node };
-
-    ghost inside = { core_items };
-
-    fn items(&self) -> Result<usize, AllocError> {
-        core_items(self)
-    }
-}
-
-impl HasItems for TypeNode {
-    ghost Shown = { Entry };
-
-    ghost shown = { shown_type_node };
-
-    ghost inside = { entry_items };
-
-    fn items(&self) -> Result<usize, AllocError> {
-        type_items(self)
-    }
-}
-
 /// The items of entries in order, each with itself.
-pub(crate) fn row_items<T: HasItems>(items: &[T]) -> Result<usize, AllocError>
-    ensures { IfOk result (λ n. n ≡ row_items T.inside (map T.shown items.now)) }
+pub(crate) fn row_items<T: Row>(items: &[T]) -> Result<usize, AllocError>
+    ensures { IfOk result (λ n. n ≡ row_items T.items (map T.shown items.now)) }
 {
     let mut count = 0;
     for item in items {
-        let inside = sum(item.items()?, 1)?;
+        let inside = sum(item.items_inside()?, 1)?;
         count = sum(count, inside)?;
     }
     Ok(count)
 }
 
-fn function_items(ty: &FuncType) -> Result<usize, AllocError>
+/// The items of a core function type.
+pub(crate) fn function_items(ty: &FuncType) -> Result<usize, AllocError>
     ensures { IfOk result (λ n. n ≡ function_items (shown_func ty.now)) }
 {
     sum(ty.params.len(), ty.results.len())

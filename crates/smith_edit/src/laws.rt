@@ -26,18 +26,21 @@ ghost use Rattle.smith_edit.specs.declared.renumbering.Fate.{Fate};
 ghost use Rattle.smith_edit.specs.declared.scope.Scope.{Scope};
 
 /// A component without an item has fewer items.
+#[tactic(auto, using(crate::proofs::EditedSize::without_fewer))]
 pub fn items_are_fewer()
     ensures { (k : ℕ) (tree less : Tree) → without k tree ≡ Some less → tree_items less < tree_items tree }
 {}
 
 /// A component without an item has the other items, in their order, each as it was but for its indexes and for what is
 /// inside it. One that is not left is removed with the item, or goes with what it refers to, or with its last member.
+#[tactic(auto, using(crate::proofs::Remains::other_items_left))]
 pub fn other_items_remain()
     ensures { (k : ℕ) (tree less : Tree) → without k tree ≡ Some less → IsLeftWithout k tree less }
 {}
 
 /// Of the items from the first on, the k-th alone is removed, and all that is inside it: what is inside an item, or
 /// after it, is all removed only if the item is, or all that it is inside.
+#[tactic(auto, using(crate::proofs::Past::removed))]
 pub fn one_item_is_removed()
     ensures one { (k n : ℕ) → removes (past n (Item k)) ≡ true → k ≡ n }
     ensures inside { (r : Removal) → inside r ≡ Everything → removes r ≡ true }
@@ -70,6 +73,7 @@ pub fn members_go_with_their_types()
 {}
 
 /// An entry of a section that is left is not gone for what refers to it, and stays so.
+#[tactic(auto, using(crate::proofs::Told::told))]
 pub fn what_is_left_is_not_gone()
     ensures types { (s : Scope) (e new : Entry)
         → ¬ IsGone (after_type s e (Some new)).types (length s.types.entries) }
@@ -87,6 +91,7 @@ pub fn what_is_left_is_not_gone()
 {}
 
 /// Nor is a declaration that is left.
+#[tactic(auto, using(crate::proofs::Told::told))]
 pub fn declarations_left_are_not_gone()
     ensures declarations { (s : Scope) (d new : Decl) → let after = after_decl s d (Some new) in
         (¬ IsGone after.types (length s.types.entries))
@@ -96,17 +101,20 @@ pub fn declarations_left_are_not_gone()
 {}
 
 /// A component without an item has no more bytes, if the component has an encoding.
+#[tactic(auto, using(crate::proofs::EditedSize::without_shorter))]
 pub fn bytes_are_no_more()
     ensures { (k : ℕ) (tree less : Tree) (bytes : List ℕ) → without k tree ≡ Some less → Spells tree bytes
         → (fewer : List ℕ) × Spells less fewer × (length fewer ≤ length bytes) }
 {}
 
 /// A component with an item made simpler has no more items.
+#[tactic(auto, using(crate::proofs::SimplerSize::simplified_fewer))]
 pub fn items_are_no_more()
     ensures { (k : ℕ) (tree simpler : Tree) → simplified k tree ≡ Some simpler → tree_items simpler ≤ tree_items tree }
 {}
 
 /// A component with an item made simpler has no more bytes, if the component has an encoding.
+#[tactic(auto, using(crate::proofs::SimplerSize::simplified_shorter))]
 pub fn simpler_bytes_are_no_more()
     ensures { (k : ℕ) (tree simpler : Tree) (bytes : List ℕ) → simplified k tree ≡ Some simpler → Spells tree bytes
         → (fewer : List ℕ) × Spells simpler fewer × (length fewer ≤ length bytes) }
@@ -118,11 +126,13 @@ pub fn nothing_is_added()
 {}
 
 /// A component without an item is well formed, if the component is.
+#[tactic(auto, using(crate::proofs::FormedTrees::without_formed))]
 pub fn components_stay_well_formed()
     ensures { (k : ℕ) (tree less : Tree) → without k tree ≡ Some less → WellFormed tree → WellFormed less }
 {}
 
 /// Two components that are well formed are joined to one that is.
+#[tactic(auto, using(crate::proofs::FormedJoined::joined_formed))]
 pub fn joined_components_are_well_formed()
     ensures { (left right : Tree) → WellFormed left → WellFormed right → WellFormed (joined left right) }
 {}

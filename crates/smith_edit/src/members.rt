@@ -3,7 +3,7 @@
 ghost use Rattle.std.specs.Prelude.{◌≡◌, ℕ, List, Option, Some, None, length, map, string_bytes, IfOk, OnOk};
 ghost use Rattle.std.specs.Option.{option_map, option_to_list};
 ghost use Rattle.smith_format.specs.declared.types.ValType.{ValType};
-ghost use Rattle.smith_syntax.specs.Entries.{Case, Field, enum_type, flags_type, list_type, option_type, record_type};
+ghost use Rattle.smith_syntax.specs.Entries.{Case, Field, enum_type, flags_type, record_type};
 ghost use Rattle.smith_syntax.specs.Entries.{tuple_type, variant_type};
 ghost use Rattle.smith_syntax.specs.Shown.{shown_defined};
 ghost use Rattle.smith_syntax.specs.Signature.{named};
@@ -40,10 +40,8 @@ fn edit_value(types: &Renumbering, ty: ComponentValType) -> Option<ComponentValT
     ensures { result ≡ value_edited types.now ty }
 {
     match ty {
-        ComponentValType::Primitive(ty) => Some(ComponentValType::Primitive(ty)),
-        ComponentValType::Indexed(index) => {
-            Some(ComponentValType::Indexed(types.new_index(index)?))
-        }
+        ComponentValType::Primitive(_) => Some(ty),
+        ComponentValType::Indexed(index) => types.new_index(index).map(ComponentValType::Indexed),
     }
 }
 
@@ -198,57 +196,34 @@ fn edit_optional(walk: &mut Walk, ty: Option<ComponentValType>) -> Option<Compon
     }
 }
 
-fn edit_list(types: &Renumbering, ty: &ListType) -> Option<DefinedType>
-    ensures { option_map shown_defined result ≡ option_map list_type (value_edited types.now ty.now.elem_ty) }
+pub(crate) fn record_of(fields: Vec<(String, ComponentValType)>) -> DefinedType
+    ensures { shown_defined result ≡ record_type (map named fields.items) }
 {
-    let elem_ty = edit_value(types, ty.elem_ty)?;
-    Some(DefinedType::List(ListType { elem_ty }))
+    DefinedType::Record(RecordType { fields })
 }
 
-fn edit_option(types: &Renumbering, ty: &OptionType) -> Option<DefinedType>
-    ensures { option_map shown_defined result ≡ option_map option_type (value_edited types.now ty.now.inner_ty) }
+pub(crate) fn variant_of(cases: Vec<(String, Option<ComponentValType>)>) -> DefinedType
+    ensures { shown_defined result ≡ variant_type (map named cases.items) }
 {
-    let inner_ty = edit_value(types, ty.inner_ty)?;
-    Some(DefinedType::Option(OptionType { inner_ty }))
+    DefinedType::Variant(VariantType { cases })
 }
 
-pub(crate) fn record_of(fields: Option<Vec<(String, ComponentValType)>>) -> Option<DefinedType>
-    ensures { option_map shown_defined result ≡ option_map record_type (option_map (λ v. map named v.items) fields) }
+pub(crate) fn tuple_of(fields: Vec<ComponentValType>) -> DefinedType
+    ensures { shown_defined result ≡ tuple_type fields.items }
 {
-    let fields = fields?;
-    Some(DefinedType::Record(RecordType { fields }))
+    DefinedType::Tuple(TupleType { fields })
 }
 
-pub(crate) fn variant_of(
-    cases: Option<Vec<(String, Option<ComponentValType>)>>,
-) -> Option<DefinedType>
-    ensures { option_map shown_defined result ≡ option_map variant_type (option_map (λ v. map named v.items) cases) }
+pub(crate) fn flags_of(fields: Vec<String>) -> DefinedType
+    ensures { shown_defined result ≡ flags_type (map string_bytes fields.items) }
 {
-    let cases = cases?;
-    Some(DefinedType::Variant(VariantType { cases }))
+    DefinedType::Flags(FlagsType { fields })
 }
 
-pub(crate) fn tuple_of(fields: Option<Vec<ComponentValType>>) -> Option<DefinedType>
-    ensures { option_map shown_defined result ≡ option_map tuple_type (option_map (λ v. v.items) fields) }
+pub(crate) fn enum_of(variants: Vec<String>) -> DefinedType
+    ensures { shown_defined result ≡ enum_type (map string_bytes variants.items) }
 {
-    let fields = fields?;
-    Some(DefinedType::Tuple(TupleType { fields }))
-}
-
-pub(crate) fn flags_of(fields: Option<Vec<String>>) -> Option<DefinedType>
-    ensures { option_map shown_defined result
-        ≡ option_map flags_type (option_map (λ v. map string_bytes v.items) fields) }
-{
-    let fields = fields?;
-    Some(DefinedType::Flags(FlagsType { fields }))
-}
-
-pub(crate) fn enum_of(variants: Option<Vec<String>>) -> Option<DefinedType>
-    ensures { option_map shown_defined result
-        ≡ option_map enum_type (option_map (λ v. map string_bytes v.items) variants) }
-{
-    let variants = variants?;
-    Some(DefinedType::Enum(EnumType { variants }))
+    DefinedType::Enum(EnumType { variants })
 }
 
 /// A type of values; none if it refers to what is removed, or has no members left.
@@ -263,13 +238,19 @@ pub(crate) fn edit_defined(
 {
     match ty {
         DefinedType::Primitive(ty) => Ok(Some(DefinedType::Primitive(*ty))),
-        DefinedType::Record(ty) => Ok(record_of(edit_compound(walk, &ty.fields)?)),
-        DefinedType::Variant(ty) => Ok(variant_of(edit_compound(walk, &ty.cases)?)),
-        DefinedType::List(ty) => Ok(edit_list(&walk.scopes.own.types, ty)),
-        DefinedType::Tuple(ty) => Ok(tuple_of(edit_compound(walk, &ty.fields)?)),
-        DefinedType::Flags(ty) => Ok(flags_of(edit_compound(walk, &ty.fields)?)),
-        DefinedType::Enum(ty) => Ok(enum_of(edit_compound(walk, &ty.variants)?)),
-        DefinedType::Option(ty) => Ok(edit_option(&walk.scopes.own.types, ty)),
+        DefinedType::Record(ty) => Ok(edit_compound(walk, &ty.fields)?.map(record_of)),
+        DefinedType::Variant(ty) => Ok(edit_compound(walk, &ty.cases)?.map(variant_of)),
+        DefinedType::List(ty) => {
+            let elem_ty = edit_value(&walk.scopes.own.types, ty.elem_ty);
+            Ok(elem_ty.map(|elem_ty| DefinedType::List(ListType { elem_ty })))
+        }
+        DefinedType::Tuple(ty) => Ok(edit_compound(walk, &ty.fields)?.map(tuple_of)),
+        DefinedType::Flags(ty) => Ok(edit_compound(walk, &ty.fields)?.map(flags_of)),
+        DefinedType::Enum(ty) => Ok(edit_compound(walk, &ty.variants)?.map(enum_of)),
+        DefinedType::Option(ty) => {
+            let inner_ty = edit_value(&walk.scopes.own.types, ty.inner_ty);
+            Ok(inner_ty.map(|inner_ty| DefinedType::Option(OptionType { inner_ty })))
+        }
         DefinedType::Result(ty) => {
             let ok_ty = edit_optional(walk, ty.ok_ty);
             let err_ty = edit_optional(walk, ty.err_ty);

@@ -16,12 +16,13 @@ ghost use Rattle.smith_edit.specs.Removal.{past, removes};
 ghost use Rattle.smith_edit.specs.Walk.{shown_walk};
 
 use crate::core_types::edit_core_type;
+use crate::items::{core_items, type_items};
 use crate::members::signature_items;
 use crate::removal::Removal;
 use crate::renumbering::Fate;
 use crate::rows::{Row, edit_rows, push_some};
 use crate::scope::Scope;
-use crate::types::{edit_reference, edit_type};
+use crate::types::{edit_named, edit_type};
 use crate::walk::Walk;
 use smith_read::{CoreNode, CustomSection, Export, Func, ImportNode, PartNode, TypeNode};
 use smith_syntax::ComponentTypeRef;
@@ -37,6 +38,10 @@ impl Row for CoreNode {
     ghost edits = { core_row };
 
     ghost adds = { after_core };
+
+    fn items_inside(&self) -> Result<usize, AllocError> {
+        core_items(self)
+    }
 
     fn edited(&self, walk: &mut Walk) -> Result<Option<CoreNode>, AllocError> {
         Ok(Some(edit_core_type(walk, self)?))
@@ -69,6 +74,10 @@ impl Row for TypeNode {
 
     ghost adds = { after_type };
 
+    fn items_inside(&self) -> Result<usize, AllocError> {
+        type_items(self)
+    }
+
     fn edited(&self, walk: &mut Walk) -> Result<Option<TypeNode>, AllocError> {
         edit_type(walk, self)
     }
@@ -94,6 +103,10 @@ impl Row for Func {
 
     ghost adds = { after_canon };
 
+    fn items_inside(&self) -> Result<usize, AllocError> {
+        Ok(0)
+    }
+
     fn edited(&self, walk: &mut Walk) -> Result<Option<Func>, AllocError> {
         match self {
             Func::CanonLift {
@@ -109,15 +122,10 @@ impl Row for Func {
                     _ => Ok(None),
                 }
             }
-            Func::CanonLower { func_index } => match walk
-                .scopes
-                .own
-                .functions
-                .kept_index(*func_index)
-            {
-                Some(func_index) => Ok(Some(Func::CanonLower { func_index })),
-                None => Ok(None),
-            },
+            Func::CanonLower { func_index } => {
+                let new = walk.scopes.own.functions.kept_index(*func_index);
+                Ok(new.map(|func_index| Func::CanonLower { func_index }))
+            }
         }
     }
 
@@ -141,14 +149,13 @@ impl Row for ImportNode {
 
     ghost adds = { after_import };
 
+    fn items_inside(&self) -> Result<usize, AllocError> {
+        Ok(0)
+    }
+
     fn edited(&self, walk: &mut Walk) -> Result<Option<ImportNode>, AllocError> {
-        match edit_reference(&walk.scopes.own, self.to) {
-            Some(to) => {
-                let name = String::from_str(walk.alloc, self.name.as_str())?;
-                Ok(Some(ImportNode { name, to }))
-            }
-            None => Ok(None),
-        }
+        let new = edit_named(walk, self.name.as_str(), self.to)?;
+        Ok(new.map(|(name, to)| ImportNode { name, to }))
     }
 
     fn add(&self, new: &Option<ImportNode>, own: &mut Scope) -> Result<(), AllocError> {
@@ -176,14 +183,16 @@ impl Row for Export {
 
     ghost adds = { after_export };
 
+    fn items_inside(&self) -> Result<usize, AllocError> {
+        Ok(0)
+    }
+
     fn edited(&self, walk: &mut Walk) -> Result<Option<Export>, AllocError> {
-        match walk.scopes.own.functions.new_index(self.func_index) {
-            Some(func_index) => {
-                let name = String::from_str(walk.alloc, self.name.as_str())?;
-                Ok(Some(Export { name, func_index }))
-            }
-            None => Ok(None),
-        }
+        let Some(func_index) = walk.scopes.own.functions.new_index(self.func_index) else {
+            return Ok(None);
+        };
+        let name = String::from_str(walk.alloc, self.name.as_str())?;
+        Ok(Some(Export { name, func_index }))
     }
 
     fn add(&self, new: &Option<Export>, own: &mut Scope) -> Result<(), AllocError> {

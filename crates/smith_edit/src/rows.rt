@@ -22,6 +22,10 @@ pub(crate) trait Row: Drop {
 
     ghost adds: { PlainScope → Shown → Option Shown → PlainScope };
 
+    /// How many items are inside.
+    fn items_inside(&self) -> Result<usize, AllocError>
+        ensures { IfOk result (λ n. n ≡ items (shown self.now)) };
+
     /// The entry with new indexes; none if it refers to what is removed.
     fn edited(&self, walk: &mut Walk) -> Result<Option<Self>, AllocError>
         ensures edited { IfOk result (λ r. option_map shown r ≡ edits (shown_walk walk.old) (shown self.now)) }

@@ -26,10 +26,8 @@ fn copy_component(alloc: Global, nodes: &[PartNode]) -> Result<Option<ComponentT
     ensures { IfOk result (λ r. option_map shown_tree r ≡ Some (tree_of (map shown_part_node nodes.now))) }
 {
     let mut search = Search::Over;
-    match simplify_parts(alloc, &mut search, nodes)? {
-        Some(parts) => Ok(Some(ComponentTree { parts })),
-        None => Ok(None),
-    }
+    let parts = simplify_parts(alloc, &mut search, nodes)?;
+    Ok(parts.map(|parts| ComponentTree { parts }))
 }
 
 /// The component with its `k`-th item made simpler; none if there is no `k`-th item, or if it has no simpler form.

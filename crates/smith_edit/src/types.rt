@@ -20,23 +20,25 @@ use smith_read::{DeclNode, TypeNode};
 use smith_syntax::ComponentTypeRef;
 use std::alloc::AllocError;
 
-/// What an import or an export is of; none if that is removed.
-pub(crate) fn edit_reference(own: &Scope, to: ComponentTypeRef) -> Option<ComponentTypeRef>
+// What an import or an export is of; none if that is removed.
+fn edit_reference(own: &Scope, to: ComponentTypeRef) -> Option<ComponentTypeRef>
     ensures { result ≡ ref_edited own.now to }
 {
     match to {
         ComponentTypeRef::Module(index) => {
-            Some(ComponentTypeRef::Module(own.core_types.new_index(index)?))
+            own.core_types
+                .new_index(index)
+                .map(ComponentTypeRef::Module)
         }
-        ComponentTypeRef::Func(index) => Some(ComponentTypeRef::Func(own.types.new_index(index)?)),
+        ComponentTypeRef::Func(index) => own.types.new_index(index).map(ComponentTypeRef::Func),
         ComponentTypeRef::TypeEq(index) => {
-            Some(ComponentTypeRef::TypeEq(own.types.new_index(index)?))
+            own.types.new_index(index).map(ComponentTypeRef::TypeEq)
         }
         ComponentTypeRef::Component(index) => {
-            Some(ComponentTypeRef::Component(own.types.new_index(index)?))
+            own.types.new_index(index).map(ComponentTypeRef::Component)
         }
         ComponentTypeRef::Instance(index) => {
-            Some(ComponentTypeRef::Instance(own.types.new_index(index)?))
+            own.types.new_index(index).map(ComponentTypeRef::Instance)
         }
     }
 }
@@ -51,10 +53,7 @@ pub(crate) fn edit_type(walk: &mut Walk, node: &TypeNode) -> Result<Option<TypeN
         ≡ skipped (entry_items (shown_type_node node.now)) (shown_walk walk.old)) }
 {
     match node {
-        TypeNode::Defined(ty) => match edit_defined(walk, ty)? {
-            Some(ty) => Ok(Some(TypeNode::Defined(ty))),
-            None => Ok(None),
-        },
+        TypeNode::Defined(ty) => Ok(edit_defined(walk, ty)?.map(TypeNode::Defined)),
         TypeNode::Func(ty) => Ok(Some(TypeNode::Func(edit_signature(walk, ty)?))),
         TypeNode::Component(nodes) => {
             walk.enter()?;
@@ -71,8 +70,8 @@ pub(crate) fn edit_type(walk: &mut Walk, node: &TypeNode) -> Result<Option<TypeN
     }
 }
 
-// The name and what it is of; none if that is removed.
-fn edit_named(
+/// The name and what it is of; none if that is removed.
+pub(crate) fn edit_named(
     walk: &Walk,
     name: &str,
     to: ComponentTypeRef,
@@ -97,10 +96,7 @@ fn edit_declaration(walk: &mut Walk, node: &DeclNode) -> Result<Option<DeclNode>
 {
     match node {
         DeclNode::Core(ty) => Ok(Some(DeclNode::Core(edit_core_type(walk, ty)?))),
-        DeclNode::Type(ty) => match edit_type(walk, ty)? {
-            Some(ty) => Ok(Some(DeclNode::Type(ty))),
-            None => Ok(None),
-        },
+        DeclNode::Type(ty) => Ok(edit_type(walk, ty)?.map(DeclNode::Type)),
         DeclNode::TypeAlias { count, index } => match walk.aliased_type(*count, *index) {
             Some(index) => Ok(Some(DeclNode::TypeAlias {
                 count: *count,
@@ -115,14 +111,14 @@ fn edit_declaration(walk: &mut Walk, node: &DeclNode) -> Result<Option<DeclNode>
             })),
             None => Ok(None),
         },
-        DeclNode::Import { name, to } => match edit_named(walk, name.as_str(), *to)? {
-            Some((name, to)) => Ok(Some(DeclNode::Import { name, to })),
-            None => Ok(None),
-        },
-        DeclNode::Export { name, to } => match edit_named(walk, name.as_str(), *to)? {
-            Some((name, to)) => Ok(Some(DeclNode::Export { name, to })),
-            None => Ok(None),
-        },
+        DeclNode::Import { name, to } => {
+            let new = edit_named(walk, name.as_str(), *to)?;
+            Ok(new.map(|(name, to)| DeclNode::Import { name, to }))
+        }
+        DeclNode::Export { name, to } => {
+            let new = edit_named(walk, name.as_str(), *to)?;
+            Ok(new.map(|(name, to)| DeclNode::Export { name, to }))
+        }
     }
 }
 

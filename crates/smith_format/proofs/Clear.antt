@@ -1,14 +1,12 @@
 -- Two readings of the same bytes, piece by piece.
-use Rattle.std.proofs.Common.{◌≡◌, ℕ, zero, suc, ◌+◌, ◌-◌, ◌/◌, ◌%◌, ◌^◌, ◌<◌, ◌≤◌, ◌⊎◌, inl, inr, List, [], ◌∷◌, ◌++◌, length, refl, ap, sym, ◌∙◌, arith}
-use Rattle.std.proofs.Common.{nat_lt, true, false, Bool, Some, None, ℤ, pos, negsuc}
-use Rattle.std.proofs.lemmas.Bool.{ltb-false}
+use Rattle.std.proofs.Common.{◌≡◌, ℕ, zero, suc, ◌+◌, ◌/◌, ◌%◌, ◌<◌, ◌≤◌, ◌⊎◌, inl, inr, List, [], ◌∷◌, ◌++◌, length, refl, ap, sym, ◌∙◌, arith}
+use Rattle.std.proofs.Common.{Some, None, ℤ, pos, negsuc}
+use Rattle.std.proofs.lemmas.Bool.{cases_lt}
 use Rattle.std.proofs.lemmas.List.{append_cancel_left}
-use borrow.Author.Tests.{ltb-true}
 use Rattle.smith_format.specs.Numbers.{digits, unsigned, signed, as_it_is, turned}
 use Rattle.smith_format.specs.Piece.{Piece, ◌⊕◌, u, number, s, s_index, raw, text, utf8, each, many, framed, sized, byte, bytes}
 use Rattle.smith_format.specs.Clear.{Rests, Agree, IsClear, IsExact}
-use Rattle.smith_format.proofs.Piece.{utf8_then, raw_whole, assoc, left_nil, left_none, right_nil, parts_are, u_cases, number_cases}
-use Rattle.smith_format.proofs.Piece.{s_index_fits, s_index_none}
+use Rattle.smith_format.proofs.Piece.{utf8_then, raw_whole, assoc, left_nil, left_none, right_nil, parts_are, u_cases, number_cases, s_index_cases}
 use Rattle.smith_format.proofs.Steps.{framed_bytes, framed_nothing}
 use Rattle.smith_format.proofs.Digits.{digits_more, digits_last, digits_next, digits_enough}
 
@@ -40,6 +38,10 @@ clash m n b x y = let e = x.1 in let f = y.1 in let g : m ∷ x.0 ≡ n ∷ y.0 
 pub then_agree : {A : Type 0} (f : A → Piece) → IsClear f → (x y : A) (s t p q : Piece) (b : List ℕ) → (f x ⊕ s) ⊕ p ≡ Some b → (f y ⊕ t) ⊕ q ≡ Some b
     → Agree x y (s ⊕ p) (t ⊕ q)
 then_agree f c x y s t p q b e g = c.law x y (s ⊕ p) (t ⊕ q) b (sym (assoc (f x) s p) ∙ e) (sym (assoc (f y) t q) ∙ g)
+
+-- What is made of both is the same too.
+pub agree_by : {A B : Type 0} (g : A → B) {x y : A} {p q : Piece} → Agree x y p q → Agree (g x) (g y) p q
+agree_by g a = record { same = ap g a.same; rests = a.rests }
 
 -- the same for what fills its bytes
 pub exact : {A : Type 0} (f : A → Piece) → IsClear f → IsExact f
@@ -88,103 +90,73 @@ closed f told =
           record { same = r.0; rests = record { rest = g.right; first = g.q_is; second = k.q_is ∙ ap Some (sym r.1) } };
     }
 
--- Seven bits are distinguished by how they are written.
-record IsWriting (bits : ℕ → ℕ) : Type 0 where
-  same : (m n : ℕ) → m < 128 → n < 128 → bits m ≡ bits n → m ≡ n
-  small : (n : ℕ) → n < 128 → bits n < 128
-
-writing_as_it_is : IsWriting as_it_is
-writing_as_it_is = record { same = λ m n f g e. e; small = λ n h. h }
-
-writing_turned : IsWriting turned
-writing_turned = record { same = λ m n f g e. omega arith; small = λ n h. omega arith }
-
-module _ (bits : ℕ → ℕ) (w : IsWriting bits) (last : ℕ) (low : 0 < last) (high : last ≤ 128) where
-  clear_cases : (k m n : ℕ) (a c : List ℕ) → ((a' c' : List ℕ) → digits bits last k (m / 128) ++ a' ≡ digits bits last k (n / 128) ++ c'
-      → (m / 128 ≡ n / 128) × (a' ≡ c')) → (x y : Bool) → nat_lt m last ≡ x → nat_lt n last ≡ y
-      → digits bits last (suc k) m ++ a ≡ digits bits last (suc k) n ++ c → (m ≡ n) × (a ≡ c)
-  clear_cases k m n a c ih true true f g e =
-      let v : bits m ∷ a ≡ bits n ∷ c = rw (digits_last bits last (suc k) m (ltb-true m last f), digits_last bits last (suc k) n (ltb-true n last g)) at e in
-      let h : bits m ≡ bits n = cc in
-      let t : a ≡ c = cc in
-      (w.same m n (omega (arith, ltb-true m last f)) (omega (arith, ltb-true n last g)) h, t)
-  clear_cases k m n a c ih true false f g e =
-      let v : bits m ∷ a ≡ (128 + bits (n % 128)) ∷ (digits bits last k (n / 128) ++ c) =
-      rw (digits_last bits last (suc k) m (ltb-true m last f), digits_more bits last k n (ltb-false n last g)) at e in
-      let h : bits m ≡ 128 + bits (n % 128) = cc in
-      absurd (omega (arith, w.small m (omega (arith, ltb-true m last f))))
-  clear_cases k m n a c ih false true f g e =
-      let v : (128 + bits (m % 128)) ∷ (digits bits last k (m / 128) ++ a) ≡ bits n ∷ c =
-      rw (digits_more bits last k m (ltb-false m last f), digits_last bits last (suc k) n (ltb-true n last g)) at e in
-      let h : 128 + bits (m % 128) ≡ bits n = cc in
-      absurd (omega (arith, w.small n (omega (arith, ltb-true n last g))))
-  clear_cases k m n a c ih false false f g e =
-      let v : (128 + bits (m % 128)) ∷ (digits bits last k (m / 128) ++ a) ≡ (128 + bits (n % 128)) ∷ (digits bits last k (n / 128) ++ c) =
-      rw (digits_more bits last k m (ltb-false m last f), digits_more bits last k n (ltb-false n last g)) at e in
-      let h : 128 + bits (m % 128) ≡ 128 + bits (n % 128) = cc in
-      let t : digits bits last k (m / 128) ++ a ≡ digits bits last k (n / 128) ++ c = cc in
-      let r = ih a c t in
-      let r0 : m / 128 ≡ n / 128 = r.0 in
-      let r1 : m % 128 ≡ n % 128 = w.same (m % 128) (n % 128) (omega arith) (omega arith) (omega arith) in
-      (omega arith, r.1)
-
-  digits_clear : (k m n : ℕ) (a c : List ℕ) → m ≤ k → n ≤ k → digits bits last k m ++ a ≡ digits bits last k n ++ c → (m ≡ n) × (a ≡ c)
-  digits_clear zero m n a c f g e =
-      let v : bits m ∷ a ≡ bits n ∷ c = rw (digits_last bits last 0 m (omega arith), digits_last bits last 0 n (omega arith)) at e in
-      let t : a ≡ c = cc in (omega arith, t)
-  digits_clear (suc k) m n a c f g e =
-      clear_cases k m n a c (λ a' c' h. digits_clear k (m / 128) (n / 128) a' c' (omega arith) (omega arith) h) (nat_lt m last) (nat_lt n last) refl refl e
+-- Two numbers with the same bytes are told from their last digits on, however each writes seven bits.
+module _ (bits others : ℕ → ℕ) (last : ℕ) (low : 0 < last) (high : last ≤ 128) (Told : ℕ → ℕ → Type 0)
+    (small : (n : ℕ) → n < 128 → (bits n < 128) × (others n < 128))
+    (at_last : (m n : ℕ) → m < last → n < last → bits m ≡ others n → Told m n)
+    (above : (m n : ℕ) → Told (m / 128) (n / 128) → bits (m % 128) ≡ others (n % 128) → Told m n) where
+  digits_told : (k m n : ℕ) (a c : List ℕ) → m ≤ k → n ≤ k → digits bits last k m ++ a ≡ digits others last k n ++ c → Told m n × (a ≡ c)
+  digits_told zero m n a c f g e =
+      let v : bits m ∷ a ≡ others n ∷ c = rw (digits_last bits last 0 m (omega arith), digits_last others last 0 n (omega arith)) at e in
+      let h : bits m ≡ others n = cc in
+      let t : a ≡ c = cc in (at_last m n (omega arith) (omega arith) h, t)
+  digits_told (suc k) m n a c f g e = elim (cases_lt m last) [
+    | inl l ↦ elim (cases_lt n last) [
+      | inl r ↦
+          let v : bits m ∷ a ≡ others n ∷ c = rw (digits_last bits last (suc k) m l, digits_last others last (suc k) n r) at e in
+          let h : bits m ≡ others n = cc in
+          let t : a ≡ c = cc in (at_last m n l r h, t)
+      | inr r ↦
+          let v : bits m ∷ a ≡ (128 + others (n % 128)) ∷ (digits others last k (n / 128) ++ c) =
+          rw (digits_last bits last (suc k) m l, digits_more others last k n r) at e in
+          let h : bits m ≡ 128 + others (n % 128) = cc in absurd (omega (arith, (small m (omega arith)).0))
+    ]
+    | inr l ↦ elim (cases_lt n last) [
+      | inl r ↦
+          let v : (128 + bits (m % 128)) ∷ (digits bits last k (m / 128) ++ a) ≡ others n ∷ c =
+          rw (digits_more bits last k m l, digits_last others last (suc k) n r) at e in
+          let h : 128 + bits (m % 128) ≡ others n = cc in absurd (omega (arith, (small n (omega arith)).1))
+      | inr r ↦
+          let v : (128 + bits (m % 128)) ∷ (digits bits last k (m / 128) ++ a) ≡ (128 + others (n % 128)) ∷ (digits others last k (n / 128) ++ c) =
+          rw (digits_more bits last k m l, digits_more others last k n r) at e in
+          let h : 128 + bits (m % 128) ≡ 128 + others (n % 128) = cc in
+          let t : digits bits last k (m / 128) ++ a ≡ digits others last k (n / 128) ++ c = cc in
+          let d = digits_told k (m / 128) (n / 128) a c (omega arith) (omega arith) t in
+          let s : bits (m % 128) ≡ others (n % 128) = omega arith in (above m n d.0 s, d.1)
+    ]
+  ]
 
   -- numbers with as many digits as they need
-  whole_clear : (m n : ℕ) (a c : List ℕ) → digits bits last m m ++ a ≡ digits bits last n n ++ c → (m ≡ n) × (a ≡ c)
-  whole_clear m n a c e =
-      digits_clear (m + n) m n a c (omega arith) (omega arith)
+  whole_told : (m n : ℕ) (a c : List ℕ) → digits bits last m m ++ a ≡ digits others last n n ++ c → Told m n × (a ≡ c)
+  whole_told m n a c e =
+      digits_told (m + n) m n a c (omega arith) (omega arith)
       (ap (λ d. d ++ a) (digits_enough bits last (m + n) m m low (omega arith) (omega arith)) ∙ e
-      ∙ ap (λ d. d ++ c) (digits_enough bits last n (m + n) n low (omega arith) (omega arith)))
+      ∙ ap (λ d. d ++ c) (digits_enough others last n (m + n) n low (omega arith) (omega arith)))
+
+plain_told : (last : ℕ) → 0 < last → last ≤ 128 → (m n : ℕ) (a c : List ℕ) → digits as_it_is last m m ++ a ≡ digits as_it_is last n n ++ c → (m ≡ n) × (a ≡ c)
+plain_told last low high = whole_told as_it_is as_it_is last low high (λ m n. m ≡ n) (λ n h. (h, h)) (λ m n f g e. e) (λ m n d s. omega arith)
+
+turned_told : (m n : ℕ) (a c : List ℕ) → digits turned 64 m m ++ a ≡ digits turned 64 n n ++ c → (m ≡ n) × (a ≡ c)
+turned_told =
+    whole_told turned turned 64 (omega arith) (omega arith) (λ m n. m ≡ n) (λ n h. (omega arith, omega arith)) (λ m n f g e. omega arith)
+    (λ m n d s. omega arith)
 
 -- a number and one whose bits are turned differ in their last bytes
-apart_cases : (k m n : ℕ) (a c : List ℕ) → (digits as_it_is 64 k (m / 128) ++ a ≡ digits turned 64 k (n / 128) ++ c → ⊥) → (x y : Bool) → nat_lt m 64 ≡ x
-    → nat_lt n 64 ≡ y → digits as_it_is 64 (suc k) m ++ a ≡ digits turned 64 (suc k) n ++ c → ⊥
-apart_cases k m n a c ih true true f g e =
-    let v : m ∷ a ≡ (127 - n) ∷ c = rw (digits_last as_it_is 64 (suc k) m (ltb-true m 64 f), digits_last turned 64 (suc k) n (ltb-true n 64 g)) at e in
-    let h : m ≡ 127 - n = cc in omega (arith, ltb-true m 64 f, ltb-true n 64 g)
-apart_cases k m n a c ih true false f g e =
-    let v : m ∷ a ≡ (128 + (127 - n % 128)) ∷ (digits turned 64 k (n / 128) ++ c) =
-    rw (digits_last as_it_is 64 (suc k) m (ltb-true m 64 f), digits_more turned 64 k n (ltb-false n 64 g)) at e in
-    let h : m ≡ 128 + (127 - n % 128) = cc in omega (arith, ltb-true m 64 f)
-apart_cases k m n a c ih false true f g e =
-    let v : (128 + m % 128) ∷ (digits as_it_is 64 k (m / 128) ++ a) ≡ (127 - n) ∷ c =
-    rw (digits_more as_it_is 64 k m (ltb-false m 64 f), digits_last turned 64 (suc k) n (ltb-true n 64 g)) at e in
-    let h : 128 + m % 128 ≡ 127 - n = cc in omega arith
-apart_cases k m n a c ih false false f g e =
-    let v : (128 + m % 128) ∷ (digits as_it_is 64 k (m / 128) ++ a) ≡ (128 + (127 - n % 128)) ∷ (digits turned 64 k (n / 128) ++ c) =
-    rw (digits_more as_it_is 64 k m (ltb-false m 64 f), digits_more turned 64 k n (ltb-false n 64 g)) at e in
-    let t : digits as_it_is 64 k (m / 128) ++ a ≡ digits turned 64 k (n / 128) ++ c = cc in ih t
-
-digits_apart : (k m n : ℕ) (a c : List ℕ) → m ≤ k → n ≤ k → digits as_it_is 64 k m ++ a ≡ digits turned 64 k n ++ c → ⊥
-digits_apart zero m n a c f g e =
-    let v : m ∷ a ≡ (127 - n) ∷ c = rw (digits_last as_it_is 64 0 m (omega arith), digits_last turned 64 0 n (omega arith)) at e in
-    let h : m ≡ 127 - n = cc in omega arith
-digits_apart (suc k) m n a c f g e =
-    apart_cases k m n a c (λ h. digits_apart k (m / 128) (n / 128) a c (omega arith) (omega arith) h) (nat_lt m 64) (nat_lt n 64) refl refl e
-
-whole_apart : (m n : ℕ) (a c : List ℕ) → digits as_it_is 64 m m ++ a ≡ digits turned 64 n n ++ c → ⊥
-whole_apart m n a c e =
-    digits_apart (m + n) m n a c (omega arith) (omega arith)
-    (ap (λ d. d ++ a) (digits_enough as_it_is 64 (m + n) m m (omega arith) (omega arith) (omega arith)) ∙ e
-    ∙ ap (λ d. d ++ c) (digits_enough turned 64 n (m + n) n (omega arith) (omega arith) (omega arith)))
+never_told : (m n : ℕ) (a c : List ℕ) → digits as_it_is 64 m m ++ a ≡ digits turned 64 n n ++ c → ⊥ × (a ≡ c)
+never_told =
+    whole_told as_it_is turned 64 (omega arith) (omega arith) (λ m n. ⊥) (λ n h. (h, omega arith)) (λ m n f g e. omega arith) (λ m n d s. d)
 
 -- numbers
 pub unsigned_clear : (m n : ℕ) (a c : List ℕ) → unsigned m ++ a ≡ unsigned n ++ c → (m ≡ n) × (a ≡ c)
 unfolding unsigned
-unsigned_clear m n a c e = whole_clear as_it_is writing_as_it_is 128 (omega arith) (omega arith) m n a c e
+unsigned_clear m n a c e = plain_told 128 (omega arith) (omega arith) m n a c e
 
 pub signed_clear : (y z : ℤ) (a c : List ℕ) → signed y ++ a ≡ signed z ++ c → (y ≡ z) × (a ≡ c)
 unfolding signed
-signed_clear (pos m) (pos n) a c e = let r = whole_clear as_it_is writing_as_it_is 64 (omega arith) (omega arith) m n a c e in (ap pos r.0, r.1)
-signed_clear (pos m) (negsuc n) a c e = absurd (whole_apart m n a c e)
-signed_clear (negsuc m) (pos n) a c e = absurd (whole_apart n m c a (sym e))
-signed_clear (negsuc m) (negsuc n) a c e = let r = whole_clear turned writing_turned 64 (omega arith) (omega arith) m n a c e in (ap negsuc r.0, r.1)
+signed_clear (pos m) (pos n) a c e = let r = plain_told 64 (omega arith) (omega arith) m n a c e in (ap pos r.0, r.1)
+signed_clear (pos m) (negsuc n) a c e = absurd (never_told m n a c e).0
+signed_clear (negsuc m) (pos n) a c e = absurd (never_told n m c a (sym e)).0
+signed_clear (negsuc m) (negsuc n) a c e = let r = turned_told m n a c e in (ap negsuc r.0, r.1)
 
 clear_unsigned : IsClear (λ n. Some (unsigned n))
 clear_unsigned = closed unsigned unsigned_clear
@@ -193,32 +165,19 @@ pub clear_s : IsClear s
 clear_s = closed signed signed_clear
 
 -- a number that has an encoding
-u_is : (n : ℕ) (p : Piece) (b : List ℕ) → u n ⊕ p ≡ Some b → Some (unsigned n) ⊕ p ≡ Some b
-u_is n p b e = by_size (u_cases n)
-  where
-    by_size : ((u n ≡ Some (unsigned n)) × (n < 2 ^ 32)) ⊎ ((u n ≡ None) × (2 ^ 32 ≤ n)) → Some (unsigned n) ⊕ p ≡ Some b
-    by_size (inl h) = ap (λ q. q ⊕ p) (sym h.0) ∙ e
-    by_size (inr h) = let g : None ≡ Some b = sym (left_none p) ∙ ap (λ q. q ⊕ p) (sym h.0) ∙ e in cc
+has : {F N : Type 0} (n e p : Piece) (b : List ℕ) → ((n ≡ e) × F) ⊎ ((n ≡ None) × N) → n ⊕ p ≡ Some b → e ⊕ p ≡ Some b
+has n e p b (inl h) is = ap (λ q. q ⊕ p) (sym h.0) ∙ is
+has n e p b (inr h) is = let g : None ≡ Some b = sym (left_none p) ∙ ap (λ q. q ⊕ p) (sym h.0) ∙ is in cc
 
-number_is : (n : ℕ) (p : Piece) (b : List ℕ) → number n ⊕ p ≡ Some b → Some (unsigned n) ⊕ p ≡ Some b
-number_is n p b e = by_size (number_cases n)
-  where
-    by_size : ((number n ≡ Some (unsigned n)) × (n < 2 ^ 64)) ⊎ ((number n ≡ None) × (2 ^ 64 ≤ n)) → Some (unsigned n) ⊕ p ≡ Some b
-    by_size (inl h) = ap (λ q. q ⊕ p) (sym h.0) ∙ e
-    by_size (inr h) = let g : None ≡ Some b = sym (left_none p) ∙ ap (λ q. q ⊕ p) (sym h.0) ∙ e in cc
-
-pub s_index_is : (n : ℕ) (p : Piece) (b : List ℕ) → s_index n ⊕ p ≡ Some b → s (pos n) ⊕ p ≡ Some b
-s_index_is n p b e = by_test (nat_lt n (2 ^ 32)) refl
-  where
-    by_test : (x : Bool) → nat_lt n (2 ^ 32) ≡ x → s (pos n) ⊕ p ≡ Some b
-    by_test true f = ap (λ q. q ⊕ p) (sym (s_index_fits n (ltb-true n (2 ^ 32) f))) ∙ e
-    by_test false f = let g : None ≡ Some b = sym (left_none p) ∙ ap (λ q. q ⊕ p) (sym (s_index_none n (ltb-false n (2 ^ 32) f))) ∙ e in cc
+s_index_is : (n : ℕ) (p : Piece) (b : List ℕ) → s_index n ⊕ p ≡ Some b → s (pos n) ⊕ p ≡ Some b
+s_index_is n p b e = has (s_index n) (s (pos n)) p b (s_index_cases n) e
 
 pub clear_u : IsClear u
-clear_u = record { law = λ m n p q b e h. clear_unsigned.law m n p q b (u_is m p b e) (u_is n q b h) }
+clear_u = record { law = λ m n p q b e h. clear_unsigned.law m n p q b (has (u m) _ p b (u_cases m) e) (has (u n) _ q b (u_cases n) h) }
 
 pub clear_number : IsClear number
-clear_number = record { law = λ m n p q b e h. clear_unsigned.law m n p q b (number_is m p b e) (number_is n q b h) }
+clear_number =
+    record { law = λ m n p q b e h. clear_unsigned.law m n p q b (has (number m) _ p b (number_cases m) e) (has (number n) _ q b (number_cases n) h) }
 
 pub clear_s_index : IsClear s_index
 clear_s_index =
@@ -231,17 +190,12 @@ clear_s_index =
 -- the first byte of an index where a value type may appear
 pub s_index_head : (n : ℕ) (p : Piece) (b : List ℕ) → s_index n ⊕ p ≡ Some b → (h : ℕ) × (t : List ℕ) × (b ≡ h ∷ t) × ((h < 64) ⊎ (128 ≤ h))
 unfolding signed
-s_index_head n p b e = by_test (nat_lt n 64) refl
-  where
-    y : Some (digits as_it_is 64 n n) ⊕ p ≡ Some b
-    y = s_index_is n p b e
-
-    by_test : (x : Bool) → nat_lt n 64 ≡ x → (h : ℕ) × (t : List ℕ) × (b ≡ h ∷ t) × ((h < 64) ⊎ (128 ≤ h))
-    by_test true h = let f = ltb-true n 64 h in let r = head n [] p b (ap (λ d. Some d ⊕ p) (sym (digits_last as_it_is 64 n n f)) ∙ y) in (n, r.0, r.1, inl f)
-    by_test false h =
-        let f = ltb-false n 64 h in
-        let r = head (128 + n % 128) (digits as_it_is 64 (n / 128) (n / 128)) p b
-        (ap (λ d. Some d ⊕ p) (sym (digits_next as_it_is 64 n (omega arith) f)) ∙ y) in (128 + n % 128, r.0, r.1, inr (omega arith))
+s_index_head n p b e = elim (cases_lt n 64) [
+  | inl f ↦ let r = head n [] p b (ap (λ d. Some d ⊕ p) (sym (digits_last as_it_is 64 n n f)) ∙ s_index_is n p b e) in (n, r.0, r.1, inl f)
+  | inr f ↦
+      let r = head (128 + n % 128) (digits as_it_is 64 (n / 128) (n / 128)) p b
+      (ap (λ d. Some d ⊕ p) (sym (digits_next as_it_is 64 n (omega arith) f)) ∙ s_index_is n p b e) in (128 + n % 128, r.0, r.1, inr (omega arith))
+]
 
 pub clear_text : IsClear text
 unfolding text
@@ -292,6 +246,11 @@ module _ {A : Type 0} (f : A → Piece) (c : IsClear f) where
       let m : length xs ≡ length ys = omega arith in
       let r = clear_each xs ys p q a.rests.rest m a.rests.first a.rests.second in
       record { same = λ i. a.same i ∷ r.same i; rests = r.rests }
+
+  -- the same after known bytes
+  pub clear_after : (a : List ℕ) → IsClear (λ x. Some a ⊕ f x)
+  clear_after a =
+      record { law = λ x y p q b e h. let t = then_tail a (f x) (f y) p q b e h in c.law x y p q t.rest t.first t.second }
 
   pub clear_many : IsClear (many f)
   clear_many = record {

@@ -1,5 +1,5 @@
 -- The encodings of core types: how many bytes they take, and that no bytes begin with two.
-use Rattle.std.proofs.Common.{◌≡◌, ℕ, ◌+◌, ◌≤◌, Bool, true, false, List, [], ◌∷◌, refl, ap, arith, Some, ◌<◌, ◌^◌, length, sym, subst}
+use Rattle.std.proofs.Common.{◌≡◌, ℕ, ◌+◌, ◌≤◌, Bool, true, false, List, [], ◌∷◌, refl, arith, Some, ◌<◌, ◌^◌, length, sym, subst}
 use Rattle.smith_format.specs.Clear.{Agree, IsClear}
 use Rattle.smith_format.specs.CoreTypes.{ref_val, core_val, core_function, Function}
 use Rattle.smith_format.specs.Piece.{Piece, ◌⊕◌, s_index, many}
@@ -7,7 +7,7 @@ use Rattle.smith_format.specs.declared.types.RefType.{RefType}
 use Rattle.smith_format.specs.declared.types.RefType.TheVariants.{FuncRef, ExternRef, Concrete}
 use Rattle.smith_format.specs.declared.types.ValType.{ValType}
 use Rattle.smith_format.specs.declared.types.ValType.TheVariants.{I32, I64, F32, F64, V128, Ref}
-use Rattle.smith_format.proofs.Clear.{tail, head, then_head, then_tail, clash, clear_s_index, clear_many, clear_both}
+use Rattle.smith_format.proofs.Clear.{tail, head, then_head, clash, clear_s_index, clear_after, clear_many, clear_both, agree_by}
 use Rattle.std.specs.Prelude.{pos}
 use Rattle.smith_format.specs.Numbers.{signed}
 use Rattle.smith_format.specs.Writing.{Takes}
@@ -42,11 +42,9 @@ ref_law : (x y : RefType) (p q : Piece) (b : List ℕ) → ref_val x ⊕ p ≡ S
 ref_law FuncRef FuncRef p q b e h = record { same = refl; rests = tail (0x70 ∷ []) p q b e h }
 ref_law ExternRef ExternRef p q b e h = record { same = refl; rests = tail (0x6f ∷ []) p q b e h }
 ref_law (Concrete true i) (Concrete true j) p q b e h =
-    let t = then_tail (0x63 ∷ []) (s_index i) (s_index j) p q b e h in
-    let r = clear_s_index.law i j p q t.rest t.first t.second in record { same = ap (Concrete true) r.same; rests = r.rests }
+    agree_by (Concrete true) ((clear_after s_index clear_s_index (0x63 ∷ [])).law i j p q b e h)
 ref_law (Concrete false i) (Concrete false j) p q b e h =
-    let t = then_tail (0x64 ∷ []) (s_index i) (s_index j) p q b e h in
-    let r = clear_s_index.law i j p q t.rest t.first t.second in record { same = ap (Concrete false) r.same; rests = r.rests }
+    agree_by (Concrete false) ((clear_after s_index clear_s_index (0x64 ∷ [])).law i j p q b e h)
 ref_law (Concrete true i) (Concrete false j) p q b e h = let c = clash _ _ b (then_head 0x63 [] (s_index i) p b e) (then_head 0x64 [] (s_index j) q b h) in
     absurd (omega arith)
 ref_law (Concrete false i) (Concrete true j) p q b e h = let c = clash _ _ b (then_head 0x64 [] (s_index i) p b e) (then_head 0x63 [] (s_index j) q b h) in
@@ -87,7 +85,7 @@ val_law I64 I64 p q b e h = record { same = refl; rests = tail (0x7e ∷ []) p q
 val_law F32 F32 p q b e h = record { same = refl; rests = tail (0x7d ∷ []) p q b e h }
 val_law F64 F64 p q b e h = record { same = refl; rests = tail (0x7c ∷ []) p q b e h }
 val_law V128 V128 p q b e h = record { same = refl; rests = tail (0x7b ∷ []) p q b e h }
-val_law (Ref r) (Ref o) p q b e h = let z = ref_law r o p q b e h in record { same = ap Ref z.same; rests = z.rests }
+val_law (Ref r) (Ref o) p q b e h = agree_by Ref (ref_law r o p q b e h)
 val_law (Ref r) y p q b e h = let c = clash _ _ b (ref_tagged r p b e) (val_tagged y q b h) in absurd (omega (arith, ref_below r))
 val_law x (Ref r) p q b e h = let c = clash _ _ b (val_tagged x p b e) (ref_tagged r q b h) in absurd (omega (arith, ref_below r))
 val_law x y p q b e h = let c = clash _ _ b (val_tagged x p b e) (val_tagged y q b h) in absurd (omega arith)
@@ -101,10 +99,5 @@ clear_vals = clear_many core_val clear_core_val
 clear_lists : IsClear (λ (f : Function). many core_val f.0 ⊕ many core_val f.1)
 clear_lists = clear_both (many core_val) clear_vals (many core_val) clear_vals
 
-function_law : (x y : Function) (p q : Piece) (b : List ℕ) → core_function x ⊕ p ≡ Some b → core_function y ⊕ q ≡ Some b → Agree x y p q
-function_law x y p q b e h =
-    let t = then_tail (0x60 ∷ []) (many core_val x.0 ⊕ many core_val x.1) (many core_val y.0 ⊕ many core_val y.1) p q b e h in
-    clear_lists.law x y p q t.rest t.first t.second
-
 pub clear_core_function : IsClear core_function
-clear_core_function = record { law = function_law }
+clear_core_function = clear_after (λ (f : Function). many core_val f.0 ⊕ many core_val f.1) clear_lists (0x60 ∷ [])

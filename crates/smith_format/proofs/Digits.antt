@@ -1,7 +1,7 @@
 -- The digits of a number, one after another.
-use Rattle.std.proofs.Common.{◌≡◌, ℕ, zero, suc, ◌+◌, ◌*◌, ◌/◌, ◌%◌, ◌^◌, ◌<◌, ◌≤◌, ◌⊎◌, inl, inr, [], ◌∷◌, length, refl, ap, sym, ◌∙◌, arith, Bool, true}
-use Rattle.std.proofs.Common.{false, nat_lt, ℤ, pos, negsuc}
-use Rattle.std.proofs.lemmas.Bool.{cond_below, cond_above, ltb-false}
+use Rattle.std.proofs.Common.{◌≡◌, ℕ, zero, suc, ◌+◌, ◌*◌, ◌/◌, ◌%◌, ◌^◌, ◌<◌, ◌≤◌, ◌⊎◌, inl, inr, [], ◌∷◌, length, refl, ap, sym, ◌∙◌, arith, true}
+use Rattle.std.proofs.Common.{false, ℤ, pos, negsuc, ⊎_elim}
+use Rattle.std.proofs.lemmas.Bool.{cases_lt, cond_below, cond_above, ltb-false}
 use Rattle.std.proofs.Math.Nat.{pow-suc, mul_assoc, mul_comm}
 use Rattle.std.proofs.lemmas.Int.{ints}
 use Rattle.std.specs.Prelude.{◌≤ℤ◌, ◌<ℤ◌, int_lt}
@@ -21,49 +21,43 @@ module _ (bits : ℕ → ℕ) (last : ℕ) where
   unfolding digits
   digits_more more n h = sym (cond_above n last (bits n ∷ []) _ _ h refl)
 
-  enough_cases : (j k n : ℕ) → (n / 128 ≤ j → n / 128 ≤ k → digits bits last j (n / 128) ≡ digits bits last k (n / 128)) → 0 < last → n ≤ suc j → n ≤ suc k
-      → (x : Bool) → nat_lt n last ≡ x → digits bits last (suc j) n ≡ digits bits last (suc k) n
-  enough_cases j k n ih h f g true e = let l : n < last = ltb-true n last e in digits_last (suc j) n l ∙ sym (digits_last (suc k) n l)
-  enough_cases j k n ih h f g false e =
-      let l : last ≤ n = ltb-false n last e in
-      digits_more j n l ∙ ap (λ d. (128 + bits (n % 128)) ∷ d) (ih (omega arith) (omega arith)) ∙ sym (digits_more k n l)
-
   -- a number has no more digits than its value
   pub digits_enough : (j k n : ℕ) → 0 < last → n ≤ j → n ≤ k → digits bits last j n ≡ digits bits last k n
   digits_enough zero k n h f g = digits_last zero n (omega arith) ∙ sym (digits_last k n (omega arith))
   digits_enough (suc j) zero n h f g = digits_last (suc j) n (omega arith) ∙ sym (digits_last zero n (omega arith))
-  digits_enough (suc j) (suc k) n h f g = enough_cases j k n (λ x y. digits_enough j k (n / 128) h x y) h f g (nat_lt n last) refl
+  digits_enough (suc j) (suc k) n h f g =
+      ⊎_elim
+      (λ l. digits_last (suc j) n l ∙ sym (digits_last (suc k) n l))
+      (λ l. digits_more j n l ∙ ap (λ d. (128 + bits (n % 128)) ∷ d) (digits_enough j k (n / 128) h (omega arith) (omega arith)) ∙ sym (digits_more k n l))
+      (cases_lt n last)
 
   pub digits_next : (n : ℕ) → 0 < last → last ≤ n → digits bits last n n ≡ (128 + bits (n % 128)) ∷ digits bits last (n / 128) (n / 128)
   digits_next zero h l = absurd (omega arith)
   digits_next (suc m) h l = digits_more m (suc m) l ∙ ap (λ d. (128 + bits (suc m % 128)) ∷ d)
       (digits_enough m (suc m / 128) (suc m / 128) h (omega arith) (omega arith))
 
-  some_cases : (more n : ℕ) (x : Bool) → nat_lt n last ≡ x → 0 < length (digits bits last (suc more) n)
-  some_cases more n true e = let q = ap length (digits_last (suc more) n (ltb-true n last e)) in omega arith
-  some_cases more n false e = let q = ap length (digits_more more n (ltb-false n last e)) in omega arith
-
   pub digits_some : (more n : ℕ) → 0 < length (digits bits last more n)
   unfolding digits
   digits_some zero n = omega arith
-  digits_some (suc more) n = some_cases more n (nat_lt n last) refl
+  digits_some (suc more) n =
+      ⊎_elim
+      (λ l. let q = ap length (digits_last (suc more) n l) in omega arith)
+      (λ l. let q = ap length (digits_more more n l) in omega arith)
+      (cases_lt n last)
 
   grow : (k : ℕ) → last * 128 ^ suc k ≡ 128 * (last * 128 ^ k)
   grow k = ap (λ p. last * p) (pow-suc 128 k) ∙ sym (mul_assoc last (128 ^ k) 128) ∙ mul_comm (last * 128 ^ k) 128
-
-  short_cases : (k more n : ℕ) → (n / 128 < last * 128 ^ k → length (digits bits last more (n / 128)) ≤ suc k) → n < last * 128 ^ suc k → (x : Bool)
-      → nat_lt n last ≡ x → length (digits bits last (suc more) n) ≤ suc (suc k)
-  short_cases k more n ih h true e = let q = ap length (digits_last (suc more) n (ltb-true n last e)) in omega arith
-  short_cases k more n ih h false e =
-      let q = ap length (digits_more more n (ltb-false n last e)) in
-      let r : length (digits bits last more (n / 128)) ≤ suc k = ih (let g = grow k in omega arith) in omega arith
 
   -- a number below a power has few digits
   pub digits_short : (k more n : ℕ) → n < last * 128 ^ k → length (digits bits last more n) ≤ suc k
   unfolding digits
   digits_short k zero n h = omega arith
   digits_short zero (suc more) n h = let q = ap length (digits_last (suc more) n (omega arith)) in omega arith
-  digits_short (suc k) (suc more) n h = short_cases k more n (λ l. digits_short k more (n / 128) l) h (nat_lt n last) refl
+  digits_short (suc k) (suc more) n h =
+      ⊎_elim
+      (λ l. let q = ap length (digits_last (suc more) n l) in omega arith)
+      (λ l. let q = ap length (digits_more more n l) in let r = digits_short k more (n / 128) (let g = grow k in omega arith) in omega arith)
+      (cases_lt n last)
 
 -- unsigned numbers
 pub unsigned_last : (n : ℕ) → n < 128 → unsigned n ≡ n ∷ []

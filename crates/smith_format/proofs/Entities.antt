@@ -1,21 +1,18 @@
 -- No bytes begin with two encodings of what a core module imports or exports, or of its imports.
-use Rattle.std.proofs.Common.{◌≡◌, ℕ, ◌+◌, ◌*◌, ◌≤◌, Bool, true, false, List, [], ◌∷◌, refl, ap, arith, Some, None, Option}
+use Rattle.std.proofs.Common.{◌≡◌, ℕ, ◌+◌, ◌*◌, ◌≤◌, Bool, true, false, List, [], ◌∷◌, refl, arith, Some, None, Option}
 use Rattle.smith_format.specs.Clear.{Rests, Agree, IsClear}
 use Rattle.smith_format.specs.CoreTypes.{ref_val, core_val}
-use Rattle.smith_format.specs.Entities.{bit, has_maximum, maximum, limits, table_type, memory_type, global_type, tag_type, entity, CoreImport, core_import}
+use Rattle.smith_format.specs.Entities.{bit, has_maximum, maximum, limits, table_type, memory_type, global_type, tag_type, entity, core_import}
 use Rattle.smith_format.specs.Piece.{Piece, ◌⊕◌, byte, number, text, u}
 use Rattle.smith_format.specs.declared.types.EntityType.{EntityType}
 use Rattle.smith_format.specs.declared.types.EntityType.TheVariants.{Func, Table, Memory, Global, Tag}
-use Rattle.smith_format.specs.declared.types.GlobalType.{GlobalType}
-use Rattle.smith_format.specs.declared.types.MemoryType.{MemoryType}
-use Rattle.smith_format.specs.declared.types.TableType.{TableType}
 use Rattle.smith_format.specs.declared.types.TagType.{TagType}
-use Rattle.smith_format.proofs.Clear.{tail, then_head, then_tail, then_agree, clash, clear_byte, clear_number, clear_u, clear_text}
+use Rattle.smith_format.proofs.Clear.{agree_by, clear_after, tail, then_head, then_agree, clash, clear_byte, clear_number, clear_u, clear_text}
 use Rattle.smith_format.proofs.CoreTypes.{clear_ref, clear_core_val}
 
--- the flags of limits
-abbrev flags : Option ℕ → Bool → Bool → ℕ
-flags most shared wide = bit (has_maximum most) 1 + (bit shared 2 + bit wide 4)
+-- the flag of limits
+abbrev limits_flag : Option ℕ → Bool → Bool → ℕ
+limits_flag most shared wide = bit (has_maximum most) 1 + (bit shared 2 + bit wide 4)
 
 bit_same : (a c : Bool) → bit a 1 ≡ bit c 1 → a ≡ c
 bit_same true true e = refl
@@ -37,7 +34,7 @@ maximum_law : (x y : Option ℕ) (p q : Piece) (b : List ℕ) → has_maximum x 
 maximum_law None None p q b f e h = record { same = refl; rests = tail [] p q b e h }
 maximum_law None (Some n) p q b f e h = cc
 maximum_law (Some m) None p q b f e h = cc
-maximum_law (Some m) (Some n) p q b f e h = let r = clear_number.law m n p q b e h in record { same = ap Some r.same; rests = r.rests }
+maximum_law (Some m) (Some n) p q b f e h = agree_by Some (clear_number.law m n p q b e h)
 
 -- the same limits, and the same bytes after them
 record SameLimits (s t w v : Bool) (m n : ℕ) (x y : Option ℕ) (p q : Piece) : Type 0 where
@@ -53,50 +50,44 @@ clear_bytes = clear_byte (λ n. n) (λ m n e. e)
 limits_law : (s t w v : Bool) (m n : ℕ) (x y : Option ℕ) (p q : Piece) (b : List ℕ) → limits s w m x ⊕ p ≡ Some b → limits t v n y ⊕ q ≡ Some b
     → SameLimits s t w v m n x y p q
 limits_law s t w v m n x y p q b e h =
-    let a = then_agree byte clear_bytes (flags x s w) (flags y t v) (number m ⊕ maximum x) (number n ⊕ maximum y) p q b e h in
+    let a = then_agree byte clear_bytes (limits_flag x s w) (limits_flag y t v) (number m ⊕ maximum x) (number n ⊕ maximum y) p q b e h in
     let f = bits_same (has_maximum x) (has_maximum y) s t w v a.same in
     let c = then_agree number clear_number m n (maximum x) (maximum y) p q a.rests.rest a.rests.first a.rests.second in
     let r = maximum_law x y p q c.rests.rest f.0 c.rests.first c.rests.second in
     record { shared = f.1; wide = f.2; minimum = c.same; most = r.same; rests = r.rests }
 
-memory_law : (x y : MemoryType) (p q : Piece) (b : List ℕ) → memory_type x ⊕ p ≡ Some b → memory_type y ⊕ q ≡ Some b → Agree x y p q
-memory_law x y p q b e h =
-    let r = limits_law x.shared y.shared x.memory64 y.memory64 x.minimum y.minimum x.maximum y.maximum p q b e h in
-    record { same = λ i. record { minimum = r.minimum i; maximum = r.most i; shared = r.shared i; memory64 = r.wide i }; rests = r.rests }
-
 pub clear_memory : IsClear memory_type
-clear_memory = record { law = memory_law }
-
-table_law : (x y : TableType) (p q : Piece) (b : List ℕ) → table_type x ⊕ p ≡ Some b → table_type y ⊕ q ≡ Some b → Agree x y p q
-table_law x y p q b e h =
-    let a = then_agree ref_val clear_ref x.element_type y.element_type (limits false x.table64 x.minimum x.maximum) (limits false y.table64 y.minimum y.maximum)
-    p q b e h in
-    let r = limits_law false false x.table64 y.table64 x.minimum y.minimum x.maximum y.maximum p q a.rests.rest a.rests.first a.rests.second in
-    record { same = λ i. record { element_type = a.same i; table64 = r.wide i; minimum = r.minimum i; maximum = r.most i }; rests = r.rests }
+clear_memory = record {
+  law = λ x y p q b e h.
+      let r = limits_law x.shared y.shared x.memory64 y.memory64 x.minimum y.minimum x.maximum y.maximum p q b e h in
+      record { same = λ i. record { minimum = r.minimum i; maximum = r.most i; shared = r.shared i; memory64 = r.wide i }; rests = r.rests };
+}
 
 pub clear_table : IsClear table_type
-clear_table = record { law = table_law }
+clear_table = record {
+  law = λ x y p q b e h.
+      let a = then_agree ref_val clear_ref x.element_type y.element_type (limits false x.table64 x.minimum x.maximum)
+      (limits false y.table64 y.minimum y.maximum) p q b e h in
+      let r = limits_law false false x.table64 y.table64 x.minimum y.minimum x.maximum y.maximum p q a.rests.rest a.rests.first a.rests.second in
+      record { same = λ i. record { element_type = a.same i; table64 = r.wide i; minimum = r.minimum i; maximum = r.most i }; rests = r.rests };
+}
 
 clear_bit : IsClear (λ a. byte (bit a 1))
 clear_bit = clear_byte (λ a. bit a 1) bit_same
 
-global_law : (x y : GlobalType) (p q : Piece) (b : List ℕ) → global_type x ⊕ p ≡ Some b → global_type y ⊕ q ≡ Some b → Agree x y p q
-global_law x y p q b e h =
-    let a = then_agree core_val clear_core_val x.val_type y.val_type (byte (bit x.mutable 1)) (byte (bit y.mutable 1)) p q b e h in
-    let r = clear_bit.law x.mutable y.mutable p q a.rests.rest a.rests.first a.rests.second in
-    record { same = λ i. record { val_type = a.same i; mutable = r.same i }; rests = r.rests }
-
 pub clear_global : IsClear global_type
-clear_global = record { law = global_law }
+clear_global = record {
+  law = λ x y p q b e h.
+      let a = then_agree core_val clear_core_val x.val_type y.val_type (byte (bit x.mutable 1)) (byte (bit y.mutable 1)) p q b e h in
+      let r = clear_bit.law x.mutable y.mutable p q a.rests.rest a.rests.first a.rests.second in
+      record { same = λ i. record { val_type = a.same i; mutable = r.same i }; rests = r.rests };
+}
 
-tag_law : (x y : TagType) (p q : Piece) (b : List ℕ) → tag_type x ⊕ p ≡ Some b → tag_type y ⊕ q ≡ Some b → Agree x y p q
-tag_law x y p q b e h =
-    let t = then_tail (0 ∷ []) (u x.func_type_idx) (u y.func_type_idx) p q b e h in
-    let r = clear_u.law x.func_type_idx y.func_type_idx p q t.rest t.first t.second in
-    record { same = λ i. record { func_type_idx = r.same i }; rests = r.rests }
+abbrev tag_of : ℕ → TagType
+tag_of i = record { func_type_idx = i }
 
 pub clear_tag : IsClear tag_type
-clear_tag = record { law = tag_law }
+clear_tag = record { law = λ x y p q b e h. agree_by tag_of ((clear_after u clear_u (0 ∷ [])).law x.func_type_idx y.func_type_idx p q b e h) }
 
 -- the first byte of what is imported or exported
 abbrev tag : EntityType → ℕ
@@ -114,32 +105,21 @@ tagged (Global g) p b e = then_head 3 [] (global_type g) p b e
 tagged (Tag t) p b e = then_head 4 [] (tag_type t) p b e
 
 entity_law : (x y : EntityType) (p q : Piece) (b : List ℕ) → entity x ⊕ p ≡ Some b → entity y ⊕ q ≡ Some b → Agree x y p q
-entity_law (Func x) (Func y) p q b e h =
-    let t = then_tail (0 ∷ []) (u x) (u y) p q b e h in
-    let r = clear_u.law x y p q t.rest t.first t.second in record { same = ap Func r.same; rests = r.rests }
-entity_law (Table x) (Table y) p q b e h =
-    let t = then_tail (1 ∷ []) (table_type x) (table_type y) p q b e h in
-    let r = clear_table.law x y p q t.rest t.first t.second in record { same = ap Table r.same; rests = r.rests }
-entity_law (Memory x) (Memory y) p q b e h =
-    let t = then_tail (2 ∷ []) (memory_type x) (memory_type y) p q b e h in
-    let r = clear_memory.law x y p q t.rest t.first t.second in record { same = ap Memory r.same; rests = r.rests }
-entity_law (Global x) (Global y) p q b e h =
-    let t = then_tail (3 ∷ []) (global_type x) (global_type y) p q b e h in
-    let r = clear_global.law x y p q t.rest t.first t.second in record { same = ap Global r.same; rests = r.rests }
-entity_law (Tag x) (Tag y) p q b e h =
-    let t = then_tail (4 ∷ []) (tag_type x) (tag_type y) p q b e h in
-    let r = clear_tag.law x y p q t.rest t.first t.second in record { same = ap Tag r.same; rests = r.rests }
+entity_law (Func x) (Func y) p q b e h = agree_by Func ((clear_after u clear_u (0 ∷ [])).law x y p q b e h)
+entity_law (Table x) (Table y) p q b e h = agree_by Table ((clear_after table_type clear_table (1 ∷ [])).law x y p q b e h)
+entity_law (Memory x) (Memory y) p q b e h = agree_by Memory ((clear_after memory_type clear_memory (2 ∷ [])).law x y p q b e h)
+entity_law (Global x) (Global y) p q b e h = agree_by Global ((clear_after global_type clear_global (3 ∷ [])).law x y p q b e h)
+entity_law (Tag x) (Tag y) p q b e h = agree_by Tag ((clear_after tag_type clear_tag (4 ∷ [])).law x y p q b e h)
 entity_law x y p q b e h = let c = clash _ _ b (tagged x p b e) (tagged y q b h) in absurd (omega arith)
 
 pub clear_entity : IsClear entity
 clear_entity = record { law = entity_law }
 
-import_law : (x y : CoreImport) (p q : Piece) (b : List ℕ) → core_import x ⊕ p ≡ Some b → core_import y ⊕ q ≡ Some b → Agree x y p q
-import_law x y p q b e h =
-    let m = then_agree text clear_text x.0 y.0 (text x.1 ⊕ entity x.2) (text y.1 ⊕ entity y.2) p q b e h in
-    let n = then_agree text clear_text x.1 y.1 (entity x.2) (entity y.2) p q m.rests.rest m.rests.first m.rests.second in
-    let r = entity_law x.2 y.2 p q n.rests.rest n.rests.first n.rests.second in
-    record { same = λ i. (m.same i, n.same i, r.same i); rests = r.rests }
-
 pub clear_core_import : IsClear core_import
-clear_core_import = record { law = import_law }
+clear_core_import = record {
+  law = λ x y p q b e h.
+      let m = then_agree text clear_text x.0 y.0 (text x.1 ⊕ entity x.2) (text y.1 ⊕ entity y.2) p q b e h in
+      let n = then_agree text clear_text x.1 y.1 (entity x.2) (entity y.2) p q m.rests.rest m.rests.first m.rests.second in
+      let r = entity_law x.2 y.2 p q n.rests.rest n.rests.first n.rests.second in
+      record { same = λ i. (m.same i, n.same i, r.same i); rests = r.rests };
+}

@@ -1,8 +1,6 @@
 -- The length of a section's contents is put in front of them, digit by digit.
-use Rattle.std.proofs.Common.{◌≡◌, ℕ, ◌+◌, ◌-◌, ◌/◌, ◌%◌, ◌<◌, ◌≤◌, ◌⊎◌, inl, inr, List, [], ◌∷◌, ◌++◌, refl, ap, ap₂, sym, ◌∙◌, append-nil}
-use Rattle.std.proofs.Common.{append_assoc, length}
-use Rattle.std.proofs.Common.{length-append, take, drop, Some, None, arith, slice_set, ◌^◌, subst}
-use Rattle.std.proofs.Common.{Result, IsErrAnd}
+use Rattle.std.proofs.Common.{◌≡◌, ℕ, ◌+◌, ◌-◌, ◌/◌, ◌%◌, ◌<◌, ◌≤◌, ◌⊎◌, inl, inr, List, [], ◌∷◌, ◌++◌, refl, ap, ap₂, sym, ◌∙◌, append-nil, append_assoc}
+use Rattle.std.proofs.Common.{length, length-append, take, drop, Some, None, arith, slice_set, ◌^◌, subst, Result, IsErrAnd}
 use Rattle.std.proofs.lemmas.Bool.{cases_lt}
 use Rattle.std.proofs.lemmas.List.{take-append-drop, length-drop, length-take-le}
 use Rattle.std.proofs.Math.Seq.{take-append_seam, drop-append_seam}

@@ -4,6 +4,7 @@ pub mod CoreScript
 pub mod CoreTypes
 pub mod Entities
 pub mod Framing
+pub mod LawLemmas
 pub mod Many
 pub mod Digits
 pub mod Piece

@@ -1,16 +1,14 @@
 -- Pieces: how they are joined, bytes as they are, texts, and numbers that have an encoding.
-use Rattle.std.proofs.Common.{◌≡◌, ℕ, ◌+◌, ◌⊎◌, inl, inr, length-append, List, [], ◌∷◌, ◌++◌, refl, ap}
-use Rattle.std.proofs.Common.{append_assoc, Some, None, append-nil, ◌<◌, length, get_or}
-use Rattle.std.proofs.Common.{sym, ◌∙◌, IsUtf8, Bool, true, false, cond, nat_lt, ◌^◌, ◌≤◌, pos}
+use Rattle.std.proofs.Common.{◌≡◌, ℕ, ◌+◌, ◌⊎◌, inl, inr, length-append, List, [], ◌∷◌, ◌++◌, refl, ap, append_assoc, Some, None, append-nil, ◌<◌, length}
+use Rattle.std.proofs.Common.{get_or, sym, ◌∙◌, IsUtf8, Bool, true, false, cond, nat_lt, ◌^◌, ◌≤◌, pos}
 use Rattle.smith_format.specs.Piece.{Piece, ◌⊕◌, byte, bytes, raw, utf8, text, u, number, s_index}
 use Rattle.smith_format.specs.Writing.{piece_length}
 use Rattle.std.specs.List.{list_all}
 use Rattle.std.specs.Str.{is_utf8}
 use Rattle.std.proofs.lemmas.Str.{is_utf8-from_IsUtf8}
 use Rattle.std.proofs.lemmas.List.Sums.{list_all-from_AllPass}
-use Rattle.std.proofs.lemmas.Bool.{lt-ltb, cond_below, cond_above, ltb-false}
+use Rattle.std.proofs.lemmas.Bool.{lt-ltb, cases_lt, cond_below, cond_above}
 use Rattle.std.proofs.lemmas.List.Elements.{All-from_get_or}
-use borrow.Author.Tests.{ltb-true}
 use Rattle.smith_format.specs.Numbers.{unsigned, signed}
 
 pub assoc : (a b c : Piece) → (a ⊕ b) ⊕ c ≡ a ⊕ (b ⊕ c)
@@ -131,15 +129,10 @@ s_index_none n h = sym (cond_above n _ (Some (signed (pos n))) None None h refl)
 
 -- both cases, for `grind`
 pub u_cases : (n : ℕ) → ((u n ≡ Some (unsigned n)) × (n < 2 ^ 32)) ⊎ ((u n ≡ None) × (2 ^ 32 ≤ n))
-u_cases n = by_test (nat_lt n (2 ^ 32)) refl
-  where
-    by_test : (x : Bool) → nat_lt n (2 ^ 32) ≡ x → ((u n ≡ Some (unsigned n)) × (n < 2 ^ 32)) ⊎ ((u n ≡ None) × (2 ^ 32 ≤ n))
-    by_test true e = let h = ltb-true n (2 ^ 32) e in inl (u_fits n h, h)
-    by_test false e = let h = ltb-false n (2 ^ 32) e in inr (u_none n h, h)
+u_cases n = elim (cases_lt n (2 ^ 32)) [ inl l ↦ inl (u_fits n l, l) | inr l ↦ inr (u_none n l, l) ]
 
 pub number_cases : (n : ℕ) → ((number n ≡ Some (unsigned n)) × (n < 2 ^ 64)) ⊎ ((number n ≡ None) × (2 ^ 64 ≤ n))
-number_cases n = by_test (nat_lt n (2 ^ 64)) refl
-  where
-    by_test : (x : Bool) → nat_lt n (2 ^ 64) ≡ x → ((number n ≡ Some (unsigned n)) × (n < 2 ^ 64)) ⊎ ((number n ≡ None) × (2 ^ 64 ≤ n))
-    by_test true e = let h = ltb-true n (2 ^ 64) e in inl (number_fits n h, h)
-    by_test false e = let h = ltb-false n (2 ^ 64) e in inr (number_none n h, h)
+number_cases n = elim (cases_lt n (2 ^ 64)) [ inl l ↦ inl (number_fits n l, l) | inr l ↦ inr (number_none n l, l) ]
+
+pub s_index_cases : (n : ℕ) → ((s_index n ≡ Some (signed (pos n))) × (n < 2 ^ 32)) ⊎ ((s_index n ≡ None) × (2 ^ 32 ≤ n))
+s_index_cases n = elim (cases_lt n (2 ^ 32)) [ inl l ↦ inl (s_index_fits n l, l) | inr l ↦ inr (s_index_none n l, l) ]

@@ -1,15 +1,13 @@
 -- The lengths of pieces.
-use Rattle.std.proofs.Common.{◌≡◌, ℕ, suc, ◌+◌, ◌^◌, ◌<◌, ◌≤◌, ◌⊎◌, inl, inr, ◌↔◌, Bool, true, false, nat_lt, IsUtf8, List, [], ◌∷◌, length, take, drop, get_or}
-use Rattle.std.proofs.Common.{ap, subst, sym, ◌∙◌, arith, take_all, Option, Some, None, SomeIff, Result, Ok, Err, IsErrAnd, refl}
+use Rattle.std.proofs.Common.{◌≡◌, ℕ, suc, ◌+◌, ◌^◌, ◌<◌, ◌≤◌, ◌⊎◌, inl, inr, ◌↔◌, IsUtf8, List, [], ◌∷◌, length, take, drop, get_or}
+use Rattle.std.proofs.Common.{ap, subst, sym, ◌∙◌, arith, take_all, Option, Some, None, SomeIff, Result, Ok, Err, IsErrAnd}
 use Rattle.smith_input.specs.declared.error.Error.{Error}
 use Rattle.smith_input.specs.declared.error.Error.TheVariants.{TooLong}
 use Rattle.smith_format.specs.Numbers.{unsigned}
 use Rattle.smith_format.specs.Piece.{Piece, ◌⊕◌, byte, bytes, u, number, s_index, text, each, many, framed, sized}
 use Rattle.smith_format.specs.Writing.{Takes, TakesTooMuch, IsLengthOf, Measures, piece_length}
-use Rattle.smith_format.proofs.Piece.{assoc, joined, right_none, left_none, length_join, none_join, u_fits, u_none, u_cases, s_index_fits, s_index_none}
-use Rattle.smith_format.proofs.Piece.{text_is, number_fits, number_none, number_cases}
-use Rattle.std.proofs.lemmas.Bool.{ltb-false}
-use borrow.Author.Tests.{ltb-true}
+use Rattle.smith_format.proofs.Piece.{assoc, right_none, left_none, length_join, none_join, u_fits, u_none, u_cases, s_index_none}
+use Rattle.smith_format.proofs.Piece.{text_is, number_none, number_cases, s_index_cases}
 use Rattle.smith_format.proofs.Many.{each_more, each_at}
 use Rattle.smith_format.proofs.Steps.{framed_bytes, framed_nothing}
 
@@ -60,30 +58,21 @@ length_then None {m} {n} s t w = too_much_long (takes_then t w) (omega (arith, s
 pub framed_cases : (p : Piece) → ((framed p ≡ None) × TakesTooMuch p)
     ⊎ (Takes (piece_length p) p × (piece_length p < 2 ^ 32) × Takes (length (unsigned (piece_length p)) + piece_length p) (framed p))
 framed_cases None = inl (framed_nothing, too_much_none (λ i. None))
-framed_cases (Some b) = by_count (u_cases (length b))
-  where
-    by_count : ((u (length b) ≡ Some (unsigned (length b))) × (length b < 2 ^ 32)) ⊎ ((u (length b) ≡ None) × (2 ^ 32 ≤ length b))
-        → ((framed (Some b) ≡ None) × TakesTooMuch (Some b))
-        ⊎ (Takes (length b) (Some b) × (length b < 2 ^ 32) × Takes (length (unsigned (length b)) + length b) (framed (Some b)))
-    by_count (inl h) =
-        let t = takes_bytes (length b) b (λ i. length b) in
-        inr (t, h.1, subst (λ (q : Piece). Takes (length (unsigned (length b)) + length b) q) (sym (framed_bytes b)) (takes_then (takes_u (length b) h.1) t))
-    by_count (inr h) = inl (framed_bytes b ∙ ap (λ x. x ⊕ Some b) h.0 ∙ left_none (Some b), record { is = inr h.1 })
+framed_cases (Some b) = elim (u_cases (length b)) [
+  | inl h ↦
+      let t = takes_bytes (length b) b (λ i. length b) in
+      inr (t, h.1, subst (λ (q : Piece). Takes (length (unsigned (length b)) + length b) q) (sym (framed_bytes b)) (takes_then (takes_u (length b) h.1) t))
+  | inr h ↦ inl (framed_bytes b ∙ ap (λ x. x ⊕ Some b) h.0 ∙ left_none (Some b), record { is = inr h.1 })
+]
 
 pub framed_none : (p : Piece) → TakesTooMuch p → framed p ≡ None
 framed_none p t = elim (framed_cases p) [ inl h ↦ h.0 | inr h ↦ absurd (elim t.is [ inl e ↦ h.0.spelled e | inr l ↦ omega (arith, h.1) ]) ]
 
 pub takes_framed : {n : ℕ} {p : Piece} → Takes n p → n < 2 ^ 32 → Takes (length (unsigned n) + n) (framed p)
-takes_framed {n} {p} t l = by_count (framed_cases p)
-  where
-    too_short : (p ≡ None) ⊎ (2 ^ 32 ≤ piece_length p) → ⊥
-    too_short (inl e) = t.spelled e
-    too_short (inr m) = omega (arith, t.long)
-
-    by_count : ((framed p ≡ None) × TakesTooMuch p) ⊎ (Takes (piece_length p) p × (piece_length p < 2 ^ 32)
-        × Takes (length (unsigned (piece_length p)) + piece_length p) (framed p)) → Takes (length (unsigned n) + n) (framed p)
-    by_count (inl h) = absurd (too_short h.1.is)
-    by_count (inr h) = subst (λ (k : ℕ). Takes (length (unsigned k) + k) (framed p)) (sym t.long) h.2
+takes_framed {n} {p} t l = elim (framed_cases p) [
+  | inl h ↦ absurd (elim h.1.is [ inl e ↦ t.spelled e | inr m ↦ omega (arith, t.long) ])
+  | inr h ↦ subst (λ (k : ℕ). Takes (length (unsigned k) + k) (framed p)) (sym t.long) h.2
+]
 
 pub sized_none : (id : ℕ) (p : Piece) → TakesTooMuch p → sized id p ≡ None
 sized_none id p t = ap (λ x. byte id ⊕ x) (framed_none p t) ∙ right_none (byte id)
@@ -135,42 +124,32 @@ measures_none (Ok n) e is f g = absurd is
 measures_none (Err y) e is f g = (is ∙ f, g)
 
 -- if there is no encoding
+too_large : {F N : Type 0} {n : Piece} {b : List ℕ} → ((n ≡ Some b) × F) ⊎ ((n ≡ None) × N) → n ≡ None → N
+too_large (inl h) e = let f = h.0 in cc
+too_large (inr h) e = h.1
+
 pub u_none_where : (n : ℕ) → (u n ≡ None) ↔ (2 ^ 32 ≤ n)
-u_none_where n = (λ e. by_size (u_cases n) e, u_none n)
-  where
-    by_size : ((u n ≡ Some (unsigned n)) × (n < 2 ^ 32)) ⊎ ((u n ≡ None) × (2 ^ 32 ≤ n)) → u n ≡ None → 2 ^ 32 ≤ n
-    by_size (inl h) e = let f = h.0 in cc
-    by_size (inr h) e = h.1
+u_none_where n = (λ e. too_large (u_cases n) e, u_none n)
 
 pub number_none_where : (n : ℕ) → (number n ≡ None) ↔ (2 ^ 64 ≤ n)
-number_none_where n = (λ e. by_size (number_cases n) e, number_none n)
-  where
-    by_size : ((number n ≡ Some (unsigned n)) × (n < 2 ^ 64)) ⊎ ((number n ≡ None) × (2 ^ 64 ≤ n)) → number n ≡ None → 2 ^ 64 ≤ n
-    by_size (inl h) e = let f = h.0 in cc
-    by_size (inr h) e = h.1
+number_none_where n = (λ e. too_large (number_cases n) e, number_none n)
+
+pub s_index_none_where : (n : ℕ) → (s_index n ≡ None) ↔ (2 ^ 32 ≤ n)
+s_index_none_where n = (λ e. too_large (s_index_cases n) e, s_index_none n)
 
 behind : (b : List ℕ) → (u (length b) ⊕ Some b ≡ None) ↔ (2 ^ 32 ≤ length b)
-behind b = (λ e. by_part (none_join _ _ e), λ h. ap (λ q. q ⊕ Some b) (u_none (length b) h) ∙ left_none (Some b))
-  where
-    by_part : (u (length b) ≡ None) ⊎ (Some b ≡ None) → 2 ^ 32 ≤ length b
-    by_part (inl e) = (u_none_where (length b)).0 e
-    by_part (inr e) = cc
+behind b = (
+  λ e. elim (none_join _ _ e) [ inl n ↦ (u_none_where (length b)).0 n | inr n ↦ absurd (let f : Some b ≡ None = n in cc) ],
+  λ h. ap (λ q. q ⊕ Some b) (u_none (length b) h) ∙ left_none (Some b),
+)
 
 pub text_none_where : (t : List ℕ) → IsUtf8 t → (text t ≡ None) ↔ (2 ^ 32 ≤ length t)
 text_none_where t h = let e = text_is t h in let w = behind t in (λ n. w.0 (sym e ∙ n), λ l. e ∙ w.1 l)
 
 pub sized_none_where : (id : ℕ) (c : List ℕ) → (sized id (bytes c) ≡ None) ↔ (2 ^ 32 ≤ length c)
-sized_none_where id c = (λ e. by_part (none_join _ _ e), λ h. ap (λ q. byte id ⊕ q) (framed_bytes c ∙ (behind c).1 h) ∙ right_none (byte id))
-  where
-    by_part : (byte id ≡ None) ⊎ (framed (Some c) ≡ None) → 2 ^ 32 ≤ length c
-    by_part (inl e) = cc
-    by_part (inr e) = (behind c).0 (sym (framed_bytes c) ∙ e)
-
-pub s_index_none_where : (n : ℕ) → (s_index n ≡ None) ↔ (2 ^ 32 ≤ n)
-s_index_none_where n = (λ e. by_test (nat_lt n (2 ^ 32)) refl e, s_index_none n)
-  where
-    by_test : (x : Bool) → nat_lt n (2 ^ 32) ≡ x → s_index n ≡ None → 2 ^ 32 ≤ n
-    by_test true f e = let g = s_index_fits n (ltb-true n (2 ^ 32) f) in cc
-    by_test false f e = ltb-false n (2 ^ 32) f
+sized_none_where id c = (
+  λ e. elim (none_join _ _ e) [ inl n ↦ absurd (let f : byte id ≡ None = n in cc) | inr n ↦ (behind c).0 (sym (framed_bytes c) ∙ n) ],
+  λ h. ap (λ q. byte id ⊕ q) (framed_bytes c ∙ (behind c).1 h) ∙ right_none (byte id),
+)
 
 pub ruleset measuring = (left_none, right_none, length_join, none_join, u_cases, number_cases, text_is, framed_cases)

@@ -23,15 +23,15 @@ use Rattle.smith_format.specs.declared.types.TagType.{TagType}
 use Rattle.smith_format.specs.declared.types.ValType.{ValType}
 use Rattle.smith_format.specs.declared.types.ValType.TheVariants.{I32, I64, F32, F64, V128, Ref}
 use Rattle.smith_format.proofs.Piece.{left_none, right_none, none_join}
-use Rattle.smith_format.proofs.Sizes.{each_none, framed_cases, framed_none, u_none_where, number_none_where, s_index_none_where, text_none_where}
+use Rattle.smith_format.proofs.ScriptBytes.{all_of}
+use Rattle.smith_format.proofs.Sizes.{framed_cases, framed_none, u_none_where, number_none_where, s_index_none_where, text_none_where}
 
 -- two pieces have no encoding exactly if one of them has none
 pub join_none : {P Q : Type 0} (p q : Piece) → (p ≡ None) ↔ P → (q ≡ None) ↔ Q → (p ⊕ q ≡ None) ↔ (P ⊎ Q)
-join_none {P} {Q} p q f g = (λ e. elim (none_join p q e) [ inl n ↦ inl (f.0 n) | inr n ↦ inr (g.0 n) ], back)
-  where
-    back : P ⊎ Q → p ⊕ q ≡ None
-    back (inl h) = ap (λ x. x ⊕ q) (f.1 h) ∙ left_none q
-    back (inr h) = ap (λ x. p ⊕ x) (g.1 h) ∙ right_none p
+join_none {P} {Q} p q f g = (
+  λ e. elim (none_join p q e) [ inl n ↦ inl (f.0 n) | inr n ↦ inr (g.0 n) ],
+  λ h. elim h [ inl n ↦ ap (λ x. x ⊕ q) (f.1 n) ∙ left_none q | inr n ↦ ap (λ x. p ⊕ x) (g.1 n) ∙ right_none p ],
+)
 
 -- bytes in front have one
 pub after_bytes : {Q : Type 0} (b : List ℕ) (q : Piece) → (q ≡ None) ↔ Q → (Some b ⊕ q ≡ None) ↔ Q
@@ -50,21 +50,7 @@ before_bytes {P} p b f = (
 pub bytes_none : (b : List ℕ) → (Some b ≡ None) ↔ ⊥
 bytes_none b = (λ e. cc, λ h. absurd h)
 
-module _ {A : Type 0} (f : A → Piece) {P : A → Type 0} (one : (x : A) → (f x ≡ None) ↔ P x) where
-  any_later : (x : A) (xs : List A) → Any P xs → Any P (x ∷ xs)
-  any_later x xs (k, y, h, e, p) = (suc k, y, omega arith, e, p)
-
-  each_any : (xs : List A) → each f xs ≡ None → Any P xs
-  each_any [] e = absurd (let z : Some [] ≡ None = e in cc)
-  each_any (x ∷ xs) e = elim (none_join (f x) (each f xs) e) [ inl n ↦ (0, x, omega arith, refl, (one x).0 n) | inr n ↦ any_later x xs (each_any xs n) ]
-
-  pub each_none_where : (xs : List A) → (each f xs ≡ None) ↔ Any P xs
-  each_none_where xs = (each_any xs, λ a. each_none f xs a.0 a.1 a.2 (sym a.3) ((one a.1).1 a.4))
-
-  pub many_none_where : (xs : List A) → (many f xs ≡ None) ↔ ListTooLong P xs
-  many_none_where xs = join_none (u (length xs)) (each f xs) (u_none_where (length xs)) (each_none_where xs)
-
--- the same for a list of which something is known
+-- a list of which something is known
 module _ {A : Type 0} (Q : A → Type 0) (f : A → Piece) {P : A → Type 0} (one : (x : A) → Q x → (f x ≡ None) ↔ P x) where
   any_first : (x : A) (xs : List A) → P x ⊎ Any P xs → Any P (x ∷ xs)
   any_first x xs (inl p) = (0, x, omega arith, refl, p)
@@ -83,6 +69,13 @@ module _ {A : Type 0} (Q : A → Type 0) (f : A → Piece) {P : A → Type 0} (o
 
   pub many_none_among : (xs : List A) → AllByRecursion Q xs → (many f xs ≡ None) ↔ ListTooLong P xs
   many_none_among xs all = join_none (u (length xs)) (each f xs) (u_none_where (length xs)) (each_none_among xs all)
+
+module _ {A : Type 0} (f : A → Piece) {P : A → Type 0} (one : (x : A) → (f x ≡ None) ↔ P x) where
+  pub each_none_where : (xs : List A) → (each f xs ≡ None) ↔ Any P xs
+  each_none_where xs = each_none_among (λ x. Unit {0}) f (λ x known. one x) xs (all_of (λ x. Unit {0}) (λ x. tt) xs)
+
+  pub many_none_where : (xs : List A) → (many f xs ≡ None) ↔ ListTooLong P xs
+  many_none_where xs = many_none_among (λ x. Unit {0}) f (λ x known. one x) xs (all_of (λ x. Unit {0}) (λ x. tt) xs)
 
 pub ref_none_where : (r : RefType) → (ref_val r ≡ None) ↔ RefTooLong r
 ref_none_where FuncRef = bytes_none (0x70 ∷ [])
@@ -175,12 +168,9 @@ raw_none bs = (λ e all. raw_some bs all e, back (list_all (λ b. nat_lt b 256) 
 -- something after its length, by what it holds
 pub framed_none_where : {P : Type 0} (p : Piece) → (p ≡ None) ↔ P → (framed p ≡ None) ↔ (P ⊎ ContentsTooLong p)
 framed_none_where {P} p f = (
-  λ e. elim (framed_cases p) [ inl h ↦ there h.1.is | inr h ↦ absurd (h.2.spelled e) ],
+  λ e. elim (framed_cases p) [ inl h ↦ elim h.1.is [ inl n ↦ inl (f.0 n) | inr l ↦ inr l ] | inr h ↦ absurd (h.2.spelled e) ],
   λ h. framed_none p (record { is = elim h [ inl n ↦ inl (f.1 n) | inr l ↦ inr l ] }),
 )
-  where
-    there : (p ≡ None) ⊎ ContentsTooLong p → P ⊎ ContentsTooLong p
-    there h = elim h [ inl n ↦ inl (f.0 n) | inr l ↦ inr l ]
 
 pub sized_none_by : {P : Type 0} (id : ℕ) (p : Piece) → (p ≡ None) ↔ P → (sized id p ≡ None) ↔ (P ⊎ ContentsTooLong p)
 sized_none_by id p f = after_bytes (id ∷ []) (framed p) (framed_none_where p f)

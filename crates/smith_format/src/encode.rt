@@ -31,6 +31,7 @@ pub(crate) fn put_ref(out: &mut Vec<u8>, ty: RefType) -> Result<(), Error>
     }
 }
 
+#[tactic(auto, using(crate::proofs::CoreTypes::takes_concrete))]
 pub(crate) fn ref_len(ty: RefType) -> u32
     ensures length { Takes result (ref_val ty) }
     ensures most { result ≤ 6 }

@@ -5,8 +5,7 @@
 
 ghost use Rattle.std.specs.Prelude.{◌≡◌, ◌≤◌, Bool};
 ghost use Rattle.smith_format.specs.Entities.{bit, maximum, limits, table_type, memory_type, global_type, tag_type};
-ghost use Rattle.smith_format.specs.Entities.{entity};
-ghost use Rattle.smith_format.specs.Entities.{core_import};
+ghost use Rattle.smith_format.specs.Entities.{entity, core_import};
 ghost use Rattle.smith_format.specs.Shown.{shown_import};
 ghost use Rattle.smith_format.specs.Writing.{Puts, Appends, Takes, IsLengthOf};
 
@@ -52,8 +51,8 @@ fn put_limits(
 ) -> Result<(), Error>
     ensures { Puts result out.old out.new (limits shared wide minimum most) }
 {
-    let flags = bit_of(most.is_some(), 1) + (bit_of(shared, 2) + bit_of(wide, 4));
-    write_byte(out, flags)?;
+    let limits_flag = bit_of(most.is_some(), 1) + (bit_of(shared, 2) + bit_of(wide, 4));
+    write_byte(out, limits_flag)?;
     write_u64(out, minimum)?;
     put_maximum(out, most)
 }

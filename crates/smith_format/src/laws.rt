@@ -1,8 +1,8 @@
 //! Laws of encodings, and of reads of core types. Each function does nothing: its contract is the law.
+#![tactic(auto, using(crate::proofs::LawLemmas::laws))]
 
-ghost use Rattle.std.specs.Prelude.{◌≡◌, ◌↔◌, ◌⊎◌, ℕ, ◌+◌, ◌/◌, ◌%◌, ◌^◌, ◌<◌};
-ghost use Rattle.std.specs.Prelude.{◌≤◌, List, [], ◌∷◌, length, None};
-ghost use Rattle.std.specs.Prelude.{ℤ, pos, negsuc, ◌≤ℤ◌, ◌<ℤ◌, Bool};
+ghost use Rattle.std.specs.Prelude.{◌≡◌, ◌↔◌, ◌⊎◌, ℕ, ◌+◌, ◌/◌, ◌%◌, ◌^◌, ◌<◌, ◌≤◌, List, [], ◌∷◌, length, None, ℤ};
+ghost use Rattle.std.specs.Prelude.{pos, negsuc, ◌≤ℤ◌, ◌<ℤ◌, Bool};
 ghost use Rattle.std.specs.List.{AllByRecursion, Any};
 ghost use Rattle.std.specs.Str.{IsUtf8};
 ghost use Rattle.smith_input.specs.Reading.{IsDecided, IsReadAs};
@@ -126,6 +126,7 @@ pub fn core_scripts_are_read()
 {}
 
 /// The scripts of function types within the limits and of memory types are bytes.
+#[tactic(auto, using(crate::proofs::ScriptBytes::small_function, crate::proofs::ScriptBytes::small_memory))]
 pub fn core_type_scripts_are_bytes()
     ensures functions { (config : Config) (f : Function)
         → AreBytes (script_function (configured config) (max_results config) f) }

@@ -20,7 +20,7 @@ static ELEMENT_TYPES: [RefType; 2] = [RefType::FuncRef, RefType::ExternRef];
 
 // A minimum, and a maximum or none.
 #[inline(always)]
-fn limits(u: &mut Unstructured) -> (u64, Option<u64>)
+fn make_limits(u: &mut Unstructured) -> (u64, Option<u64>)
     ensures reads { ReadsLimits u.old result.0 result.1 u.new }
     ensures tail { IsTail u.new u.old }
 {
@@ -39,7 +39,7 @@ pub fn arbitrary_memtype(u: &mut Unstructured, _config: &Config) -> MemoryType
     ensures formed { FormedMemory result }
     ensures tail { IsTail u.new u.old }
 {
-    let (minimum, maximum) = limits(u);
+    let (minimum, maximum) = make_limits(u);
     MemoryType {
         minimum,
         maximum,
@@ -49,7 +49,7 @@ pub fn arbitrary_memtype(u: &mut Unstructured, _config: &Config) -> MemoryType
 }
 
 // What a table holds: functions, or things from outside if there may be references to those.
-fn element_type(u: &mut Unstructured, references: bool) -> RefType
+fn make_element_type(u: &mut Unstructured, references: bool) -> RefType
     ensures reads { ReadsElement references u.old result u.new }
     ensures tail { IsTail u.new u.old }
 {
@@ -66,8 +66,8 @@ pub fn arbitrary_table_type(u: &mut Unstructured, config: &Config) -> TableType
     ensures formed { FormedTable config.now.reference_types_enabled result }
     ensures tail { IsTail u.new u.old }
 {
-    let element_type = element_type(u, config.reference_types_enabled);
-    let (minimum, maximum) = limits(u);
+    let element_type = make_element_type(u, config.reference_types_enabled);
+    let (minimum, maximum) = make_limits(u);
     TableType {
         element_type,
         table64: false,
@@ -88,7 +88,7 @@ pub fn arbitrary_tag_type(u: &mut Unstructured, candidates: &[u32]) -> TagType
 
 // At most that many value types.
 #[inline(always)]
-fn values(
+fn make_values(
     alloc: Global,
     u: &mut Unstructured,
     valtypes: &[ValType],
@@ -126,8 +126,8 @@ pub fn arbitrary_func_type(
         → IfOk result (λ t. (shown_func t ≡ f) × (u.new ≡ rest)) }
     ensures input { Consumes result u.old u.new }
 {
-    let params = values(alloc, u, valtypes, 20)?;
-    let results = values(alloc, u, valtypes, max_results)?;
+    let params = make_values(alloc, u, valtypes, 20)?;
+    let results = make_values(alloc, u, valtypes, max_results)?;
     Ok(FuncType { params, results })
 }
 

@@ -95,6 +95,7 @@ impl Spelled<CoreFormat> for u32 {
 }
 
 /// The length of a length, a count or an index.
+#[tactic(auto, using(crate::proofs::Digits::unsigned_short_32))]
 pub fn u32_len(n: u32) -> u32
     ensures length { result ≡ length (unsigned n) }
     ensures most { result ≤ 5 }

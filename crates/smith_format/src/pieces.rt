@@ -20,6 +20,7 @@ pub fn write_raw(out: &mut Vec<u8>, rest: &[u8]) -> Result<(), Error>
 }
 
 /// The length of bytes; None exactly if it exceeds 4,294,967,295. Public only for the crates above.
+#[tactic(auto, using(crate::proofs::Piece::raw_is, crate::proofs::Sizes::measuring))]
 pub fn raw_len(contents: &[u8]) -> Option<u32>
     ensures { IsLengthOf result (raw contents.now) }
 {

@@ -13,6 +13,11 @@ use Rattle.smith_input.specs.NewNames.{appended, IsMadeUnique}
 use Rattle.smith_input.proofs.Digits.{are_digits, digits_in_word}
 use Rattle.smith_input.proofs.Reading.{tail_same, tail_trans, reads_tail, reads_unique}
 
+-- a character where a word must begin, or goes on
+abbrev pub Fits : Bool → ℕ → Type 0
+Fits true c = IsLetter c
+Fits false c = (IsLetter c ⊎ IsDigit c) ⊎ (c ≡ 45)
+
 -- what may follow a prefix of a name, where a word must begin or goes on
 abbrev pub Follows : Bool → List ℕ → Type 0
 Follows true cs = Kebab cs
@@ -36,14 +41,10 @@ is_hyphen : (c : ℕ) → c ≡ 45 → nat_eq c 45 ≡ true
 is_hyphen c h = grind (arith, nat_tests)
 
 -- one character in front
-step_name : (begins : Bool) (c : ℕ) (cs : List ℕ) → (begins ≡ true → IsLetter c) → (begins ≡ false → (IsLetter c ⊎ IsDigit c) ⊎ (c ≡ 45))
-    → Follows (nat_eq c 45) cs → Follows begins (c ∷ cs)
-step_name true c cs l i f = begins_word c cs (l refl) (subst (λ b. Follows b cs) (not_hyphen c (inl (l refl))) f)
-step_name false c cs l i f =
-    ⊎_elim
-    (λ (w : IsLetter c ⊎ IsDigit c). in_word c cs w (subst (λ b. Follows b cs) (not_hyphen c w) f))
-    (λ (h : c ≡ 45). subst (λ k. Follows false (k ∷ cs)) (sym h) (at_hyphen cs (subst (λ b. Follows b cs) (is_hyphen c h) f)))
-    (i refl)
+pub step_name : (begins : Bool) (c : ℕ) (cs : List ℕ) → Fits begins c → Follows (nat_eq c 45) cs → Follows begins (c ∷ cs)
+step_name true c cs l f = begins_word c cs l (subst (λ b. Follows b cs) (not_hyphen c (inl l)) f)
+step_name false c cs (inl w) f = in_word c cs w (subst (λ b. Follows b cs) (not_hyphen c w) f)
+step_name false c cs (inr h) f = subst (λ k. Follows false (k ∷ cs)) (sym h) (at_hyphen cs (subst (λ b. Follows b cs) (is_hyphen c h) f))
 
 letter_is : (begins : Bool) (k : ℕ) → k < 26 → character begins k ≡ 97 + k
 letter_is begins k h = grind (arith, nat_tests)
@@ -87,10 +88,10 @@ characters_follow : (begins : Bool) {bytes ks rest : List ℕ} → ReadsEach 37 
 characters_follow true none = word {cs = 97 ∷ []} ((omega arith, omega arith), tt)
 characters_follow false none = inl tt
 characters_follow true (next {k = k} {ks = ks} r rs) =
-    step_name true (character true k) (characters (nat_eq (character true k) 45) ks) (λ _. begun_is_letter k r.below) (λ e. absurd (cc e))
+    step_name true (character true k) (characters (nat_eq (character true k) 45) ks) (begun_is_letter k r.below)
     (characters_follow (nat_eq (character true k) 45) rs)
 characters_follow false (next {k = k} {ks = ks} r rs) =
-    step_name false (character false k) (characters (nat_eq (character false k) 45) ks) (λ e. absurd (cc e)) (λ _. inside_is k r.below)
+    step_name false (character false k) (characters (nat_eq (character false k) 45) ks) (inside_is k r.below)
     (characters_follow (nat_eq (character false k) 45) rs)
 
 -- one character after

@@ -2,6 +2,7 @@ pub mod Choices
 pub mod Digits
 pub mod DistinctNames
 pub mod Kebab
+pub mod LawLemmas
 pub mod Lists
 pub mod Loops
 pub mod NameScript

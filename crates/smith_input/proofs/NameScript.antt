@@ -9,10 +9,9 @@ use Rattle.smith_input.specs.Kebab.{Kebab}
 use Rattle.smith_input.specs.Names.{ReadsNew}
 use Rattle.smith_input.specs.NewNames.{appended, IsMadeNew, is_among}
 use Rattle.smith_input.specs.NameScript.{is_within, is_short, IsMadeOf, IsReachable, IsReachableText, first_readable, stem_of}
-use Rattle.smith_input.specs.Texts.{ReadsNewText}
+use Rattle.smith_input.specs.Texts.{ReadsNewText, ReadsText}
 use Rattle.smith_input.specs.NameScript.{script_within, script_new, script_new_text}
 use Rattle.smith_input.specs.Script.{script_name, script_text}
-use Rattle.smith_input.specs.Texts.{ReadsText}
 use Rattle.smith_input.proofs.Digits.{are_digits, digits_ascii, some_digits}
 use Rattle.smith_input.proofs.NameShapes.{kebab_less, kebab_within, short_within, within_read}
 use Rattle.smith_input.proofs.ReadsTexts.{text_read}

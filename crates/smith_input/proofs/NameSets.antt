@@ -50,10 +50,10 @@ cond_or true b = refl
 cond_or false b = refl
 
 -- a name that was not in a set is put into it
-pub gains : {A : Type 0} (key : String A) (name : List ℕ) (old new : BTreeSet (String A)) (added : Bool) → string_bytes key ≡ name
+pub gains : {A : Type 0} (key : String A) {name : List ℕ} {old new : BTreeSet (String A)} {added : Bool} → string_bytes key ≡ name
     → contains_text old name ≡ false → UpdatesBy string_cmp (λ k. slice_cmp nat_cmp (string_bytes key) (string_bytes k)) old new true
     → added ≡ not (contains_text old (string_bytes key)) → btree_set_len new ≡ btree_set_len old + (if added then 1 else 0) → GainsName old new name
-gains key name old new added e absent updates a len =
+gains key {old = old} {new = new} {added = added} e absent updates a len =
     let is_added : added ≡ true = a ∙ ap not (ap (contains_text old) e ∙ absent) in
     record {
       has = λ q.

@@ -11,13 +11,9 @@ use Rattle.smith_input.specs.Kebab.{IsLetter, IsDigit, AreInWord, IsWord, Kebab,
 use Rattle.smith_input.specs.Names.{character, characters, ReadsEach, none, next, ReadsKebab}
 use Rattle.smith_input.specs.NameScript.{last_word_is_a, is_within, script_within}
 use Rattle.smith_input.proofs.Digits.{AreDigits}
-use Rattle.smith_input.proofs.Kebab.{Follows, not_hyphen}
+pub use Rattle.smith_input.proofs.Kebab.{Fits}
+use Rattle.smith_input.proofs.Kebab.{Follows, not_hyphen, step_name}
 use Rattle.smith_input.proofs.Picks.{reads-pick}
-
--- a character where a word must begin, or goes on
-abbrev pub Fits : Bool → ℕ → Type 0
-Fits true c = IsLetter c
-Fits false c = (IsLetter c ⊎ IsDigit c) ⊎ (c ≡ 45)
 
 -- a name in kebab case from a place on, where a word must begin or goes on
 abbrev pub Goes : Bool → List ℕ → Type 0
@@ -185,12 +181,8 @@ kebab_within {max} {name = name} r =
     let few : length r.choices ≤ max = omega (arith, r.counted.below) in
     subst (λ cs. is_within max cs ≡ true) (sym r.spelt) (by_shape r.choices few (shaped 45 r.choices))
   where
-    short : (b : Bool) (n : ℕ) → n ≤ max → nat_le n (if b then max + 1 else max) ≡ true
-    short true n l = le-leb n (max + 1) (omega (arith, l))
-    short false n l = le-leb n max l
-
     by_shape : (ks : List ℕ) → length ks ≤ max → Shaped 45 ks → is_within max (characters true ks) ≡ true
-    by_shape ks few (inl l) = short (last_word_is_a (characters true ks)) (length (characters true ks)) (omega (arith, l, few))
+    by_shape ks few (inl l) = short_within max (characters true ks) (omega (arith, l, few))
     by_shape ks few (inr (front, e, l)) =
         let cs = characters true ks in
         subst (λ b. nat_le (length cs) (if b then max + 1 else max) ≡ true) (sym (front_a cs front e)) (le-leb (length cs) (max + 1) (omega (arith, l, few)))
@@ -203,24 +195,10 @@ goes_less true [] (c ∷ ds) d g = absurd (omega (arith, d.0.1, g.0.0))
 goes_less false [] ds d g = tt
 goes_less begins (c ∷ cs) ds d g = (g.0, goes_less (nat_eq c 45) cs ds d g.1)
 
-goes_kebab : (begins : Bool) (cs : List ℕ) → Goes begins cs → Follows begins cs
+pub goes_kebab : (begins : Bool) (cs : List ℕ) → Goes begins cs → Follows begins cs
 goes_kebab true [] g = absurd g
 goes_kebab false [] g = inl tt
-goes_kebab true (c ∷ cs) g =
-    let f : Follows false cs = subst (λ b. Follows b cs) (not_hyphen c (inl g.0)) (goes_kebab (nat_eq c 45) cs g.1) in
-    elim f [
-      | inl w ↦ word (g.0, w)
-      | inr (ds, es, e, w, k) ↦ subst (λ z. Kebab (c ∷ z)) (sym e) (hyphen (c ∷ ds) es (g.0, w) k)
-    ]
-goes_kebab false (c ∷ cs) (inl l, g) =
-    let f : Follows false cs = subst (λ b. Follows b cs) (not_hyphen c l) (goes_kebab (nat_eq c 45) cs g) in
-    elim f [
-      | inl w ↦ inl (l, w)
-      | inr (ds, es, e, w, k) ↦ inr (c ∷ ds, es, ap (λ z. c ∷ z) e, (l, w), k)
-    ]
-goes_kebab false (c ∷ cs) (inr e, g) =
-    let k : Follows true cs = subst (λ b. Follows b cs) (ap (λ z. nat_eq z 45) e) (goes_kebab (nat_eq c 45) cs g) in
-    inr ([], cs, ap (λ z. z ∷ cs) e, tt, k)
+goes_kebab begins (c ∷ cs) g = step_name begins c cs g.0 (goes_kebab (nat_eq c 45) cs g.1)
 
 pub kebab_less : (cs ds : List ℕ) → AreDigits ds → Kebab (cs ++ ds) → Kebab cs
 kebab_less cs ds d k = goes_kebab true cs (goes_less true cs ds d (kebab_goes k))

@@ -1,33 +1,8 @@
 -- What is offered, item by item.
-use Rattle.std.proofs.Common.{◌≡◌, ℕ, suc, ◌+◌, ◌<◌, ◌≤◌, Bool, true, false, List, [], ◌∷◌, length, ap, ◌∙◌, refl, get_or, add-one, arith, zero, subst, None}
-use Rattle.std.proofs.Math.ListN.{drop}
+use Rattle.std.proofs.Common.{◌≡◌, ℕ, suc, ◌≤◌, Bool, true, false, List, [], ◌∷◌, length, ap, ◌∙◌, refl, arith, zero, subst, None}
 use Rattle.std.specs.List.{AllByRecursion}
 use Rattle.std.specs.Prelude.{if◌then◌else◌, slice_get, Some}
 use Rattle.smith_input.specs.Offers.{offers_of}
-use Rattle.smith_input.proofs.Rests.{drop_past, rest_at}
-
-module _ {A : Type 0} (os : List (Bool × A)) (i : ℕ) (o : Bool × A) (h : i < length os) (e : o ≡ get_or os i o) where
-  at : drop i os ≡ o ∷ drop (i + 1) os
-  at = rest_at os i o h e
-
-  both : (b : Bool) → o.0 ≡ b → offers_of (o ∷ drop (i + 1) os) ≡ (if b then o.1 ∷ offers_of (drop (i + 1) os) else offers_of (drop (i + 1) os))
-  both b f = ap (λ c. if c then o.1 ∷ offers_of (drop (i + 1) os) else offers_of (drop (i + 1) os)) f
-
-  pub offered_next : o.0 ≡ true → offers_of (drop i os) ≡ o.1 ∷ offers_of (drop (i + 1) os)
-  offered_next f = ap offers_of at ∙ both true f
-
-  pub not_offered : o.0 ≡ false → offers_of (drop i os) ≡ offers_of (drop (i + 1) os)
-  not_offered f = ap offers_of at ∙ both false f
-
-pub no_more_offers : {A : Type 0} (os : List (Bool × A)) (i : ℕ) → length os ≤ i → offers_of (drop i os) ≡ []
-no_more_offers os i h = ap offers_of (drop_past os i h)
-
--- the first of a list, and a later one
-pub first_of : {A : Type 0} (xs ys : List A) (y : A) (n : ℕ) → n ≡ 0 → xs ≡ y ∷ ys → slice_get xs n ≡ Some y
-first_of xs ys y n e f = ap (slice_get xs) e ∙ ap (λ zs. slice_get zs 0) f
-
-pub later_of : {A : Type 0} (xs ys : List A) (y : A) (n m : ℕ) → n ≡ m + 1 → xs ≡ y ∷ ys → slice_get xs n ≡ slice_get ys m
-later_of xs ys y n m e f = ap (slice_get xs) (e ∙ add-one m) ∙ ap (λ zs. slice_get zs (suc m)) f
 
 -- What holds of each item whose condition holds, holds of what is offered.
 

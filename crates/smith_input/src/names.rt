@@ -6,9 +6,8 @@ ghost use Rattle.std.specs.BTreeSet.{contains_text};
 ghost use Rattle.smith_input.specs.Consumes.{Consumes};
 ghost use Rattle.smith_input.specs.Texts.{ReadsNewText, ReadsText};
 ghost use Rattle.smith_input.specs.Kebab.{Kebab};
-ghost use Rattle.smith_input.specs.Names.{character, ReadsKebab, ReadsNew, ReadsUnique, ReadsUrl};
+ghost use Rattle.smith_input.specs.Names.{character, ReadsKebab, ReadsNew, ReadsUnique, ReadsUrl, GainsName};
 ghost use Rattle.smith_input.specs.NewNames.{is_among, IsMadeNew};
-ghost use Rattle.smith_input.specs.Names.{GainsName};
 ghost use Rattle.smith_input.specs.Script.{script_name};
 
 use crate::{Error, Unstructured, limited_string};

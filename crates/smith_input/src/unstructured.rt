@@ -1,7 +1,6 @@
 //! The reader.
 
-ghost use Rattle.std.specs.Prelude.{◌≡◌, ℕ, ◌+◌, ◌-◌, ◌/◌, ◌%◌, ◌^◌, ◌<◌, ◌≤◌, ◌↔◌, IsTrue};
-ghost use Rattle.std.specs.Prelude.{[], length, Some};
+ghost use Rattle.std.specs.Prelude.{◌≡◌, ℕ, ◌+◌, ◌-◌, ◌/◌, ◌%◌, ◌^◌, ◌<◌, ◌≤◌, ◌↔◌, IsTrue, [], length, Some};
 ghost use Rattle.std.specs.Prelude.{slice_get, slice_index, drop};
 ghost use Rattle.smith_input.specs.Reading.{IsWidth, Reads, Flips, More, spelled};
 
@@ -133,6 +132,7 @@ impl<'a> Unstructured<'a> {
     // A choice among `last + 1`, which may exceed 64 bits. It is not inlined, so that the others stay small.
     #[cold]
     #[inline(never)]
+    #[tactic(auto, using(crate::proofs::Widths::reads_rest))]
     fn pick_wide(&mut self, last: u64) -> u64
         ensures { Reads (last + 1) self.old result self.new }
     {
@@ -146,6 +146,7 @@ impl<'a> Unstructured<'a> {
     }
 
     // A choice among `last + 1`: one byte or none for most, which takes no loop and no division.
+    #[tactic(auto, using(crate::proofs::Widths::one_byte_chosen))]
     fn pick(&mut self, last: u64) -> u64
         ensures { Reads (last + 1) self.old result self.new }
     {

@@ -62,6 +62,4 @@ module _ (l : ℕ) (inner : List ℕ → Option Tree) where
       → with_parts front (parts_at l inner (count - i) bs) ≡ total → total ≡ None
   unfolding parts_at
   parts_left front count i [] total le some so_far = absurd (omega arith)
-  parts_left front count i (b ∷ bs) total le some so_far =
-      let k : count - i ≡ 0 = omega arith in
-      sym so_far ∙ ap (λ n. with_parts front (parts_at l inner n (b ∷ bs))) k
+  parts_left front count i (b ∷ bs) total le some so_far = grind arith

@@ -5,7 +5,7 @@ use Rattle.std.specs.List.{AllByRecursion}
 use Rattle.smith_format.specs.Piece.{Piece, ◌⊕◌, byte, u, each, many}
 use Rattle.smith_format.proofs.Piece.{left_none, right_none}
 use Rattle.smith_syntax.specs.Entries.{Entry, defined, function, component_type, instance_type}
-use Rattle.smith_syntax.specs.Entries.{Decl, Decls, core_type_decl, type_decl, type_alias, core_type_alias, import_decl, export_decl, no_decls, then_decls}
+use Rattle.smith_syntax.specs.Entries.{Decl, Decls, type_decl, no_decls, then_decls}
 use Rattle.smith_syntax.specs.Entries.{decl_count}
 use Rattle.smith_syntax.specs.Grammar.{entry, decl, decls}
 use Rattle.smith_syntax.specs.Nesting.{nesting, decl_nesting, decls_nesting}
@@ -22,12 +22,8 @@ under_then p q r s (inr e) (inr f) = inr (ap (λ x. x ⊕ r) e ∙ ap (λ x. q �
 
 module _ (inner : Entry → Piece) (under : (e : Entry) → Under (inner e) (entry e)) where
   decl_under : (b : Bool) (d : Decl) → Under (decl_in inner b d) (decl b d)
-  decl_under b (core_type_decl t k) = inr refl
   decl_under b (type_decl e) = under_then (byte 0x01) (byte 0x01) (inner e) (entry e) (inr refl) (under e)
-  decl_under b (type_alias n i k) = inr refl
-  decl_under b (core_type_alias n i k) = inr refl
-  decl_under b (import_decl n k r) = inr refl
-  decl_under b (export_decl n k r) = inr refl
+  decl_under b _ = inr refl
 
   decls_under : (b : Bool) (ds : Decls) → Under (decls_in inner b ds) (decls b ds)
   decls_under b no_decls = inr refl
@@ -52,12 +48,8 @@ entry_under (suc n) e = around_under (entry_in n) (λ x. entry_under n x) e
 
 module _ (inner : Entry → Piece) (n : ℕ) (same : (e : Entry) → nesting e ≤ n → inner e ≡ entry e) where
   decl_same : (b : Bool) (d : Decl) → decl_nesting d ≤ n → decl_in inner b d ≡ decl b d
-  decl_same b (core_type_decl t k) h = refl
   decl_same b (type_decl e) h = ap (λ p. byte 0x01 ⊕ p) (same e h)
-  decl_same b (type_alias m i k) h = refl
-  decl_same b (core_type_alias m i k) h = refl
-  decl_same b (import_decl m k r) h = refl
-  decl_same b (export_decl m k r) h = refl
+  decl_same b _ h = refl
 
   decls_same : (b : Bool) (ds : Decls) → decls_nesting ds ≤ n → decls_in inner b ds ≡ decls b ds
   decls_same b no_decls h = refl

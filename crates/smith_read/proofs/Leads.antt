@@ -1,6 +1,6 @@
 -- Texts that are written backwards.
-use Rattle.std.proofs.Common.{◌≡◌, ℕ, suc, ◌+◌, ◌-◌, ◌<◌, ◌≤◌, ◌⊎◌, inl, inr, List, [], ◌++◌, length, take, drop, get_or, refl, ap, sym, ◌∙◌, subst, arith}
-use Rattle.std.proofs.Common.{Some, None, Result, Ok, Err, IsErrAnd, length-append, reverse, ◌∷◌, ap₂, append-nil}
+use Rattle.std.proofs.Common.{◌≡◌, ℕ, suc, ◌+◌, ◌-◌, ◌<◌, ◌≤◌, ◌⊎◌, inl, inr, List, [], ◌++◌, length, take, drop, get_or, ap, sym, ◌∙◌, subst, arith}
+use Rattle.std.proofs.Common.{Some, Result, Ok, Err, IsErrAnd, length-append, reverse, ◌∷◌, ap₂, append-nil}
 use Rattle.std.proofs.lemmas.List.{drop_all, drop_at, take_at, take_rest, reverse-append, reverse-reverse, length-drop, length-reverse, length-take-le}
 use borrow.Rule.Slice.PartMut.{post_of}
 use Rattle.std.proofs.lemmas.Option.{same_Some}
@@ -9,13 +9,12 @@ use Rattle.std.specs.Vec.{vec_len, vec_capacity}
 use Rattle.std.specs.declared.vec.Vec.{Vec}
 use Rattle.std.specs.declared.alloc.Global.{Global}
 use Rattle.smith_input.specs.declared.error.Error.{Error}
-use Rattle.smith_input.specs.declared.error.Error.TheVariants.{TooLong}
-use Rattle.smith_format.specs.Piece.{Piece, ◌⊕◌, byte, each, framed, sized, u}
+use Rattle.smith_format.specs.Piece.{Piece, ◌⊕◌, byte, each, framed, sized}
 use Rattle.smith_format.specs.Writing.{Gains, IsDue, Takes, piece_length}
 use Rattle.smith_format.proofs.Many.{each_at}
 use Rattle.smith_format.proofs.Piece.{assoc, joined, left_nil, left_none, right_nil, right_none, length_join, parts_are}
-use Rattle.smith_format.proofs.Sizes.{framed_cases, sized_none}
-use Rattle.smith_format.proofs.Steps.{framed_nothing, gained, gains_some, sized_is}
+use Rattle.smith_format.proofs.Sizes.{framed_cases}
+use Rattle.smith_format.proofs.Steps.{framed_nothing, gained, gains_some}
 use Rattle.smith_read.specs.Leads.{Leads, Precedes}
 
 pub leads_nothing : {a : Vec ℕ Global} → Leads a a (Some [])
@@ -45,18 +44,10 @@ leads_whole {a} {b} {p} e g = sym (g.is ∙ ap (λ xs. p ⊕ Some (reverse xs)) 
 -- a list whose end is reversed
 pub tail_reversed : (start : ℕ) (xs ys : List ℕ) → ys ≡ reverse (take (length xs - start) (drop start xs))
     → take start xs ++ (ys ++ post_of start (length xs - start) xs) ≡ take start xs ++ reverse (drop start xs)
-tail_reversed start xs ys e =
-    let none : post_of start (length xs - start) xs ≡ [] = drop_all (length xs - start) (drop start xs) (omega (arith, length-drop start xs)) in
-    ap (λ l. take start xs ++ l) (ap₂ (λ a b. a ++ b) (e ∙ ap reverse (take_rest xs start)) none ∙ append-nil (reverse (drop start xs)))
+tail_reversed start xs ys e = grind (arith, drop_all, length-drop, take_rest, append-nil)
 
 pub length-reversed-end : (start : ℕ) (xs : List ℕ) → start ≤ length xs → length (take start xs ++ reverse (drop start xs)) ≡ length xs
-length-reversed-end start xs h = omega (
-  arith,
-  length-append (take start xs) (reverse (drop start xs)),
-  length-take-le start xs h,
-  length-reverse (drop start xs),
-  length-drop start xs,
-)
+length-reversed-end start xs h = grind (arith, length-append, length-take-le, length-reverse, length-drop)
 
 -- what was put forwards, reversed
 pub reversed : {old mid new : Vec ℕ Global} {p : Piece} (start : ℕ) → start ≡ vec_len old → Gains old mid p
@@ -83,24 +74,10 @@ leads_takes {a} {b} {p} n g h =
 -- what cannot be put in front of what was
 
 pub due_front : {e : Error} {a b : Vec ℕ Global} {p q : Piece} → Leads a b q → IsDue e b p → IsDue e a (p ⊕ q)
-due_front {e} {a} {b} {p} {q} g d = record {
-  only = d.only;
-  too_long = λ h. ap (λ x. x ⊕ q) (d.too_long h) ∙ left_none q;
-  full = λ h. elim (d.full h) [
-    | inl n ↦ inl (ap (λ x. x ⊕ q) n ∙ left_none q)
-    | inr l ↦ elim (length_join p q) [ inl n ↦ inl n | inr k ↦ inr (omega (arith, leads_length g, g.capacity)) ]
-  ];
-}
+due_front {e} {a} {b} {p} {q} g d = grind (arith, left_none, length_join, leads_length)
 
 pub due_behind : {e : Error} {a : Vec ℕ Global} (p : Piece) {q : Piece} → IsDue e a q → IsDue e a (p ⊕ q)
-due_behind {e} {a} p {q} d = record {
-  only = d.only;
-  too_long = λ h. ap (λ x. p ⊕ x) (d.too_long h) ∙ right_none p;
-  full = λ h. elim (d.full h) [
-    | inl n ↦ inl (ap (λ x. p ⊕ x) n ∙ right_none p)
-    | inr l ↦ elim (length_join p q) [ inl n ↦ inl n | inr k ↦ inr (omega arith) ]
-  ];
-}
+due_behind {e} {a} p {q} d = grind (arith, right_none, length_join)
 
 pub due_sized : {e : Error} {a : Vec ℕ Global} (id : ℕ) {p : Piece} → IsDue e a p → IsDue e a (sized id p)
 due_sized {e} {a} id {p} d = due_behind (byte id) (record {

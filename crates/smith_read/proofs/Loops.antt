@@ -43,16 +43,9 @@ module _ {A : Type 0} (reading : List ℕ → Found A) where
   pub stops : (front : List A) (count i : ℕ) (bytes : List ℕ) (total : Found (List A)) → i < count
       → with_front front (times_at reading (count - i) bytes) ≡ total → reading bytes ≡ None → total ≡ None
   unfolding times_at
-  stops front count i bytes total lt so_far h =
-      let k : count - i ≡ suc (count - (i + 1)) = omega arith in
-      let one : with_front front (times_at reading (count - i) bytes) ≡ None = rw (k, h) refl in
-      sym so_far ∙ one
+  stops front count i bytes total lt so_far h = grind arith
 
   pub is_done : (front : List A) (count i : ℕ) (bytes : List ℕ) (total : Found (List A)) → count ≤ i
       → with_front front (times_at reading (count - i) bytes) ≡ total → total ≡ Some (front, bytes)
   unfolding times_at
-  is_done front count i bytes total le so_far =
-      let k : count - i ≡ 0 = omega arith in
-      let one : with_front front (times_at reading (count - i) bytes) ≡ Some (front, bytes) =
-      rw k (ap (λ (xs : List A). Some (xs, bytes)) (append-nil front)) in
-      sym so_far ∙ one
+  is_done front count i bytes total le so_far = grind (arith, append-nil)

@@ -3,12 +3,12 @@ use Rattle.std.proofs.Common.{◌≡◌, ℕ, zero, suc, ◌≤◌, List, [], �
 use Rattle.smith_format.specs.Piece.{Piece, ◌⊕◌, byte, bytes, u, each, framed, many}
 use Rattle.smith_format.proofs.Piece.{parts_are}
 use Rattle.smith_syntax.specs.Entries.{Entry, defined, function, component_type, instance_type}
-use Rattle.smith_syntax.specs.Entries.{Decl, Decls, core_type_decl, type_decl, type_alias, core_type_alias, import_decl, export_decl, no_decls, then_decls}
+use Rattle.smith_syntax.specs.Entries.{Decl, Decls, type_decl, no_decls, then_decls}
 use Rattle.smith_syntax.specs.Entries.{decl_count}
 use Rattle.smith_syntax.specs.Nesting.{nesting, decl_nesting, decls_nesting}
 use Rattle.smith_tree.specs.Depths.{scope_depth, scope_depth_in}
 use Rattle.smith_tree.specs.Grammar.{preamble}
-use Rattle.smith_tree.specs.Tree.{Part, Tree, ends, first, custom, core_module, core_types, component, types, canons, imports, exports, most}
+use Rattle.smith_tree.specs.Tree.{Part, Tree, ends, first, component, types, most}
 use Rattle.smith_read.specs.Levels.{decl_in, decls_in, around, entry_in}
 use Rattle.smith_read.specs.Parts.{component_at, part_in, parts_in, component_in}
 use Rattle.smith_read.proofs.TellingParts.{tells_component}
@@ -17,12 +17,8 @@ use Rattle.smith_read.proofs.TellingParts.{tells_component}
 
 module _ (n : ℕ) (inner : Entry → Piece) (within : (e : Entry) (b : List ℕ) → inner e ≡ Some b → nesting e ≤ n) where
   decl_shallow : (importing : Bool) (d : Decl) (b : List ℕ) → decl_in inner importing d ≡ Some b → decl_nesting d ≤ n
-  decl_shallow importing (core_type_decl t k) b e = omega arith
   decl_shallow importing (type_decl t) b e = let p = parts_are (byte 0x01) (inner t) b e in within t p.right p.q_is
-  decl_shallow importing (type_alias m i k) b e = omega arith
-  decl_shallow importing (core_type_alias m i k) b e = omega arith
-  decl_shallow importing (import_decl m k r) b e = omega arith
-  decl_shallow importing (export_decl m k r) b e = omega arith
+  decl_shallow importing _ b e = omega arith
 
   decls_shallow : (importing : Bool) (ds : Decls) (b : List ℕ) → decls_in inner importing ds ≡ Some b → decls_nesting ds ≤ n
   decls_shallow importing no_decls b e = omega arith
@@ -72,14 +68,9 @@ sized_some id p b e = let q = parts_are (byte id) (framed p) b e in framed_some 
 
 module _ (n : ℕ) (inner : Tree → Piece) (within : (t : Tree) (b : List ℕ) → inner t ≡ Some b → scope_depth t ≤ n) where
   part_shallow : (p : Part) (b : List ℕ) → part_in n inner p ≡ Some b → scope_depth_in p ≤ suc n
-  part_shallow (custom name contents) b e = omega arith
-  part_shallow (core_module bs) b e = omega arith
-  part_shallow (core_types ts) b e = omega arith
   part_shallow (component t) b e = let c = sized_some 4 (inner t) b e in omega (arith, within t c.0 c.1)
   part_shallow (types ts) b e = let c = sized_some 7 (many (entry_in n) ts) b e in omega (arith, many_shallow n ts c.0 c.1)
-  part_shallow (canons fs) b e = omega arith
-  part_shallow (imports is) b e = omega arith
-  part_shallow (exports es) b e = omega arith
+  part_shallow _ b e = omega arith
 
   parts_shallow : (t : Tree) (b : List ℕ) → parts_in n inner t ≡ Some b → scope_depth t ≤ suc n
   parts_shallow ends b e = omega arith

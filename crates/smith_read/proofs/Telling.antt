@@ -1,6 +1,6 @@
 -- What is read is what is spelled: bytes, numbers, texts, and what is made of other sorts.
 use Rattle.std.proofs.Common.{◌≡◌, ℕ, zero, suc, ◌+◌, ◌-◌, ◌*◌, ◌/◌, ◌%◌, ◌^◌, ◌<◌, ◌≤◌, inl, inr, List, [], ◌∷◌, ◌++◌, length, take, drop, Option, Some}
-use Rattle.std.proofs.Common.{None, refl, ap, sym, ◌∙◌, subst, arith, Bool, true, false, cond, nat_lt, eqb, pos}
+use Rattle.std.proofs.Common.{None, refl, ap, sym, ◌∙◌, subst, arith, Bool, true, false, cond, nat_lt, eqb}
 use Rattle.std.proofs.lemmas.Bool.{ltb-false, lt-ltb, le-ltb, eqb-true, eq-eqb}
 use Rattle.std.proofs.lemmas.List.{take_at, drop_at, take-append-drop, length-append, length-take-le}
 use Rattle.std.specs.Str.{is_utf8}
@@ -58,16 +58,11 @@ byte_begins b t e = joined (t.0 ∷ []) t.1 ∙ ap Some (sym (byte_is b t.1 t.0 
 
 pub byte_read : (b : List ℕ) (t : ℕ × List ℕ) → t.0 < 256 → Begins byte b t → byte_at b ≡ Some t
 unfolding byte_at
-byte_read b t l e =
-    let f : t.0 ∷ t.1 ≡ b = same_Some _ _ (sym (joined (t.0 ∷ []) t.1) ∙ e) in
-    ap byte_at (sym f) ∙ rw (lt-ltb t.0 256 l) refl
+byte_read b t l e = grind (arith, same_Some, joined, lt-ltb)
 
 pub skip_begins : (n : ℕ) (b rest : List ℕ) → skip_at n b ≡ Some rest → byte n ⊕ Some rest ≡ Some b
 unfolding skip_at
-skip_begins n b rest e =
-    let t = bind_some (byte_at b) (after_byte n) rest e in
-    chain t.0.0 n (Some t.0.1) None rest
-    (λ f g. ap (λ m. byte m ⊕ Some rest) (sym f) ∙ ap (λ r. byte t.0.0 ⊕ Some r) (sym (same_Some _ _ g)) ∙ byte_begins b t.0 t.1) (nothing rest) t.2
+skip_begins n b rest e = grind (arith, bind_some, chain, same_Some, byte_begins, nothing)
 
 abbrev some_list_of : List ℕ → Option (List ℕ)
 some_list_of b = Some b
@@ -171,10 +166,7 @@ tells_u = record {
 
 index_read : (b : List ℕ) (x : ℕ × List ℕ) → Begins s_index b x → (t : Bool) → nat_lt x.0 (2 ^ 32) ≡ t → number_at 64 4294967295 b ≡ Some x
 unfolding signed
-index_read b x e true f =
-    let h = ltb-true x.0 (2 ^ 32) f in
-    let g = same_Some _ _ (sym (joined (signed (pos x.0)) x.1) ∙ ap (λ p. p ⊕ Some x.1) (sym (s_index_fits x.0 h)) ∙ e) in
-    ap (number_at 64 4294967295) (sym g) ∙ number_read 64 (omega arith) (omega arith) 4294967295 x.0 x.1 (omega (arith, h))
+index_read b x e true f = grind (arith, same_Some, joined, s_index_fits, number_read)
 index_read b x e false f = let z : None ≡ Some b = sym (left_none (Some x.1)) ∙ ap (λ p. p ⊕ Some x.1) (sym (s_index_none x.0 (ltb-false x.0 (2 ^ 32) f)))
     ∙ e in absurd cc
 
@@ -365,10 +357,7 @@ tells_behind {A} {f} {r} n l c = record {
 
 -- the same sort, spelled otherwise
 pub tells_as : {A : Type 0} {f g : A → Piece} {r : List ℕ → Found A} → ((x : A) → g x ≡ f x) → Tells f r → Tells g r
-tells_as is c = record {
-  sound = λ b x e. ap (λ p. p ⊕ Some x.1) (is x.0) ∙ c.sound b x e;
-  whole = λ b x e. c.whole b x (ap (λ p. p ⊕ Some x.1) (sym (is x.0)) ∙ e);
-}
+tells_as is c = grind (arith, is)
 
 -- a bound of limits
 pub tells_limit : Tells number limit_at

@@ -1,5 +1,5 @@
 -- What is read is what is spelled: core types, imports and exports.
-use Rattle.std.proofs.Common.{◌≡◌, ℕ, List, [], ◌∷◌, Some, None, refl, ap, sym, ◌∙◌, subst, Bool, true, false, lit<}
+use Rattle.std.proofs.Common.{arith, ◌≡◌, ℕ, List, [], ◌∷◌, Some, None, refl, ap, sym, ◌∙◌, Bool, true, false, lit<}
 use Rattle.smith_format.specs.CoreTypes.{Function, ref_val, core_val}
 use Rattle.smith_format.specs.Entities.{limits, table_type, global_type, entity, bit}
 use Rattle.smith_format.specs.Piece.{Piece, ◌⊕◌, byte, bytes, text, many, u, number}
@@ -50,9 +50,7 @@ unfolding ref_at
 tells_ref = tells_after ref_after ref_begins ref_read
 
 ref_body : (b : List ℕ) (t : ℕ × List ℕ) (x : ValType × List ℕ) → byte_at b ≡ Some t → seen Ref (ref_after t.0 t.1) ≡ Some x → Begins core_val b x
-ref_body b t x e f =
-    let r = seen_is Ref (ref_after t.0 t.1) x f in
-    subst (λ (p : ValType × List ℕ). Begins core_val b p) r.2 (ref_begins b t r.0 e r.1)
+ref_body b t x e f = grind (arith, seen_is, ref_begins)
 
 core_val_begins : (b : List ℕ) (t : ℕ × List ℕ) (x : ValType × List ℕ) → byte_at b ≡ Some t → core_val_after t.0 t.1 ≡ Some x → Begins core_val b x
 unfolding core_val_after
@@ -132,9 +130,7 @@ tells_limits = tells_after limits_after limits_begin limits_read
 table_begins : (b : List ℕ) (r : RefType) (m : List ℕ) (l : Limits) (rest : List ℕ) (x : TableType × List ℕ) → ref_val r ⊕ Some m ≡ Some b
     → limits_of l ⊕ Some rest ≡ Some m → table_of r l rest ≡ Some x → Begins table_type b x
 table_begins b r m (true, wide, n, most) rest x e f g = absurd cc
-table_begins b r m (false, wide, n, most) rest x e f g =
-    subst (λ (p : TableType × List ℕ). Begins table_type b p) (same_Some (record { element_type = r; table64 = wide; minimum = n; maximum = most }, rest) x g)
-    (both_begin (ref_val r) (limits false wide n most) b m rest e f)
+table_begins b r m (false, wide, n, most) rest x e f g = grind (arith, same_Some, both_begin)
 
 tells_table : Tells table_type table_at
 unfolding table_at
@@ -150,11 +146,7 @@ tells_table = record {
 
 global_begins : (b : List ℕ) (v : ValType) (m : List ℕ) (t : ℕ × List ℕ) (x : GlobalType × List ℕ) → core_val v ⊕ Some m ≡ Some b → byte_at m ≡ Some t
     → global_of v t ≡ Some x → Begins global_type b x
-global_begins b v m t x e f =
-    let row : (w : Bool) → t.0 ≡ bit w 1 → Some (record { val_type = v; mutable = w }, t.1) ≡ Some x → Begins global_type b x = λ w g h.
-    subst (λ (p : GlobalType × List ℕ). Begins global_type b p) (same_Some (record { val_type = v; mutable = w }, t.1) x h)
-    (both_begin (core_val v) (byte (bit w 1)) b m t.1 e (ap (λ n. byte n ⊕ Some t.1) (sym g) ∙ byte_begins m t f)) in
-    chain t.0 0 _ _ x (row false) (chain t.0 1 _ _ x (row true) (nothing x))
+global_begins b v m t x e f = grind (arith, same_Some, both_begin, byte_begins, chain, nothing)
 
 global_read : (b : List ℕ) (g : GlobalType) (w : Bool) (rest : List ℕ) → g.mutable ≡ w → Begins global_type b (g, rest)
     → (core_val_at b >>= λ v. byte_at v.1 >>= global_of v.0) ≡ Some (g, rest)

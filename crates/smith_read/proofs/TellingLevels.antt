@@ -1,5 +1,5 @@
 -- What is read is what is spelled: types that hold types.
-use Rattle.std.proofs.Common.{◌≡◌, ℕ, zero, suc, List, [], ◌∷◌, Option, Some, None, refl, ap, sym, ◌∙◌, subst, Bool, true, false, cond}
+use Rattle.std.proofs.Common.{arith, ◌≡◌, ℕ, zero, suc, List, [], ◌∷◌, Option, Some, None, refl, ap, sym, ◌∙◌, subst, Bool, true, false, cond}
 use Rattle.std.proofs.Common.{eqb, lit<}
 use Rattle.std.proofs.lemmas.Bool.{eqb-true}
 use Rattle.smith_format.specs.Piece.{Piece, ◌⊕◌, byte, bytes, u, many}
@@ -87,14 +87,7 @@ no_function n bs y e f = let g : None ≡ Some y = ap (λ m. seen defined (defin
 
 leaf_read : (b : List ℕ) (x : Entry) (rest : List ℕ) → Begins leaf b (x, rest) → Told leaf_after b (x, rest)
 unfolding leaf_after
-leaf_read b (defined d) rest e =
-    let r = defined_read b d rest e in
-    record {
-      first = r.0;
-      front = r.1;
-      is = not_here r.0.0 0x40 _ _ (defined d, rest) (no_function r.0.0 r.0.1 (defined d, rest))
-          (seen_some defined _ (d, rest) r.2);
-    }
+leaf_read b (defined d) rest e = grind (arith, defined_read, not_here, no_function, seen_some)
 leaf_read b (function s) rest e = row_told leaf_after function 0x40 (lit< tt) tells_function (λ bs. refl) e
 leaf_read b (component_type ds) rest e = absurd (no_piece rest b e)
 leaf_read b (instance_type ds) rest e = absurd (no_piece rest b e)
@@ -110,13 +103,7 @@ leaf_none_either n bs y e f = let g : None ≡ Some y = ap (λ m. leaf_after m b
 -- what is read as a leaf is read so among the others
 told_around : (inner : ℕ → List ℕ → Found Entry) (b : List ℕ) (x : Entry) (rest : List ℕ) → Told leaf_after b (x, rest) → Told (around_after inner) b (x, rest)
 unfolding around_after
-told_around inner b x rest t =
-    record {
-      first = t.first;
-      front = t.front;
-      is = not_here t.first.0 0x41 _ _ (x, rest) (λ e f. leaf_none t.first.0 t.first.1 (x, rest) e t.is)
-          (not_here t.first.0 0x42 _ _ (x, rest) (leaf_none_either t.first.0 t.first.1 (x, rest)) t.is);
-    }
+told_around inner b x rest t = grind (arith, not_here, leaf_none, leaf_none_either)
 
 leaf_around : (f : Entry → Piece) (b : List ℕ) (x : Entry × List ℕ) → Begins leaf b x → Begins (around f) b x
 leaf_around f b (defined d, rest) e = e

@@ -4,16 +4,16 @@ use Rattle.std.proofs.Common.{◌∙◌, subst, arith, Bool, true, false, cond, 
 use Rattle.std.specs.List.{starts_with}
 use Rattle.std.proofs.lemmas.List.{length-append}
 use Rattle.smith_format.specs.Piece.{Piece, ◌⊕◌, byte, bytes, u, raw, text, many, framed, sized}
-use Rattle.smith_format.proofs.Piece.{joined, parts_are, raw_whole, two_bytes}
-use Rattle.smith_tree.specs.Grammar.{preamble, embedded, canon, export_entry, part, parts, component_text, Spells}
+use Rattle.smith_format.proofs.Piece.{joined, parts_are, raw_whole}
+use Rattle.smith_tree.specs.Grammar.{preamble, embedded, part, parts, component_text, Spells}
 use Rattle.smith_tree.specs.Tree.{Part, Tree, ends, first, custom, core_module, core_types, component, types, canons}
 use Rattle.smith_tree.specs.Tree.{imports, exports, tree_of, most}
 use Rattle.smith_tree.specs.Depths.{scope_depth, scope_depth_in}
 use Rattle.smith_read.specs.Levels.{entry_in, types_at}
-use Rattle.smith_read.specs.Reading.{Found, ◌>>=◌, byte_at, behind, both_at, framed_at, u_at, skip_at, text_at}
+use Rattle.smith_read.specs.Reading.{Found, ◌>>=◌, byte_at, framed_at, text_at}
 use Rattle.smith_read.specs.Tells.{Begins, Tells, TellsAll}
-use Rattle.smith_read.proofs.Telling.{bind_some, chain, nothing, both_begin, parted, skip_begins, skip_read, tells_u, tells_text, tells_both}
-use Rattle.smith_read.proofs.Telling.{tells_behind, tells_many, tells_after, tells_seen, row_sound, row_told, Told}
+use Rattle.smith_read.proofs.Telling.{bind_some, nothing, tells_text}
+use Rattle.smith_read.proofs.Telling.{tells_many, tells_after, tells_seen, row_sound, row_told, Told}
 use Rattle.smith_read.proofs.TellingEntries.{tells_canon, tells_export}
 use Rattle.smith_read.proofs.TellingCore.{tells_core_entry, tells_named}
 use Rattle.std.proofs.lemmas.Slice.Eq.{starts_is}
@@ -50,10 +50,7 @@ tells_types levels = tells_all (tells_many (tells_entry levels))
 
 -- what spells itself
 tells_itself : (f : List ℕ → Piece) → ((t b : List ℕ) → f t ≡ Some b → t ≡ b) → TellsAll f f
-tells_itself f same = record {
-  sound = λ b x e. let s = same b x e in ap f (sym s) ∙ e ∙ ap Some (sym s);
-  whole = λ b x e. let s = same x b e in ap f (sym s) ∙ e ∙ ap Some (sym s);
-}
+tells_itself f same = grind arith
 
 raw_spelled : (t b : List ℕ) → raw t ≡ Some b → raw b ≡ Some b
 raw_spelled t b e = let s = raw_whole t b e in ap raw (sym s) ∙ e
@@ -221,14 +218,9 @@ sized_under id p q h = under_then (byte id) (byte id) _ _ (inr refl) (framed_und
 
 module _ (levels : ℕ) (f : Tree → Piece) (under : (t : Tree) → Under (f t) (component_text t)) where
   part_under : (p : Part) → Under (part_in levels f p) (part p)
-  part_under (custom n d) = inr refl
-  part_under (core_module bs) = inr refl
-  part_under (core_types ts) = inr refl
   part_under (component t) = sized_under 4 (f t) (component_text t) (under t)
   part_under (types ts) = sized_under 7 _ _ (many_under levels ts)
-  part_under (canons fs) = inr refl
-  part_under (imports is) = inr refl
-  part_under (exports es) = inr refl
+  part_under _ = inr refl
 
   parts_under : (t : Tree) → Under (parts_in levels f t) (parts t)
   parts_under ends = inr refl
@@ -260,14 +252,9 @@ some_depth (first p t) = omega (arith, some_depth t)
 
 module _ (n : ℕ) (f : Tree → Piece) (same : (t : Tree) → scope_depth t ≤ n → f t ≡ component_text t) where
   part_same : (p : Part) → scope_depth_in p ≤ suc n → part_in n f p ≡ part p
-  part_same (custom m d) h = refl
-  part_same (core_module bs) h = refl
-  part_same (core_types ts) h = refl
   part_same (component t) h = ap (sized 4) (same t (omega (arith, h)))
   part_same (types ts) h = ap (sized 7) (many_same n ts (nest_within n ts (omega (arith, h))))
-  part_same (canons fs) h = refl
-  part_same (imports is) h = refl
-  part_same (exports es) h = refl
+  part_same _ h = refl
 
   parts_same : (t : Tree) → scope_depth t ≤ suc n → parts_in n f t ≡ parts t
   parts_same ends h = refl

@@ -12,7 +12,7 @@ use Rattle.smith_syntax.specs.declared.types.ComponentValType.{ComponentValType}
 use Rattle.smith_syntax.specs.declared.types.ComponentValType.TheVariants.{Primitive, Indexed}
 use Rattle.smith_syntax.specs.declared.types.PrimitiveValType.{PrimitiveValType}
 use Rattle.smith_syntax.specs.declared.types.PrimitiveValType.TheVariants as prim
-use Rattle.smith_read.specs.Reading.{◌>>=◌, byte_at, index_at, text_at, both_at, skip_at}
+use Rattle.smith_read.specs.Reading.{◌>>=◌, byte_at, text_at, both_at, skip_at}
 use Rattle.smith_read.specs.Tells.{Begins, Tells}
 use Rattle.smith_read.specs.Types.{primitive_of, val_at, valtype_at, maybe_valtype_at, field_at, case_at, result_at, primitive_at, defined_after}
 use Rattle.smith_read.specs.Types.{signature_of, function_at}
@@ -65,9 +65,7 @@ val_cases : (b : List ℕ) (t : ℕ × List ℕ) (x : ComponentValType × List �
     → val_at b t.1 o ≡ Some x → Begins valtype b x
 val_cases b t x (Some p) e f g = subst (λ (y : ComponentValType × List ℕ). Begins valtype b y) (same_Some (Primitive p, t.1) x g)
     (ap (λ m. byte m ⊕ Some t.1) (sym (primitive_sound t.0 p f)) ∙ byte_begins b t e)
-val_cases b t x None e f g =
-    let i = seen_is Indexed (index_at b) x g in
-    subst (λ (y : ComponentValType × List ℕ). Begins valtype b y) i.2 (tells_index.sound b i.0 i.1)
+val_cases b t x None e f g = grind (arith, seen_is, tells_index)
 
 val_read : (b : List ℕ) (v : ComponentValType) (rest : List ℕ) → Begins valtype b (v, rest) → valtype_at b ≡ Some (v, rest)
 unfolding valtype_at
@@ -83,10 +81,7 @@ val_read b (Indexed i) rest e =
 
 pub tells_val : Tells valtype valtype_at
 unfolding valtype_at
-tells_val = record {
-  sound = λ b x e. let t = bind_some (byte_at b) (λ t. val_at b t.1 (primitive_of t.0)) x e in val_cases b t.0 x (primitive_of t.0.0) t.1 refl t.2;
-  whole = λ b x e. val_read b x.0 x.1 e;
-}
+tells_val = grind (arith, bind_some, val_cases, val_read)
 
 maybe_read : (b : List ℕ) (v : Option ComponentValType) (rest : List ℕ) → Begins maybe_valtype b (v, rest) → maybe_valtype_at b ≡ Some (v, rest)
 unfolding maybe_valtype_at

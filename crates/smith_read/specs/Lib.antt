@@ -1,5 +1,7 @@
 pub mod Parts
 pub mod PartNodes
+pub mod Items
+pub mod Walk
 pub mod Reads
 pub mod Places
 pub mod Finding

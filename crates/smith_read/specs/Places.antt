@@ -1,9 +1,10 @@
--- Where an entry of a section is in the bytes of a component: what precedes it (Binary.md, component definitions).
-use Rattle.std.specs.Prelude.{◌≡◌, ℕ, zero, suc, List, [], ◌∷◌, length, take, Option, None, Some, option_map, slice_get, nat_lt, if◌then◌else◌}
+-- Where an item of a component is in its bytes: what precedes it (Binary.md, component definitions).
+use Rattle.std.specs.Prelude.{◌≡◌, ℕ, zero, suc, ◌-◌, List, [], length, take, Option, None, Some, option_map, slice_get, nat_lt, if◌then◌else◌}
 use Rattle.smith_format.specs.Piece.{Piece, ◌⊕◌, byte, bytes, each, many, raw, text, u}
 use Rattle.smith_syntax.specs.Grammar.{core_entry, entry, import_entry}
 use Rattle.smith_tree.specs.Grammar.{canon, component_text, embedded, export_entry, part, preamble}
-use Rattle.smith_tree.specs.Tree.{Part, Tree, canons, component, core_module, core_types, custom, exports, imports, parts_of, types}
+use Rattle.smith_tree.specs.Tree.{Part, Tree, canons, component, core_module, core_types, custom, ends, exports, first, imports, types}
+use Rattle.smith_read.specs.Items.{items_in}
 use Rattle.smith_read.specs.Reading.{◌>>=◌}
 
 -- the id of a section, and what it holds
@@ -32,72 +33,62 @@ contents_in (exports es) = many export_entry es
 abbrev pub list_before : {A : Type 0} → (A → Piece) → List A → ℕ → Piece
 list_before f xs index = if nat_lt index (length xs) then u (length xs) ⊕ each f (take index xs) else None
 
--- as much of what counts as one entry as precedes an entry in it: nothing precedes the first, and there is no other
+-- as much of what is one item as precedes an item in it: nothing precedes the first, and there is no other
 abbrev pub sole_before : ℕ → Piece
 sole_before zero = Some []
 sole_before (suc index) = None
 
--- As much of what a section holds as precedes an entry in it. A section that is no list counts as one entry.
-abbrev pub entries_before : ℕ → Part → Piece
-entries_before index (custom name contents) = sole_before index
-entries_before index (core_module text) = sole_before index
-entries_before index (core_types ts) = list_before core_entry ts index
-entries_before index (component t) = sole_before index
-entries_before index (types ts) = list_before entry ts index
-entries_before index (canons fs) = list_before canon fs index
-entries_before index (imports is) = list_before import_entry is index
-entries_before index (exports es) = list_before export_entry es index
-
--- what is found in the component that a section holds, and nothing if it holds none
-abbrev pub inside : {A : Type 0} → (Tree → Option A) → Part → Option A
-inside found (custom name contents) = None
-inside found (core_module text) = None
-inside found (core_types ts) = None
-inside found (component t) = found t
-inside found (types ts) = None
-inside found (canons fs) = None
-inside found (imports is) = None
-inside found (exports es) = None
-
 -- a section up to something in it: its id, the length of what it holds, and as much of that
-abbrev pub opened : (Part → Piece) → Part → Piece
-opened front p = byte (id_of p) ⊕ (contents_in p >>= λ c. u (length c)) ⊕ front p
+abbrev pub opened : Piece → Part → Piece
+opened inner p = byte (id_of p) ⊕ (contents_in p >>= λ c. u (length c)) ⊕ inner
 
--- the preamble, and the sections before one
-abbrev pub before_section : ℕ → Tree → Piece
-before_section index t = bytes preamble ⊕ each part (take index (parts_of t))
+-- As much of the sections of a component as precedes the item of that number, and as much of what a section holds as precedes the item in it.
+-- None if there is no such item.
+abbrev mutual
+  pub front : ℕ → Tree → Piece
+  front n ends = None
+  front n (first p t) = if nat_lt n (items_in p) then opened (front_in n p) p else part p ⊕ front (n - items_in p) t
 
--- As much of a component as precedes an entry: the entry with that index in the section with the last of these indexes, the first being of
--- a section of the component, the next of a section of the component in that one, and so on. None if there is no such entry.
-abbrev pub before : List ℕ → ℕ → Tree → Piece
-before [] index t = None
-before (k ∷ []) index t = before_section k t ⊕ (slice_get (parts_of t) k >>= opened (entries_before index))
-before (k ∷ l ∷ path) index t = before_section k t ⊕ (slice_get (parts_of t) k >>= opened (inside (before (l ∷ path) index)))
+  pub front_in : ℕ → Part → Piece
+  front_in n (custom name contents) = sole_before n
+  front_in n (core_module bs) = sole_before n
+  front_in n (core_types ts) = list_before core_entry ts n
+  front_in zero (component t) = Some []
+  front_in (suc n) (component t) = bytes preamble ⊕ front n t
+  front_in n (types ts) = list_before entry ts n
+  front_in n (canons fs) = list_before canon fs n
+  front_in n (imports is) = list_before import_entry is n
+  front_in n (exports es) = list_before export_entry es n
+
+-- as much of a component
+abbrev pub before : ℕ → Tree → Piece
+before n t = bytes preamble ⊕ front n t
 
 -- how many bytes precede it
-abbrev pub offset_in : List ℕ → ℕ → Tree → Option ℕ
-offset_in path index t = option_map length (before path index t)
+abbrev pub offset_in : ℕ → Tree → Option ℕ
+offset_in n t = option_map length (before n t)
 
--- The encoding of that entry.
+-- The encoding of that item.
 
 abbrev pub sole_text : Piece → ℕ → Piece
 sole_text p zero = p
-sole_text p (suc index) = None
+sole_text p (suc n) = None
 
-abbrev pub entry_text : ℕ → Part → Piece
-entry_text index (custom name contents) = sole_text (text name ⊕ raw contents) index
-entry_text index (core_module text) = sole_text (embedded text) index
-entry_text index (core_types ts) = slice_get ts index >>= core_entry
-entry_text index (component t) = sole_text (component_text t) index
-entry_text index (types ts) = slice_get ts index >>= entry
-entry_text index (canons fs) = slice_get fs index >>= canon
-entry_text index (imports is) = slice_get is index >>= import_entry
-entry_text index (exports es) = slice_get es index >>= export_entry
+abbrev mutual
+  pub item_text : ℕ → Tree → Piece
+  item_text n ends = None
+  item_text n (first p t) = if nat_lt n (items_in p) then text_in n p else item_text (n - items_in p) t
 
-abbrev pub place_text : List ℕ → ℕ → Tree → Piece
-place_text [] index t = None
-place_text (k ∷ []) index t = slice_get (parts_of t) k >>= entry_text index
-place_text (k ∷ l ∷ path) index t = slice_get (parts_of t) k >>= inside (place_text (l ∷ path) index)
+  pub text_in : ℕ → Part → Piece
+  text_in n (custom name contents) = sole_text (text name ⊕ raw contents) n
+  text_in n (core_module bs) = sole_text (embedded bs) n
+  text_in n (core_types ts) = slice_get ts n >>= core_entry
+  text_in zero (component t) = component_text t
+  text_in (suc n) (component t) = item_text n t
+  text_in n (types ts) = slice_get ts n >>= entry
+  text_in n (canons fs) = slice_get fs n >>= canon
+  text_in n (imports is) = slice_get is n >>= import_entry
+  text_in n (exports es) = slice_get es n >>= export_entry
 
 -- the bytes begin with it
 abbrev pub IsAtFront : Piece → List ℕ → Type 0

@@ -7,7 +7,7 @@ ghost use Rattle.smith_tree.specs.Tree.{Tree};
 ghost use Rattle.smith_format.specs.Consistency.{IsConsistent};
 ghost use Rattle.smith_format.specs.declared.config.Config.{Config};
 ghost use Rattle.smith_read.specs.PartNodes.{shown_tree};
-ghost use Rattle.smith_read.specs.Places.{IsAtFront, offset_in, place_text};
+ghost use Rattle.smith_read.specs.Places.{IsAtFront, item_text, offset_in};
 ghost use Rattle.smith_read.specs.Reads.{Reads};
 ghost use Rattle.smith_read.specs.declared.error.ReadError.{ReadError};
 ghost use Rattle.smith_read.specs.declared.error.ReadError.TheVariants.{OutOfMemory};
@@ -20,9 +20,10 @@ pub fn answers_are_read_back()
         → IfOk result (λ t. shown_tree t ≡ component) × IfErr result (λ e. e ≡ OutOfMemory) }
 {}
 
-/// What begins at the offset of an entry is that entry.
-pub fn entries_are_at_their_offsets()
-    ensures { (component : Tree) (bytes path : List ℕ) (index offset : ℕ) → Spells component bytes
-        → offset_in path index component ≡ Some offset
-        → IsAtFront (place_text path index component) (drop offset bytes) }
+/// What begins at the offset of an item is that item.
+#[tactic(auto, using(crate::proofs::Places::there))]
+pub fn items_are_at_their_offsets()
+    ensures { (component : Tree) (bytes : List ℕ) (item offset : ℕ) → Spells component bytes
+        → offset_in item component ≡ Some offset
+        → IsAtFront (item_text item component) (drop offset bytes) }
 {}

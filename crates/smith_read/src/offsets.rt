@@ -1,10 +1,11 @@
-//! Where in the bytes of a component an entry of it is.
+//! Where in the bytes of a component an item of it is.
 
-ghost use Rattle.std.specs.Prelude.{◌≡◌, ◌≤◌, Some, IfOk, IfSome};
+ghost use Rattle.std.specs.Prelude.{◌≡◌, ◌≤◌, Some, length, IfOk, IfSome};
 ghost use Rattle.smith_tree.specs.Depths.{scope_depth};
 ghost use Rattle.smith_tree.specs.Grammar.{Spells};
 ghost use Rattle.smith_tree.specs.Tree.{Tree};
-ghost use Rattle.smith_read.specs.Finding.{found_at, inside_at, listed_at, nth_at, sized_at, sole_at, within_at};
+ghost use Rattle.smith_read.specs.Finding.{found_at, into_at, items_of, listed_at, pass_at, past_at};
+ghost use Rattle.smith_read.specs.Finding.{shown_passing, sole_at, walk_at, within_at};
 ghost use Rattle.smith_read.specs.Levels.{entry_at};
 ghost use Rattle.smith_read.specs.Places.{offset_in};
 ghost use Rattle.smith_read.specs.Reading.{Gives};
@@ -23,33 +24,13 @@ use std::alloc::{AllocError, Global};
 // The id of a section that holds a component.
 const COMPONENT_ID: u8 = 4;
 
-// A section at the front of some bytes: its id, its contents, and the bytes after it.
+// An item that is sought from some bytes on.
 #[derive(Clone, Copy)]
-struct Section<'a> {
-    id: u8,
-    contents: &'a [u8],
-    rest: &'a [u8],
-}
-
-#[tactic(auto, unfolding(crate::specs::Finding::sized_at))]
-fn sized_of(bytes: &[u8]) -> Result<Section<'_>, Unread>
-    ensures { Gives (λ s. ((s.id, s.contents.now), s.rest.now)) result (sized_at bytes.now) }
-{
-    let (id, rest) = byte_of(bytes)?;
-    let (contents, rest) = frame_of(rest)?;
-    Ok(Section { id, contents, rest })
-}
-
-// The section after that many others.
-fn section_after(bytes: &[u8], count: usize) -> Result<Section<'_>, Unread>
-    ensures { Gives (λ s. ((s.id, s.contents.now), s.rest.now)) result (nth_at count bytes.now) }
-{
-    let mut rest = bytes;
-    for _ in 0..count {
-        let section = sized_of(rest)?;
-        rest = section.rest;
-    }
-    sized_of(rest)
+enum Passing<'a> {
+    // It is found: that many bytes are left from its beginning on.
+    Found(usize),
+    // It is that one of the items in these bytes.
+    Passed(usize, &'a [u8]),
 }
 
 // How many of the contents of what counts as one entry precede an entry: none, and there is no other than the first.
@@ -91,12 +72,11 @@ fn within_types(alloc: Global, bytes: &[u8], entry: usize) -> Result<usize, Unre
 
 // How many of the contents of a section precede an entry of it.
 #[tactic(auto, unfolding(crate::specs::Finding::within_at))]
-fn within_section(alloc: Global, section: Section<'_>, entry: usize) -> Result<usize, Unread>
-    ensures { Gives (λ n. n) result (within_at entry section.entry.id section.entry.contents.now) }
+fn within_section(alloc: Global, id: u8, bytes: &[u8], entry: usize) -> Result<usize, Unread>
+    ensures { Gives (λ n. n) result (within_at entry id bytes.now) }
 {
-    let bytes = section.contents;
-    match section.id {
-        0 | 1 | 4 => within_one(bytes, entry),
+    match id {
+        0 | 1 => within_one(bytes, entry),
         3 => within_list::<CoreNode>(alloc, bytes, entry),
         7 => within_types(alloc, bytes, entry),
         8 => within_list::<Func>(alloc, bytes, entry),
@@ -106,69 +86,104 @@ fn within_section(alloc: Global, section: Section<'_>, entry: usize) -> Result<u
     }
 }
 
-// How many of the contents of a section precede a place in it: an entry of it, or one in the component there.
-#[cycle(placing)]
-#[tactic(auto, unfolding(crate::specs::Finding::inside_at))]
-fn inside_of(
-    alloc: Global,
-    section: Section<'_>,
-    path: &[usize],
-    entry: usize,
-) -> Result<usize, Unread>
-    ensures { Gives (λ n. n) result (inside_at path.now entry section.entry.id section.entry.contents.now) }
+// How many items there are in a section that holds no component.
+#[tactic(auto, unfolding(crate::specs::Finding::items_of))]
+fn items_of(id: u8, bytes: &[u8]) -> Result<usize, Unread>
+    ensures { Gives (λ n. n) result (items_of id bytes.now) }
 {
-    let Some((index, inner)) = path.split_first() else {
-        return within_section(alloc, section, entry);
-    };
-    if section.id != COMPONENT_ID {
-        return Err(malformed(section.contents, Reason::Byte));
+    match id {
+        0 | 1 => Ok(1),
+        3 | 7 | 8 | 10 | 11 => {
+            let (count, _entries) = count_of(bytes)?;
+            Ok(count as usize)
+        }
+        _ => Err(malformed(bytes, Reason::Byte)),
     }
-    place_of(alloc, section.contents, *index, inner, entry)
 }
 
-// How many of a component's bytes precede a place in the section with that index.
-#[cycle(placing)]
+// Seeks an item past the header of a component, which begins the bytes but for its id.
+#[tactic(auto, unfolding(crate::specs::Finding::into_at))]
+fn pass_into(bytes: &[u8], item: usize) -> Result<Passing<'_>, Unread>
+    ensures { Gives shown_passing result (into_at item bytes.now) }
+{
+    let (_size, inner) = count_of(bytes)?;
+    if item == 0 {
+        return Ok(Passing::Found(inner.len()));
+    }
+    let rest = preamble_of(inner)?;
+    Ok(Passing::Passed(item - 1, rest))
+}
+
+// Seeks an item in another section, which begins the bytes but for its id, or past it.
+#[tactic(auto, unfolding(crate::specs::Finding::past_at))]
+fn pass_section(alloc: Global, id: u8, bytes: &[u8], item: usize) -> Result<Passing<'_>, Unread>
+    ensures { Gives shown_passing result (past_at item id bytes.now) }
+{
+    let (contents, rest) = frame_of(bytes)?;
+    let count = items_of(id, contents)?;
+    if item >= count {
+        return Ok(Passing::Passed(item - count, rest));
+    }
+    let before = within_section(alloc, id, contents, item)?;
+    let left = contents.len().saturating_sub(before);
+    Ok(Passing::Found(left.saturating_add(rest.len())))
+}
+
+// Seeks an item in the section that begins the bytes, or past it.
+#[tactic(auto, unfolding(crate::specs::Finding::pass_at))]
+fn pass(alloc: Global, bytes: &[u8], item: usize) -> Result<Passing<'_>, Unread>
+    ensures { Gives shown_passing result (pass_at item bytes.now) }
+{
+    let (id, rest) = byte_of(bytes)?;
+    if id == COMPONENT_ID {
+        pass_into(rest, item)
+    } else {
+        pass_section(alloc, id, rest, item)
+    }
+}
+
+// How many of the bytes of some sections there are from an item on. Each section and each header takes a byte at least.
+fn left_from(alloc: Global, bytes: &[u8], item: usize) -> Result<usize, Unread>
+    ensures { Gives (λ n. n) result (walk_at (length bytes.now) item bytes.now) }
+{
+    let mut rest = bytes;
+    let mut left = item;
+    for _ in 0..bytes.len() {
+        match pass(alloc, rest, left)? {
+            Passing::Found(count) => return Ok(count),
+            Passing::Passed(item, after) => {
+                left = item;
+                rest = after;
+            }
+        }
+    }
+    Err(malformed(rest, Reason::Ends))
+}
+
+// How many of a component's bytes precede an item.
 #[tactic(auto, unfolding(crate::specs::Finding::found_at))]
-fn place_of(
-    alloc: Global,
-    bytes: &[u8],
-    index: usize,
-    path: &[usize],
-    entry: usize,
-) -> Result<usize, Unread>
-    ensures { Gives (λ n. n) result (found_at index (inside_at path.now entry) bytes.now) }
+fn place_of(alloc: Global, bytes: &[u8], item: usize) -> Result<usize, Unread>
+    ensures { Gives (λ n. n) result (found_at item bytes.now) }
 {
     let rest = preamble_of(bytes)?;
-    let section = section_after(rest, index)?;
-    let inside = inside_of(alloc, section, path, entry)?;
-    let left = section.contents.len().saturating_sub(inside);
-    let through = bytes.len().saturating_sub(section.rest.len());
-    Ok(through.saturating_sub(left))
+    let left = left_from(alloc, rest, item)?;
+    Ok(bytes.len().saturating_sub(left))
 }
 
-/// How many of the bytes that spell a component precede an entry in it: the offset of that entry. It is in the section
-/// with the last of the indexes, the first being the index of a section of the component, the next of a section of the
-/// component in that section, and so on. A section that is no list, as a core module, counts as one entry. `None` if
-/// there is no such entry.
+/// How many of the bytes that spell a component precede an item in it: the offset of that item. Items count from 0 in
+/// the order of the bytes: each custom section, each core module, the beginning of each component in it, and each entry
+/// of a section that is a list. `None` if there is no such item.
 ///
-/// It takes time and memory in proportion to the bytes, and stack in proportion to the number of indexes.
-pub fn offset_of(
-    alloc: Global,
-    bytes: &[u8],
-    sections: &[usize],
-    entry: usize,
-) -> Result<Option<usize>, AllocError>
+/// It takes time and memory in proportion to the bytes, and its stack is bounded by how deep types nest.
+pub fn offset_of(alloc: Global, bytes: &[u8], item: usize) -> Result<Option<usize>, AllocError>
     // The offset that is returned is right.
     ensures right { (component : Tree) → Spells component bytes.now
-        → IfOk result (λ offset. IfSome offset (λ n. offset_in sections.now entry component ≡ Some n)) }
-    // One is returned if there is such an entry, and scopes are at most `MOST_DEPTH` of `smith_read` deep.
+        → IfOk result (λ offset. IfSome offset (λ n. offset_in item component ≡ Some n)) }
+    // One is returned if there is such an item, and scopes are at most `MOST_DEPTH` of `smith_read` deep.
     ensures found { (component : Tree) → scope_depth component ≤ most_depth → Spells component bytes.now
-        → IfOk result (λ offset. offset ≡ offset_in sections.now entry component) }
+        → IfOk result (λ offset. offset ≡ offset_in item component) }
 {
-    let Some((index, path)) = sections.split_first() else {
-        return Ok(None);
-    };
-    match place_of(alloc, bytes, *index, path, entry) {
+    match place_of(alloc, bytes, item) {
         Ok(offset) => Ok(Some(offset)),
         Err(Unread::OutOfMemory) => Err(AllocError),
         Err(Unread::Malformed { .. }) => Ok(None),

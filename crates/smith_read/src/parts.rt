@@ -40,6 +40,7 @@ impl Readable for ImportNode {
 }
 
 // Bytes as they are.
+#[tactic(auto, using(smith_format::proofs::Piece::raw_is))]
 fn raw_of(alloc: Global, bytes: &[u8]) -> Result<Vec<u8>, Unread>
     ensures { Gives (λ x. x.items) result (raw bytes.now) }
 {

@@ -135,7 +135,7 @@ impl Whole<'_> {
     }
 
     // The bytes of the wanted component to which a step leads that has that many before it that lead to one.
-    #[tactic(auto, using(crate::proofs::Counting::none_passed, crate::proofs::Counting::one_passed, crate::proofs::Counting::other_passed))]
+    #[tactic(auto, using(crate::proofs::Passing::passing))]
     fn kth(
         &self,
         alloc: Global,

@@ -2,11 +2,12 @@
 
 use crate::bytes::Printed;
 use crate::edits::{doubled, simpler, smaller};
+use crate::generations::{generate_from, held, is_generated, outcome, repeated};
 use crate::texts::{defaults, misfit, texts, unwritten};
-use smith_component::{Config, Error, Unstructured, generate};
+use smith_component::Config;
 use smith_read::{ReadError, read};
 use smith_script::{ScriptError, script};
-use smith_verdict::{Validity, Verdict, check, validate};
+use smith_verdict::{check, validate};
 use std::alloc::{AllocError, Global};
 use std::fmt;
 
@@ -19,6 +20,12 @@ pub enum Task {
     Prefix,
     /// The same, and whether they are the component's script.
     Plan,
+    /// How many bytes are left of each front of them, or why it is refused.
+    Cuts,
+    /// Whether a component is generated from each byte, as often as each of them says.
+    Repeated,
+    /// What the component that is generated from them holds.
+    Held,
     /// Whether the component in them has a script, from which it is generated.
     Script,
     /// How many sections the component in them has.
@@ -47,83 +54,6 @@ pub enum Task {
 
 // The bytes that follow a prefix, one after another, and are left.
 const RESTS: [&[u8]; 3] = [b"", b"\xff\x07", b"\x00\x03\x01"];
-
-// What was generated from an input, and the rest of the input.
-#[derive(Drop)]
-struct Generated {
-    bytes: Result<Vec<u8>, Error>,
-    left: Vec<u8>,
-    // Whether the component is measured and read back as what was generated, and found well formed, and valid if it has
-    // to be.
-    agrees: bool,
-}
-
-// Are they found to be a well-formed component, and to validate if they have to?
-fn is_well_judged(alloc: Global, limits: &Config, bytes: &[u8]) -> Result<bool, AllocError> {
-    if limits.must_validate {
-        return Ok(validate(alloc, bytes)? == Validity::Valid);
-    }
-    Ok(check(alloc, bytes)? == Verdict::WellFormed)
-}
-
-fn generate_from(alloc: Global, limits: Config, input: &[u8]) -> Result<Generated, AllocError> {
-    let mut u = Unstructured::new(input);
-    let answer = generate(alloc, limits, &mut u);
-    let left = Vec::from_slice(alloc, u.left())?;
-    match answer {
-        Ok(made) => {
-            let is_measured = made.component.measure() == Ok(made.bytes.len() as u128);
-            let sections = made.component.sections().len();
-            let is_read = match read(alloc, &made.bytes) {
-                Ok(tree) => tree.parts.len() == sections,
-                Err(_) => false,
-            };
-            let is_judged = is_well_judged(alloc, &limits, &made.bytes)?;
-            Ok(Generated {
-                bytes: Ok(made.bytes),
-                left,
-                agrees: is_measured && is_read && is_judged,
-            })
-        }
-        Err(error) => Ok(Generated {
-            bytes: Err(error),
-            left,
-            agrees: true,
-        }),
-    }
-}
-
-impl fmt::Display for Generated {
-    fn fmt<W: fmt::Write>(&self, f: &mut fmt::Formatter<W>) -> fmt::Result {
-        match &self.bytes {
-            Ok(bytes) => write!(f, "{}", Printed("bytes", bytes))?,
-            Err(error) => writeln!(f, "= refused {error:?}")?,
-        }
-        write!(f, "{}", Printed("left", &self.left))?;
-        if !self.agrees {
-            f.write_str("= measured or read back as something else, or not well formed\n")?;
-        }
-        Ok(())
-    }
-}
-
-// Whether these bytes are generated, and what follows the input is left.
-fn is_generated(
-    alloc: Global,
-    limits: Config,
-    input: &[u8],
-    rest: &[u8],
-    bytes: &[u8],
-) -> Result<bool, AllocError> {
-    let mut whole = Vec::from_slice(alloc, input)?;
-    whole.extend_from_slice(rest)?;
-    let again = generate_from(alloc, limits, &whole)?;
-    let is_same = match &again.bytes {
-        Ok(found) => found.as_slice() == bytes,
-        Err(_) => false,
-    };
-    Ok(is_same && again.agrees && again.left.as_slice() == rest)
-}
 
 // Why there is no script: the limit that is not kept, or what else is wrong.
 #[derive(Clone, Copy)]
@@ -213,13 +143,26 @@ fn what_is_read(alloc: Global, bytes: &[u8]) -> Result<String, AllocError> {
     }
 }
 
-// What is read of each front, with one line for successive lengths that read the same.
-fn fronts(alloc: Global, bytes: &[u8]) -> Result<String, AllocError> {
+// What is read of the bytes, or what becomes of them as an input.
+fn of_a_front(
+    alloc: Global,
+    limits: &Config,
+    task: Task,
+    front: &[u8],
+) -> Result<String, AllocError> {
+    match task {
+        Task::Cuts => outcome(alloc, *limits, front),
+        _ => what_is_read(alloc, front),
+    }
+}
+
+// The answers for each front, with one line for successive lengths that have the same.
+fn fronts(alloc: Global, limits: &Config, task: Task, bytes: &[u8]) -> Result<String, AllocError> {
     let mut answers = String::new(alloc);
     let mut first = 0usize;
-    let mut before = what_is_read(alloc, b"")?;
+    let mut before = of_a_front(alloc, limits, task, b"")?;
     for length in 1..=bytes.len() {
-        let found = what_is_read(alloc, bytes.get(..length).unwrap_or(bytes))?;
+        let found = of_a_front(alloc, limits, task, bytes.get(..length).unwrap_or(bytes))?;
         if found != before {
             let last = length - 1;
             answers.push_str(&format!(in alloc; "= {first} to {last} bytes: {before}\n")?)?;
@@ -243,7 +186,9 @@ pub fn answer(
         Task::Component | Task::Prefix | Task::Plan => generation(alloc, *limits, task, bytes),
         Task::Script => scripted(alloc, *limits, bytes),
         Task::Read => format!(in alloc; "= {}\n", what_is_read(alloc, bytes)?.as_str()),
-        Task::Fronts => fronts(alloc, bytes),
+        Task::Fronts | Task::Cuts => fronts(alloc, limits, task, bytes),
+        Task::Repeated => repeated(alloc, *limits, bytes),
+        Task::Held => held(alloc, *limits, bytes),
         Task::Check => format!(in alloc; "= {}\n", check(alloc, bytes)?),
         Task::Validate => format!(in alloc; "= {}\n", validate(alloc, bytes)?),
         Task::Smaller => smaller(alloc, bytes),

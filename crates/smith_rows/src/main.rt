@@ -5,6 +5,7 @@
 mod answers;
 mod bytes;
 mod edits;
+mod generations;
 mod plans;
 mod rows;
 mod texts;

@@ -61,18 +61,10 @@ module _ (s : Scope) where
   by_types i j k l = rw (i, j, k, l) refl
 
   pub type_placed : (t : Entry) → by_kind (with_type s t) ≡ with_place (by_kind s) (kind_of t) (length s.types)
-  type_placed (defined t) =
-      let e = defined t in
-      by_types (more is_defined s.types e refl) (same is_func s.types e refl) (same is_component s.types e refl) (same is_instance s.types e refl)
-  type_placed (function f) =
-      let e = function f in
-      by_types (same is_defined s.types e refl) (more is_func s.types e refl) (same is_component s.types e refl) (same is_instance s.types e refl)
-  type_placed (component_type ds) =
-      let e = component_type ds in
-      by_types (same is_defined s.types e refl) (same is_func s.types e refl) (more is_component s.types e refl) (same is_instance s.types e refl)
-  type_placed (instance_type ds) =
-      let e = instance_type ds in
-      by_types (same is_defined s.types e refl) (same is_func s.types e refl) (same is_component s.types e refl) (more is_instance s.types e refl)
+  type_placed (defined t) = grind (arith, by_types, more, same)
+  type_placed (function f) = grind (arith, by_types, same, more)
+  type_placed (component_type ds) = grind (arith, by_types, same, more)
+  type_placed (instance_type ds) = grind (arith, by_types, same, more)
 
   abbrev core_types_by : (a b : List ℕ) → ByKind
   core_types_by a b = record {
@@ -97,13 +89,7 @@ module _ (s : Scope) where
 module _ {A T E : Type 0} (tree : A → T) (shown : T → E) (xs : List A) (i : ℕ) (at : i ≡ length xs) (x : A) (new : List A) (to : new ≡ xs ++ x ∷ [])
     (p : E → Bool) {row : List ℕ} (are : row ≡ places p 0 (map shown (map tree xs))) where
   with_more : (b : Bool) → p (shown (tree x)) ≡ b → places p 0 (map shown (map tree new)) ≡ row ++ cond b (i ∷ []) []
-  with_more b is =
-      ap (λ ts. places p 0 (map shown (map tree ts))) to
-      ∙ ap (places p 0) (ap (map shown) (map-append tree xs (x ∷ [])) ∙ map-append shown (map tree xs) (tree x ∷ []))
-      ∙ places-snoc p (map shown (map tree xs)) (shown (tree x)) b is
-      ∙ ap (λ ks. ks ++ cond b (length (map shown (map tree xs)) ∷ []) []) (sym are)
-      ∙ ap (λ n. row ++ cond b (n ∷ []) [])
-      (let z : length (map shown (map tree xs)) ≡ i = omega (arith, at, length-map (map tree xs) shown, length-map xs tree) in z)
+  with_more b is = grind (arith, map-append, places-snoc, length-map)
 
   -- one that passes
   pub gained : {later : List ℕ} → p (shown (tree x)) ≡ true → later ≡ row ++ i ∷ [] → later ≡ places p 0 (map shown (map tree new))

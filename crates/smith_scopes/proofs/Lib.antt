@@ -5,6 +5,7 @@ pub mod Lists
 pub mod Marking
 pub mod ModuleSteps
 pub mod Naming
+pub mod OccupiedScopes
 pub mod OfferSteps
 pub mod Offered
 pub mod Parts

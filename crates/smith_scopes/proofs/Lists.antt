@@ -30,11 +30,11 @@ tail_same x y xs ys e = cc
 
 -- what a scope of a nest shows
 module _ {A B : Type 0} (f : A → B) (n : Nest A) (count : ℕ) where
-  here : slice_get (f n.own ∷ reverse (map f n.outer.items)) count ≡ option_map f (slice_get (inward_of n) count)
-  here = ap (λ ss. slice_get (f n.own ∷ ss) count) (map-reverse f n.outer.items) ∙ slice_get-map f (inward_of n) count
+  pub shown_at : slice_get (f n.own ∷ reverse (map f n.outer.items)) count ≡ option_map f (slice_get (inward_of n) count)
+  shown_at = ap (λ ss. slice_get (f n.own ∷ ss) count) (map-reverse f n.outer.items) ∙ slice_get-map f (inward_of n) count
 
   pub shown_found : (r : Option (Bor A)) → option_map (λ s. s.now) r ≡ slice_get (inward_of n) count
       → MatchOption r (slice_get (f n.own ∷ reverse (map f n.outer.items)) count ≡ None)
       (λ s. slice_get (f n.own ∷ reverse (map f n.outer.items)) count ≡ Some (f s.now))
-  shown_found None e = here ∙ ap (λ o. option_map f o) (sym e)
-  shown_found (Some s) e = here ∙ ap (λ o. option_map f o) (sym e)
+  shown_found None e = shown_at ∙ ap (λ o. option_map f o) (sym e)
+  shown_found (Some s) e = shown_at ∙ ap (λ o. option_map f o) (sym e)

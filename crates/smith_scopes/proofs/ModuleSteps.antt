@@ -1,8 +1,7 @@
 -- The declarations of a module type one by one.
-use Rattle.std.proofs.Common.{◌≡◌, ℕ, ◌+◌, ◌<◌, ◌≤◌, List, [], ◌∷◌, ◌++◌, map, length, get_or, sym, ap, ◌∙◌, subst, arith, Some}
+use Rattle.std.proofs.Common.{◌≡◌, ℕ, ◌+◌, ◌<◌, ◌≤◌, List, [], ◌∷◌, ◌++◌, map, length, get_or, ◌∙◌, subst, arith, Some}
 use Rattle.std.proofs.Math.ListN.{drop}
 use Rattle.std.proofs.lemmas.Option.{slice_get-map}
-use Rattle.std.specs.Option.{option_map}
 use Rattle.std.specs.Prelude.{slice_get}
 use Rattle.smith_format.specs.CoreTypes.{Function}
 use Rattle.smith_input.proofs.Rests.{drop_past, rest_at}
@@ -16,11 +15,7 @@ use Rattle.smith_scopes.specs.declared.module_sizes.ModuleSize.{ModuleSize}
 -- the function type that a core type shows
 module _ {A C : Type 0} (tree : A → C) (shown : C → CoreEntry) (around : List A) (i : ℕ) (t : A) (is : slice_get around i ≡ Some t) where
   pub size_at : (e : CoreEntry) → shown (tree t) ≡ e → kept_size (func_in (slice_get (map shown (map tree around)) i)) ≡ kept_size (func_in (Some e))
-  size_at e shows =
-      ap (λ o. kept_size (func_in o))
-      (slice_get-map shown (map tree around) i
-      ∙ (ap (λ o. option_map shown o) (slice_get-map tree around i ∙ ap (λ o. option_map tree o) is)
-      ∙ ap (λ u. Some u) shows))
+  size_at e shows = grind (arith, kept_size, slice_get-map)
 
 -- What was read and the rest are the whole.
 pub record Left (around : List CoreEntry) (all : List ModuleDecl) (m : ModuleSize) (rest : List ModuleDecl) : Type 0 where

@@ -1,15 +1,13 @@
 -- Scopes that keep something or not all alike, and what outer aliases and exports find in them.
-use Rattle.std.proofs.Common.{◌≡◌, ℕ, zero, suc, Bool, true, false, List, [], ◌∷◌, ◌++◌, get_or, map, refl, sym, ap, subst, ◌∙◌, Option, None, Some, reverse}
+use Rattle.std.proofs.Common.{arith, ◌≡◌, ℕ, zero, suc, Bool, true, false, List, [], ◌∷◌, ◌++◌, get_or, refl, sym, ap, subst, ◌∙◌, Option, None, Some, reverse}
 use Rattle.std.proofs.lemmas.List.{reverse-append}
 use Rattle.std.proofs.lemmas.Option.{same_Some, slice_get-map}
 use Rattle.std.specs.Borrow.{Bor}
-use Rattle.std.specs.Option.{option_to_list}
 use Rattle.std.specs.Prelude.{Err, IfSome, Ok, OnErr, OnOk, Result, option_map, slice_get}
-use Rattle.smith_syntax.specs.Entries.{CoreEntry, Entry}
-use Rattle.smith_syntax.specs.Marked.{Marked, core_size_named, exported_mark, mark_named, marks_for, more_kept}
+use Rattle.smith_syntax.specs.Marked.{Marked, core_size_named, mark_named, more_kept}
 use Rattle.smith_syntax.specs.Marked.{scope_in, scopes_in_marked, with_export, with_exported}
 use Rattle.smith_syntax.specs.Marks.{aliased_mark, equal_mark, no_mark}
-use Rattle.smith_syntax.specs.Scope.{Scope, core_type_named, exported_type, type_named}
+use Rattle.smith_syntax.specs.Scope.{core_type_named, exported_type, type_named}
 use Rattle.smith_syntax.specs.declared.deftype.ComponentTypeRef.{ComponentTypeRef}
 use Rattle.smith_syntax.specs.declared.deftype.ComponentTypeRef.TheVariants as to
 use Rattle.smith_syntax.specs.declared.marks.Mark.{Mark}
@@ -72,14 +70,10 @@ module _ (own : Marked) (outer : List Marked) (count i : ℕ) (s : Contents) (at
   scope_is = slice_get-map scope_in (own ∷ outer) count ∙ ap (λ o. option_map scope_in o) at
 
   type_is : type_named (scopes_in_marked (own ∷ outer)) count i ≡ option_map shown_type_node (slice_get s.types i)
-  type_is =
-      ap (λ (o : Option Scope). elim o as (λ o. Option Entry) [ None ↦ None | Some t ↦ slice_get t.types i ]) scope_is
-      ∙ slice_get-map shown_type_node s.types i
+  type_is = grind (arith, scope_is, slice_get-map)
 
   core_is : core_type_named (scopes_in_marked (own ∷ outer)) count i ≡ option_map shown_core_node (slice_get s.core_types i)
-  core_is =
-      ap (λ (o : Option Scope). elim o as (λ o. Option CoreEntry) [ None ↦ None | Some t ↦ slice_get t.core_types i ]) scope_is
-      ∙ slice_get-map shown_core_node s.core_types i
+  core_is = grind (arith, scope_is, slice_get-map)
 
   mark_is : mark_named (own ∷ outer) count i ≡ get_or s.marks i no_mark
   mark_is = ap (λ (o : Option Marked). elim o as (λ o. Mark) [ None ↦ no_mark | Some t ↦ get_or t.marks i no_mark ]) at
@@ -89,39 +83,17 @@ module _ (own : Marked) (outer : List Marked) (count i : ℕ) (s : Contents) (at
 
   pub found_some : (ty : Bor TypeNode) (m n : Mark) → Some ty.now ≡ slice_get s.types i → m ≡ get_or s.marks i no_mark → n ≡ aliased_mark count m
       → Found own outer count i (Some (ty, n))
-  found_some ty m n is known e =
-      let here = type_is ∙ ap (λ o. option_map shown_type_node o) (sym is) in
-      record {
-        named = sym here;
-        marked = λ k. ap (λ x. x ∷ []) (e ∙ ap (aliased_mark count) (known ∙ sym mark_is))
-            ∙ sym (ap (λ o. marks_for o (aliased_mark count (mark_named (own ∷ outer) count i))) here);
-      }
+  found_some ty m n is known e = grind (arith, type_is, mark_is)
 
   pub found_none : None ≡ slice_get s.types i → Found own outer count i None
-  found_none is =
-      let here = type_is ∙ ap (λ o. option_map shown_type_node o) (sym is) in
-      record {
-        named = sym here;
-        marked = λ k. sym (ap (λ o. marks_for o (aliased_mark count (mark_named (own ∷ outer) count i))) here);
-      }
+  found_none is = grind (arith, type_is)
 
   pub found_core_some : (ty : Bor CoreNode) (n : ℕ) → Some ty.now ≡ slice_get s.core_types i → n ≡ get_or s.core_sizes i 0
       → FoundCore own outer count i (Some (ty, n))
-  found_core_some ty n is known =
-      let here = core_is ∙ ap (λ o. option_map shown_core_node o) (sym is) in
-      record {
-        named = sym here;
-        sized = λ k. ap (λ x. x ∷ []) (known ∙ sym size_is)
-            ∙ sym (ap (λ o. map (λ x. core_size_named (own ∷ outer) count i) (option_to_list o)) here);
-      }
+  found_core_some ty n is known = grind (arith, core_is, size_is)
 
   pub found_core_none : None ≡ slice_get s.core_types i → FoundCore own outer count i None
-  found_core_none is =
-      let here = core_is ∙ ap (λ o. option_map shown_core_node o) (sym is) in
-      record {
-        named = sym here;
-        sized = λ k. sym (ap (λ o. map (λ x. core_size_named (own ∷ outer) count i) (option_to_list o)) here);
-      }
+  found_core_none is = grind (arith, core_is)
 
 -- What an export adds.
 module _ (s : Contents) (r : ComponentTypeRef) (i : ℕ) (of : r ≡ to.TypeEq i) where
@@ -130,21 +102,10 @@ module _ (s : Contents) (r : ComponentTypeRef) (i : ℕ) (of : r ≡ to.TypeEq i
 
   pub exported_some : (ty : Bor TypeNode) (m n : Mark) → Some ty.now ≡ slice_get s.types i → m ≡ get_or s.marks i no_mark → n ≡ equal_mark m
       → Exported (shown_marked s) r (Some (ty, n))
-  exported_some ty m n is known e =
-      let here = equal_is ∙ ap (λ o. option_map shown_type_node o) (sym is) in
-      record {
-        named = sym here;
-        marked = λ k. ap (λ x. x ∷ []) (e ∙ ap equal_mark known ∙ sym (ap (exported_mark s.marks) of))
-            ∙ sym (ap (λ o. marks_for o (exported_mark s.marks r)) here);
-      }
+  exported_some ty m n is known e = grind (arith, equal_is)
 
   pub exported_none : None ≡ slice_get s.types i → Exported (shown_marked s) r None
-  exported_none is =
-      let here = equal_is ∙ ap (λ o. option_map shown_type_node o) (sym is) in
-      record {
-        named = sym here;
-        marked = λ k. sym (ap (λ o. marks_for o (exported_mark s.marks r)) here);
-      }
+  exported_none is = grind (arith, equal_is)
 
 -- A scope with what was found.
 
@@ -154,31 +115,11 @@ kept_alike false xs ys zs same = refl
 
 module _ (own : Marked) (outer : List Marked) (count i : ℕ) where
   pub alias_is : (found : Option (Bor TypeNode × Mark)) → Found own outer count i found → with_found own found ≡ after_alias outer own count i
-  alias_is found f =
-      ap (λ o. record own { types = own.types ++ option_to_list o; marks = more_kept own.keeps own.marks (option_to_list (option_map (λ g. g.1) found)) })
-      f.named
-      ∙ ap (λ ms. record own { types = own.types ++ option_to_list (type_named (scopes_in_marked (own ∷ outer)) count i); marks = ms })
-      (kept_alike own.keeps own.marks _ _ f.marked)
+  alias_is found f = grind (arith, kept_alike)
 
   pub core_alias_is : (found : Option (Bor CoreNode × ℕ)) → FoundCore own outer count i found → with_found_core own found ≡ after_core_alias outer own count i
-  core_alias_is found f =
-      ap
-      (λ o. record own {
-        core_types = own.core_types ++ option_to_list o;
-        core_sizes = more_kept own.keeps own.core_sizes (option_to_list (option_map (λ g. g.1) found));
-      })
-      f.named
-      ∙ ap (λ ns. record own { core_types = own.core_types ++ option_to_list (core_type_named (scopes_in_marked (own ∷ outer)) count i); core_sizes = ns })
-      (kept_alike own.keeps own.core_sizes _ _ f.sized)
+  core_alias_is found f = grind (arith, kept_alike)
 
 pub export_is : (own : Marked) (r : ComponentTypeRef) (found : Option (Bor TypeNode × Mark)) → Exported own r found
     → with_found (with_export own r) found ≡ with_exported own r
-export_is own r found f =
-    ap
-    (λ o. record (with_export own r) {
-      types = own.types ++ option_to_list o;
-      marks = more_kept own.keeps own.marks (option_to_list (option_map (λ g. g.1) found));
-    })
-    f.named
-    ∙ ap (λ ms. record (with_export own r) { types = own.types ++ option_to_list (exported_type (scope_in own) r); marks = ms })
-    (kept_alike own.keeps own.marks _ _ f.marked)
+export_is own r found f = grind (arith, kept_alike)

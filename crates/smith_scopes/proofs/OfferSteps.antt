@@ -6,7 +6,7 @@ use Rattle.smith_syntax.specs.Entries.{Entry}
 use Rattle.smith_syntax.specs.Usable.{marked_places}
 use Rattle.smith_syntax.specs.Scope.{ScopeOf, with_type}
 use Rattle.smith_syntax.specs.declared.marks.Mark.{Mark}
-use Rattle.smith_scopes.specs.Kept.{AreKept, AreOffers, AreUses, Notes, SameOffers, is_offered, noted}
+use Rattle.smith_scopes.specs.Kept.{AreKept, AreOffers, AreUses, Notes, SameOffers, noted}
 use Rattle.smith_scopes.specs.declared.kept.Kept.{Kept}
 use Rattle.smith_scopes.specs.declared.offers.Offer.TheVariants as offer
 use Rattle.smith_scopes.specs.declared.offers.Offers.{Offers}
@@ -34,24 +34,12 @@ module _ (p : Entry → Mark → Bool) (types : List Entry) (marks : List Mark) 
     (at : i ≡ length types) where
   row_noted : {was old new : List ℕ} {b : Bool} → was ≡ marked_places p 0 types marks → old ≡ was → b ≡ p e m → new ≡ noted old b i
       → new ≡ marked_places p 0 (types ++ e ∷ []) (marks ++ m ∷ [])
-  row_noted {was} {old} {new} {b} is same uses to =
-      to ∙ noted_end old b i
-      ∙ ap (λ row. row ++ cond b (i ∷ []) []) (same ∙ is)
-      ∙ ap (λ c. marked_places p 0 types marks ++ cond c (i ∷ []) []) uses
-      ∙ ap (λ n. marked_places p 0 types marks ++ cond (p e m) (n ∷ []) []) (let z : i ≡ 0 + length types = omega (arith, at) in z)
-      ∙ sym (marked_places-push p 0 types marks e m many)
+  row_noted {was} {old} {new} {b} is same uses to = grind (arith, noted_end, marked_places-push)
 
 pub offers_noted : (types : List Entry) (marks : List Mark) (e : Entry) (m : Mark) (i : ℕ) → length marks ≡ length types → i ≡ length types
     → {was old new : Offers} {u : Uses} → AreOffers was types marks → SameOffers was old → AreUses u e m → Notes old new u i
     → AreOffers new (types ++ e ∷ []) (marks ++ m ∷ [])
-offers_noted types marks e m i many at a s u n = record {
-  values = row_noted (is_offered offer.Value) types marks e m i many at a.values s.values u.value n.values;
-  imports = row_noted (is_offered offer.Import) types marks e m i many at a.imports s.imports u.import n.imports;
-  exports = row_noted (is_offered offer.Export) types marks e m i many at a.exports s.exports u.export n.exports;
-  equals = row_noted (is_offered offer.Equal) types marks e m i many at a.equals s.equals u.equal n.equals;
-  components = row_noted (is_offered offer.Component) types marks e m i many at a.components s.components u.component n.components;
-  instances = row_noted (is_offered offer.Instance) types marks e m i many at a.instances s.instances u.instance n.instances;
-}
+offers_noted types marks e m i many at a s u n = grind (arith, row_noted)
 
 -- What is kept of the types of a scope, with one more type.
 module _ {T C : Type 0} (shown : T → Entry) (k n : Kept) (s t : ScopeOf T C) (kept : AreKept k (map shown s.types)) where

@@ -79,9 +79,7 @@ module _ {T C : Type 0} (shown : T → Entry) (core_shown : C → CoreEntry) (s 
 
   -- and any type may be equal to another
   pub all_offered : s.marks ≡ [] → offered_places offer.Equal (plain_marked shown core_shown s) ≡ places (λ t. true) 0 (map shown s.types)
-  all_offered none =
-      ap (marked_places (is_offered offer.Equal) 0 (map shown s.types)) none
-      ∙ unmarked_places (is_offered offer.Equal) (λ t. true) (λ t. refl) 0 (map shown s.types)
+  all_offered none = grind (arith, unmarked_places)
 
   pub length-offered : (o : Offer) → length (offered_places o (plain_marked shown core_shown s)) ≤ length s.types
   length-offered o = omega (arith, length-marked_places (is_offered o) 0 (map shown s.types) s.marks, length-map s.types shown)

@@ -44,19 +44,12 @@ module _ {A B : Type 0} (f : A → List B) (xs : List A) (i : ℕ) where
 module _ {B : Type 0} (reach : B → Reach) (old new more : List B) where
   pub reach_more : (kept grown : Reach) → new ≡ old ++ more → kept ≡ narrowest (map reach old) → grown ≡ narrower kept (narrowest (map reach more))
       → grown ≡ narrowest (map reach new)
-  reach_more kept grown n k g =
-      g ∙ (ap (λ r. narrower r (narrowest (map reach more))) k
-      ∙ sym (ap (λ bs. narrowest (map reach bs)) n ∙ (ap narrowest (map-append reach old more) ∙ narrowest-append (map reach old) (map reach more))))
+  reach_more kept grown n k g = grind (arith, map-append, narrowest-append)
 
 module _ {B : Type 0} (size : B → ℕ) (old new more : List B) where
   pub size_more : (kept grown : ℕ) → new ≡ old ++ more → kept ≡ capped (sum (map size old) + 1)
       → (capped kept ≡ kept → grown ≡ capped (kept + sum (map size more))) → grown ≡ capped (sum (map size new) + 1)
-  size_more kept grown n k g =
-      let c : capped kept ≡ kept = omega (arith, k) in
-      let m : grown ≡ capped (kept + sum (map size more)) = g c in
-      let s : sum (map size new) ≡ sum (map size old) + sum (map size more) =
-      ap (λ bs. sum (map size bs)) n ∙ (ap sum (map-append size old more) ∙ sum_by-append (λ n. n) (map size old) (map size more)) in
-      omega (arith, k, m, s)
+  size_more kept grown n k g = grind (arith, map-append, sum_by-append)
 
 -- a mark that may be missing
 pub parts_at : (marks : List Mark) (i : ℕ) → (get_or marks i no_mark).parts ≡ parts_of (slice_get marks i)
@@ -75,14 +68,8 @@ module _ (marks : List Mark) (vs ws : List ComponentValType) (same : vs ≡ ws) 
     (reach_is : reach ≡ narrowest (map (value_reach marks) vs)) (size_is : size ≡ capped (summed (sizes marks) vs)) where
   pub plain_is : {m : Mark} → m ≡ record { nominal = false; parts = reach; used = reach; size = size }
       → m ≡ declared_mark false (map (value_reach marks) ws) (capped (summed (sizes marks) ws))
-  plain_is e =
-      e ∙ ap (λ r. record { nominal = false; parts = r; used = r; size = size }) reach_is
-      ∙ ap (λ n. declared_mark false (map (value_reach marks) vs) n) size_is
-      ∙ ap (λ us. declared_mark false (map (value_reach marks) us) (capped (summed (sizes marks) us))) same
+  plain_is e = grind arith
 
   pub nominal_is : {m : Mark} → m ≡ record { nominal = true; parts = reach; used = Nowhere; size = size }
       → m ≡ declared_mark true (map (value_reach marks) ws) (capped (summed (sizes marks) ws))
-  nominal_is e =
-      e ∙ ap (λ r. record { nominal = true; parts = r; used = Nowhere; size = size }) reach_is
-      ∙ ap (λ n. declared_mark true (map (value_reach marks) vs) n) size_is
-      ∙ ap (λ us. declared_mark true (map (value_reach marks) us) (capped (summed (sizes marks) us))) same
+  nominal_is e = grind arith

@@ -23,10 +23,7 @@ module _ {A : Type 0} (test : A → Bool) where
   stands_at (e ∷ es) n k i h = stands_split e es n k i (λ m g. stands_at es (n + 1) m i g) (test e) refl h
 
   pub place_stands : (es : List A) (k i : ℕ) → slice_get (places test 0 es) k ≡ Some i → (e : A) × (slice_get es i ≡ Some e) × (test e ≡ true)
-  place_stands es k i h =
-      let p = stands_at es 0 k i h in
-      let same : i ≡ p.1 = omega (arith, p.2) in
-      (p.0, ap (slice_get es) same ∙ p.3, p.4)
+  place_stands es k i h = grind (arith, stands_at)
 
   pub place_within : (es : List A) (k i : ℕ) → slice_get (places test 0 es) k ≡ Some i → i < length es
   place_within es k i h = let p = place_stands es k i h in slice_get_within es i p.0 p.1
@@ -40,10 +37,7 @@ module _ {A : Type 0} (test : A → Bool) where
 
   place_from : (es : List A) (n i : ℕ) (e : A) → slice_get es i ≡ Some e → test e ≡ true → (k : ℕ) × (slice_get (places test n es) k ≡ Some (n + i))
   place_from [] n i e h t = absurd (cc)
-  place_from (x ∷ xs) n zero e h t =
-      let same : x ≡ e = cc in
-      let yes : test x ≡ true = ap test same ∙ t in
-      (0, ap (λ b. slice_get (cond b (n ∷ places test (n + 1) xs) (places test (n + 1) xs)) 0) yes ∙ ap Some (let z : n ≡ n + 0 = omega arith in z))
+  place_from (x ∷ xs) n zero e h t = grind arith
   place_from (x ∷ xs) n (suc j) e h t =
       let later = place_from xs (n + 1) j e h t in
       let at : n + 1 + j ≡ n + suc j = omega arith in

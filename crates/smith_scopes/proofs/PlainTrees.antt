@@ -2,7 +2,7 @@
 use Rattle.std.proofs.Common.{◌≡◌, refl, ap, ◌∙◌}
 use Rattle.smith_syntax.specs.Entries.{Entry, Decl, Decls, plain, plain_decl, plain_decls}
 use Rattle.smith_syntax.specs.Entries.{defined, function, component_type, instance_type}
-use Rattle.smith_syntax.specs.Entries.{core_type_decl, type_decl, type_alias, core_type_alias, import_decl, export_decl, no_decls, then_decls}
+use Rattle.smith_syntax.specs.Entries.{type_decl, no_decls, then_decls}
 
 -- a plain type is plain
 mutual
@@ -13,12 +13,8 @@ mutual
   plain_same (instance_type ds) = ap instance_type (plain_decls_same ds)
 
   plain_decl_same : (d : Decl) → plain_decl d ≡ d
-  plain_decl_same (core_type_decl t k) = refl
   plain_decl_same (type_decl e) = ap type_decl (plain_same e)
-  plain_decl_same (type_alias count i k) = refl
-  plain_decl_same (core_type_alias count i k) = refl
-  plain_decl_same (import_decl name n r) = refl
-  plain_decl_same (export_decl name n r) = refl
+  plain_decl_same _ = refl
 
   plain_decls_same : (ds : Decls) → plain_decls ds ≡ ds
   plain_decls_same no_decls = refl

@@ -156,12 +156,13 @@ outer_scopes_are scopes = ap outer_of (inward_is scopes) ∙ later (inward_marke
     later (s ∷ ss) = refl
 
 -- scopes of which there is one
+
+pub split_first : (ss : List Marked) → 0 < length ss → ss ≡ first_marked ss ∷ drop 1 ss
+split_first [] h = absurd (omega (arith, h))
+split_first (s ∷ ss) h = refl
+
 pub split_marked : (scopes : List Contents) → 0 < length scopes → inward_marked scopes ≡ own_marked scopes ∷ outer_marked scopes
-split_marked scopes some = split (inward_marked scopes) (let l = length-inward_marked scopes in omega (arith, l, some))
-  where
-    split : (ss : List Marked) → 0 < length ss → ss ≡ first_marked ss ∷ drop 1 ss
-    split [] h = absurd (omega (arith, h))
-    split (s ∷ ss) h = refl
+split_marked scopes some = split_first (inward_marked scopes) (let l = length-inward_marked scopes in omega (arith, l, some))
 
 -- the scope of a count
 pub marked_at : (scopes : List Contents) (count : ℕ) → count < length scopes

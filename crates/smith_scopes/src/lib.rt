@@ -19,7 +19,7 @@ pub use kinds::Kind;
 pub use nest::Nest;
 pub use nodes::{NodeScope, NodeScopes};
 pub use offers::Offer;
-pub use references::{Purpose, function_offer};
+pub use references::{Nested, Purpose, function_offer, occupied, offered_declarations};
 pub use scope::Scope;
 pub use scopes::{CanonicalAbi, Scopes};
 pub use typed::{CorePart, CoreTree, CoreTyped, ModulePart, ModuleTree, TypeTree, Typed};

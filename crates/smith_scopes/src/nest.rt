@@ -68,14 +68,14 @@ impl<S: Drop> Nest<S> {
 
     /// The scope of that count (0 is the innermost).
     #[inline]
-    pub fn at(&self, count: u32) -> &S
+    pub fn at(&self, count: usize) -> &S
         requires { count ≤ length self.now.outer.items }
         ensures { slice_get (inward_of self.now) count ≡ Some result.now }
     {
         if count == 0 {
             &self.own
         } else {
-            &self.outer[self.outer.len() - count as usize]
+            &self.outer[self.outer.len() - count]
         }
     }
 
@@ -84,7 +84,7 @@ impl<S: Drop> Nest<S> {
         ensures { option_map (λ s. s.now) result ≡ slice_get (inward_of self.now) count }
     {
         if count as usize <= self.outer.len() {
-            Some(self.at(count))
+            Some(self.at(count as usize))
         } else {
             None
         }

@@ -1,19 +1,25 @@
-//! What imports and exports may be of: makers choose among it, and scripts spell that choice.
+//! What imports and exports may be of, and what declarations may be: makers choose among it, and scripts spell that
+//! choice.
 
-ghost use Rattle.std.specs.Prelude.{◌≡◌, ◌&&◌, length};
+ghost use Rattle.std.specs.Prelude.{◌≡◌, ◌&&◌, ◌<◌, ◌≤◌, List, drop, length, nat_lt, option_map, slice_get, Some, IfOk};
+ghost use Rattle.std.specs.List.Sorted.{IsStrictlyIncreasing};
 ghost use Rattle.smith_input.specs.Offers.{offers_of};
-ghost use Rattle.smith_syntax.specs.Marked.{Marked};
+ghost use Rattle.smith_syntax.specs.Marked.{Marked, first_marked};
 ghost use Rattle.smith_tree.specs.TypeOffers.{allows_equal, allows_one, has_export, has_place, has_reference, has_room};
-ghost use Rattle.smith_tree.specs.TypeOffers.{kinds_offered, ref_kinds, ref_places};
+ghost use Rattle.smith_tree.specs.TypeOffers.{declaration_offers, is_occupied, kinds_offered, occupied, ref_kinds};
+ghost use Rattle.smith_tree.specs.TypeOffers.{ref_places};
 ghost use Rattle.smith_scopes.specs.Kept.{offered_places};
 ghost use Rattle.smith_scopes.specs.Positions.{plain_marked};
 
 use crate::kinds::Kind;
+use crate::nodes::NodeScopes;
 use crate::offers::Offer;
 use crate::scope::Scope;
+use crate::scopes::Scopes;
 use crate::typed::{CoreTyped, Typed};
 use smith_format::Config;
-use smith_tree::{RefKind, RefTotals, ref_offers};
+use smith_tree::{DeclarationItem, RefKind, RefTotals, declaration_offers, ref_offers};
+use std::alloc::{AllocError, Global};
 
 /// What a reference is for: whether it is imported, whether within a type, and what is counted before it. Public only
 /// for the crates above.
@@ -66,6 +72,13 @@ impl<T: Typed, C: CoreTyped> Scope<T, C> {
             RefKind::Component => self.offered_len(Offer::Component),
             RefKind::Instance => self.offered_len(Offer::Instance),
         }
+    }
+
+    // Does it have an entry?
+    fn is_occupied(&self) -> bool
+        ensures { result ≡ is_occupied (plain_marked T.Tree.plain C.Tree.plain self.now) }
+    {
+        self.types_len() + self.core_types_len() > 0
     }
 
     /// Does it have a type, or the type of a core module?
@@ -146,4 +159,99 @@ impl<T: Typed, C: CoreTyped> Scope<T, C> {
             ref_offers(false, false, false, false, false)
         }
     }
+}
+
+/// Scopes, one in another, whether their types are made or were read. Public only for the crates above.
+pub trait Nested {
+    // innermost first
+    ghost inward: { Self → List Marked };
+
+    /// How many scopes there are.
+    fn depth(&self) -> usize
+        ensures count { result ≡ length (inward self.now) }
+        ensures some { 1 ≤ result };
+
+    /// Does the scope of that count have an entry (0 is the innermost)?
+    fn is_occupied(&self, count: usize) -> bool
+        requires { count < length (inward self.now) }
+        ensures { option_map is_occupied (slice_get (inward self.now) count) ≡ Some result };
+
+    /// Does the innermost scope have something that an export may be of?
+    fn has_export(&self) -> bool
+        ensures { result ≡ has_export (first_marked (inward self.now)) };
+}
+
+impl Nested for Scopes {
+    ghost use Rattle.smith_scopes.specs.Scopes.{inward_marked};
+
+    ghost inward = { inward_marked };
+
+    fn depth(&self) -> usize {
+        Scopes::depth(self)
+    }
+
+    fn is_occupied(&self, count: usize) -> bool {
+        self.scope(count).is_occupied()
+    }
+
+    fn has_export(&self) -> bool {
+        self.last().has_export()
+    }
+}
+
+impl<'a> Nested for NodeScopes<'a> {
+    ghost use Rattle.std.specs.Prelude.{◌∷◌};
+    ghost use Rattle.smith_scopes.specs.NodeScopes.{outer_marked_in, own_marked_in};
+
+    ghost inward = { λ s. own_marked_in s ∷ outer_marked_in s };
+
+    fn depth(&self) -> usize {
+        self.nest.depth()
+    }
+
+    fn is_occupied(&self, count: usize) -> bool {
+        self.nest.at(count).is_occupied()
+    }
+
+    fn has_export(&self) -> bool {
+        self.nest.own.has_export()
+    }
+}
+
+/// The counts of the scopes that have an entry, innermost first.
+pub fn occupied<S: Nested>(alloc: Global, scopes: &S) -> Result<Vec<usize>, AllocError>
+    ensures counts { IfOk result (λ v. v.items ≡ occupied (S.inward scopes.now)) }
+    ensures ascending { IfOk result (λ v. IsStrictlyIncreasing v.items) }
+{
+    let mut counts = Vec::with_capacity(alloc, scopes.depth())?;
+    for count in 0..scopes.depth() {
+        if scopes.is_occupied(count) {
+            counts.push(count)?;
+        }
+    }
+    Ok(counts)
+}
+
+// Does one of the scopes have an entry?
+fn has_entry<S: Nested>(scopes: &S) -> bool
+    ensures { result ≡ nat_lt 0 (length (occupied (S.inward scopes.now))) }
+{
+    for count in 0..scopes.depth() {
+        if scopes.is_occupied(count) {
+            return true;
+        }
+    }
+    false
+}
+
+/// What a declaration may be, in the order of its choice, each with whether it is offered: a type if one more scope may
+/// nest.
+pub fn offered_declarations<S: Nested>(scopes: &S, config: &Config) -> [(bool, DeclarationItem); 4]
+    ensures { result
+        ≡ declaration_offers config.now (drop 1 (S.inward scopes.now)) (first_marked (S.inward scopes.now)) }
+{
+    let with_type = scopes.depth() < config.max_nesting_depth;
+    let with_export = scopes.has_export();
+    let with_alias = has_entry(scopes);
+    declaration_offers(with_export, with_alias, with_type)
 }

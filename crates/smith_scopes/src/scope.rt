@@ -237,6 +237,7 @@ impl<T: Typed, C: CoreTyped> Scope<T, C> {
     }
 
     // Where all that it refers to is named.
+    #[tactic(auto, using(crate::proofs::Parts::reach_at))]
     fn reference_reach(&self, to: ComponentTypeRef) -> Reach
         ensures { result ≡ reference_reach self.now to }
     {

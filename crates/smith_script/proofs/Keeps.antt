@@ -4,7 +4,7 @@ use Rattle.smith_syntax.specs.Entries.{CoreEntry, Entry, ImportEntry}
 use Rattle.smith_syntax.specs.Marked.{Marked, with_export}
 use Rattle.smith_syntax.specs.declared.deftype.ComponentTypeRef.{ComponentTypeRef}
 use Rattle.smith_tree.specs.Marking.{exported_reference, with_exports_entry}
-use Rattle.smith_tree.specs.Tree.{Canon, ExportEntry, lift, lower, Part, custom, core_module, core_types, component, types, canons, imports, exports}
+use Rattle.smith_tree.specs.Tree.{Canon, ExportEntry, lift, lower, Part, core_types, types, canons, imports, exports}
 use Rattle.smith_script.specs.Preceding.{Preceding, after_canon, after_core_type, after_export, after_import, after_section, after_type}
 
 references_keep : (rs : List ComponentTypeRef) (own : Marked) → (with_exports_entry own rs).keeps ≡ own.keeps
@@ -34,11 +34,9 @@ module _ (outer : List Marked) where
   exports_keep (e ∷ es) s = exports_keep es (after_export outer s e) ∙ references_keep (exported_reference s.functions e) s.scope
 
   pub section_keeps : (p : Part) (s : Preceding) → (after_section outer p s).scope.keeps ≡ s.scope.keeps
-  section_keeps (custom n c) s = refl
-  section_keeps (core_module bs) s = refl
   section_keeps (core_types ts) s = core_types_keep ts s
-  section_keeps (component t) s = refl
   section_keeps (types ts) s = types_keep ts s
   section_keeps (canons cs) s = canons_keep cs s
   section_keeps (imports is) s = imports_keep is s
   section_keeps (exports es) s = exports_keep es s
+  section_keeps _ s = refl

@@ -16,7 +16,7 @@ use Rattle.smith_syntax.specs.declared.deftype.ComponentTypeRef.{ComponentTypeRe
 use Rattle.smith_syntax.specs.declared.deftype.ComponentTypeRef.TheVariants as to
 use Rattle.smith_tree.specs.Offers.{is_scalar_entry, is_scalar_type, scalar_functions}
 use Rattle.smith_tree.specs.Spaces.{Spaces, after_canon, after_export, after_import, after_part, spaces_of}
-use Rattle.smith_tree.specs.Tree.{Canon, ExportEntry, lift, lower, Tree, Part, custom, core_module, core_types, component, types, canons, imports, exports}
+use Rattle.smith_tree.specs.Tree.{Canon, ExportEntry, lift, lower, Tree, Part, types, canons, imports, exports}
 use Rattle.smith_tree.specs.Tree.{function_of}
 use Rattle.smith_tree.specs.WellFormed.{FormedCanons, FormedImport, FormedPart, scope_of}
 use Rattle.smith_script.specs.Preceding.{Known}
@@ -55,11 +55,8 @@ known_canons (lift c t ∷ cs) sp formed known =
 known_canons (lower f ∷ cs) sp formed known = known_canons cs (after_canon sp (lower f)) formed.1 known
 
 known_function : (own : Scope) (r : ComponentTypeRef) → FormedRef own r → AreBelow (length own.types) (function_of r)
-known_function own (to.Module i) formed = tt
 known_function own (to.Func i) formed = (slice_get_within own.types i _ formed.1, tt)
-known_function own (to.TypeEq i) formed = tt
-known_function own (to.Component i) formed = tt
-known_function own (to.Instance i) formed = tt
+known_function own _ formed = tt
 
 known_imports : (is : List ImportEntry) (sp : Spaces) (own : Scope) → own.types ≡ sp.types → AllByRecursion (FormedImport own) is → Known sp
     → Known (fold after_import sp is)
@@ -80,11 +77,8 @@ known_exports (x ∷ es) sp known =
     (known_with sp (option_to_list (slice_get sp.functions x.func)) known (known_at (length sp.types) sp.functions x.func known))
 
 pub known_part : (p : Part) (outer : List Scope) (t : Tree) → FormedPart p outer t → Known (spaces_of t) → Known (after_part (spaces_of t) p)
-known_part (custom n c) outer t formed known = known
-known_part (core_module bs) outer t formed known = known
-known_part (core_types ts) outer t formed known = known
-known_part (component u) outer t formed known = known
 known_part (types ts) outer t formed known = known_types (spaces_of t) ts known
 known_part (canons fs) outer t formed known = known_canons fs (spaces_of t) formed known
 known_part (imports is) outer t formed known = known_imports is (spaces_of t) (scope_of t) refl formed.0 known
 known_part (exports es) outer t formed known = known_exports es (spaces_of t) known
+known_part _ outer t formed known = known

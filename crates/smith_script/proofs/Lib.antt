@@ -6,6 +6,4 @@ pub mod Known
 pub mod Noted
 pub mod Plans
 pub mod Same
-pub mod Scalars
-pub mod Steps
 pub mod Turns

@@ -1,7 +1,6 @@
 -- What is said of what there is before each place is the script there.
-use Rattle.std.proofs.Common.{◌≡◌, ℕ, ◌+◌, ◌-◌, ◌&&◌, List, [], ◌∷◌, ◌++◌, length, refl, ap, sym, ◌∙◌, nat_lt, arith, true, false}
+use Rattle.std.proofs.Common.{◌≡◌, ℕ, ◌+◌, ◌-◌, List, [], ◌∷◌, ◌++◌, length, refl, ap, sym, ◌∙◌, arith, true, false}
 use Rattle.std.proofs.lemmas.List.{length-map}
-use Rattle.std.specs.Prelude.{nat_le}
 use Rattle.smith_input.specs.NameScript.{script_new}
 use Rattle.smith_input.specs.Script.{pick, script_among, script_loop, script_more}
 use Rattle.smith_format.specs.declared.config.Config.{Config}
@@ -12,7 +11,7 @@ use Rattle.smith_tree.specs.Functions.{functions_of}
 use Rattle.smith_tree.specs.Offers.{with_exports}
 use Rattle.smith_tree.proofs.Marking.{scope_marked, scopes_marked}
 use Rattle.smith_tree.specs.Marking.{marked_in, marked_inner, with_core_entry, with_type_entry}
-use Rattle.smith_tree.specs.Open.{is_export_offered, more_items}
+use Rattle.smith_tree.specs.Turns.{turn_items}
 use Rattle.smith_tree.specs.Script.{script_export, script_import, script_item, script_part}
 use Rattle.smith_tree.specs.Spaces.{after_canon as canon_behind, core_types_of, spaces_of, types_of}
 use Rattle.smith_tree.specs.Tree.{Part, Tree, custom, core_module, core_types, component, types, canons, imports, exports, add, components_in}
@@ -26,15 +25,19 @@ use Rattle.smith_component.proofs.Tree.{length-own-add}
 use Rattle.smith_script.specs.Saying.{canon_row_says, core_type_says, export_says, import_says, item_says, rows_say, section_says, type_says}
 use Rattle.smith_script.specs.Preceding.{Known, Preceding, after_core_type, after_type, standing_at, totals_in}
 use Rattle.smith_script.proofs.Grown.{Grows, canons_grow, core_types_grow, exports_grow, imports_grow, types_grow}
+use Rattle.smith_syntax.specs.contracts.types.PrimitiveValTypePartialEq.TheImpl.{ghosts as prims}
+use Rattle.smith_syntax.specs.declared.types.ComponentValType.TheVariants.{Primitive}
+use Rattle.smith_syntax.specs.declared.types.PrimitiveValType.{PrimitiveValType}
+use Rattle.smith_syntax.specs.declared.types.PrimitiveValType.TheVariants as prim
+use Rattle.smith_tree.specs.TypeScript.{script_scalar}
+use Rattle.smith_script.specs.Saying.{flat_like}
 
 -- The choice of an item.
 pub item_same : (config : Config) (outer : List Tree) (t : Tree) (chosen : Item)
     → item_says config (marked_in config outer) (length (parts_of t)) (standing_at config outer t) chosen ≡ script_item config outer t chosen
 item_same config outer t chosen =
-    ap (λ n. script_among equal.eq
-    (more_items (nat_le config.finish_after (length (parts_of t))) (nat_lt (totals_in outer t).modules config.max_modules)
-    (nat_lt (n + 1) config.max_nesting_depth && nat_lt (totals_in outer t).components config.max_components)
-    (is_export_offered config)) chosen) (let e : length (marked_in config outer) ≡ length outer =
+    ap (λ n. script_among equal.eq (turn_items config n (length (parts_of t)) (totals_in outer t)) chosen)
+    (let e : length (marked_in config outer) ≡ length outer =
     omega (arith, ap length (scopes_marked config outer), length-map (marked_in config outer) scope_in, length-scopes_from outer []) in e)
 
 -- A loop over what there is says the same as one over its own states, entry by entry.
@@ -90,3 +93,21 @@ section_same (exports es) config outer t none known =
     rows_agree (exports_grow config outer t) (export_says config (marked_in config outer)) (script_export t) (λ z x. z ++ x ∷ []) (λ xs. xs) (λ xs x. refl)
     (λ xs x. ap (λ n. pick (length (functions_of (with_exports t xs))) x.func ++ script_new 100 n x.name) (length-own-add exports_in t (exports xs)))
     (config.max_exports - length (exports_of t)) [] es refl
+
+-- A primitive among the ones that flatten as it does.
+
+pub scalar_same : (p : PrimitiveValType) → script_among prims.eq (flat_like p) p ≡ script_scalar (Primitive p)
+unfolding pick
+scalar_same prim.Bool = refl
+scalar_same prim.S8 = refl
+scalar_same prim.U8 = refl
+scalar_same prim.S16 = refl
+scalar_same prim.U16 = refl
+scalar_same prim.S32 = refl
+scalar_same prim.U32 = refl
+scalar_same prim.S64 = refl
+scalar_same prim.U64 = refl
+scalar_same prim.F32 = refl
+scalar_same prim.F64 = refl
+scalar_same prim.Char = refl
+scalar_same prim.String = refl

@@ -7,6 +7,8 @@ use Rattle.smith_syntax.specs.HasSignature.{is_of_signature}
 use Rattle.smith_syntax.specs.Places.{places}
 use Rattle.smith_syntax.specs.SameSignature.{same_signature}
 use Rattle.smith_scopes.specs.Rows.{row_in}
+use Rattle.std.specs.List.{AllByRecursion}
+use Rattle.std.specs.List.Sorted.{IsStrictlyIncreasing}
 
 -- the row of that number, if there is one
 abbrev pub row_at : {Z : Type 0} → List (Vec ℕ Z) → Option ℕ → List ℕ
@@ -43,3 +45,9 @@ same_row s row = row
 -- one more index in the row of that signature
 abbrev pub with_index : Signature → ℕ → Signature → List ℕ → List ℕ
 with_index f i s row = if same_signature f s then row ++ i ∷ [] else row
+
+-- Indexes that are among a list's, ascending.
+
+pub record AreAmong (indexes functions : List ℕ) : Type 0 where
+  pub ascend : IsStrictlyIncreasing indexes
+  pub within : AllByRecursion (λ i. i < length functions) indexes

@@ -9,6 +9,8 @@ use Rattle.smith_tree.specs.Grammar.{Spells}
 use Rattle.smith_component.specs.Runs.{IsFollowed, RunsTo}
 use Rattle.smith_tree.specs.Script.{script}
 use Rattle.smith_tree.specs.Tree.{Tree}
+use Rattle.smith_script.specs.declared.scripting.Draft.{Draft}
+use Rattle.smith_script.specs.declared.scripting.Draft.TheVariants as draft
 
 -- The limits fit together, and the run over the input leads to the tree, and leaves nothing.
 pub record IsGiven (config : Config) (t : Tree) (input : List ℕ) : Type 0 where
@@ -31,3 +33,10 @@ CannotBeGenerated config t = (input left c : List ℕ) → Spells t c → IsFoll
 abbrev pub IsScriptIfAny : Config → Tree → Option (Vec ℕ Global) → Type 0
 IsScriptIfAny config t (Some b) = IsScript config t b.items
 IsScriptIfAny config t None = (b : List ℕ) → ¬ IsScript config t b
+
+-- What a draft of a script is.
+
+-- It is the whole script; or it is a part, and the script is not bytes, as if a choice takes more of them than it has.
+abbrev pub IsDraft : List ℕ → Draft → Type 0
+IsDraft script (draft.Whole b) = b.items ≡ script
+IsDraft script (draft.Part b) = ¬ AreBytes script

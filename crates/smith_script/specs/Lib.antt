@@ -1,9 +1,6 @@
 pub mod Difference
-pub mod Drafts
 pub mod Equals
-pub mod Functions
 pub mod IsScript
-pub mod Lifted
 pub mod Preceding
 pub mod Refusals
 pub mod Saying

@@ -4,7 +4,7 @@ use Rattle.smith_tree.specs.Depths.{scope_depth}
 use Rattle.smith_tree.specs.Grammar.{Spells}
 use Rattle.smith_tree.specs.Tree.{Tree}
 use Rattle.smith_tree.specs.WellFormed.{WellFormed}
-use Rattle.smith_check.specs.Upto.{StopsAt}
+use Rattle.smith_read.specs.Items.{StopsAt}
 use Rattle.smith_read.specs.Reads.{AreRead, AreUnread, most_depth}
 use Rattle.smith_script.specs.declared.error.ScriptError.{ScriptError}
 use Rattle.smith_script.specs.declared.error.ScriptError.TheVariants as error
@@ -17,14 +17,14 @@ pub record AreReadAs (bytes : List ℕ) (t : Tree) : Type 0 where
   pub shallow : scope_depth t ≤ most_depth
   pub formed : WellFormed t
 
--- They are not read; they are a component that is not well formed, and stops being so at the entry of that place; or they are one that is, and
+-- They are not read; they are a component that is not well formed, and stops being so at that item; or they are one that is, and
 -- what is produced differs in them or at their end. Whether the limits fit together, and memory, are not of the bytes.
 abbrev pub IsScriptRefusal : List ℕ → ScriptError → Type 0
 IsScriptRefusal bytes error.OutOfMemory = Unit {0}
 IsScriptRefusal bytes error.InconsistentLimits = Unit {0}
 IsScriptRefusal bytes (error.Unread reason offset) = AreUnread bytes offset
 IsScriptRefusal bytes (error.IllFormed fault) =
-    AreRead bytes (λ t. (¬ WellFormed t) × StopsAt WellFormed fault.place.sections.items fault.place.entry t)
+    AreRead bytes (λ t. (¬ WellFormed t) × StopsAt WellFormed fault.item t)
 IsScriptRefusal bytes (error.NoScript limit offset) = AreRead bytes WellFormed × IfSome offset (λ n. n ≤ length bytes)
 
 -- What differs from these bytes differs in them or at their end.

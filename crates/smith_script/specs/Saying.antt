@@ -1,5 +1,5 @@
 -- The script of a component, said of what there is before each place.
-use Rattle.std.specs.Prelude.{ℕ, ◌+◌, ◌-◌, ◌&&◌, true, false, List, [], ◌∷◌, ◌++◌, length, nat_eq, nat_le, nat_lt, slice_get}
+use Rattle.std.specs.Prelude.{ℕ, ◌+◌, ◌-◌, true, false, List, [], ◌∷◌, ◌++◌, length, nat_eq, nat_lt, slice_get}
 use Rattle.smith_input.specs.NameScript.{script_new}
 use Rattle.smith_input.specs.Offers.{offers_of}
 use Rattle.smith_input.specs.Script.{pick, script_among, script_bytes, script_loop, script_text}
@@ -10,13 +10,17 @@ use Rattle.smith_syntax.specs.Marked.{Marked, scope_in}
 use Rattle.smith_tree.specs.CoreTypeScript.{script_core}
 use Rattle.smith_tree.specs.TypeScript.{script_extern, script_ref, script_type}
 use Rattle.smith_tree.specs.CanonScript.{canon_item_of, script_lift}
-use Rattle.smith_tree.specs.Open.{is_export_offered, more_items}
+use Rattle.smith_tree.specs.Turns.{turn_items}
 use Rattle.smith_tree.specs.Tree.{Canon, lift, lower, ExportEntry, Part, custom, core_module, core_types, component, types, canons, imports, exports}
 use Rattle.smith_tree.specs.contracts.choices.ItemPartialEq.TheImpl.{ghosts as equal}
 use Rattle.smith_tree.specs.contracts.choices.CanonItemPartialEq.TheImpl.{ghosts as canons_equal}
 use Rattle.smith_tree.specs.declared.choices.CanonItem.TheVariants.{Lift, Lower}
 use Rattle.smith_tree.specs.declared.choices.Item.{Item}
 use Rattle.smith_script.specs.Preceding.{Preceding, after_canon, after_core_type, after_export, after_import, after_type, spaces_in}
+use Rattle.std.specs.Prelude.{Some, None}
+use Rattle.smith_syntax.specs.Flat.{flat_primitive}
+use Rattle.smith_syntax.specs.declared.types.PrimitiveValType.{PrimitiveValType}
+use Rattle.smith_tree.specs.TypeOffers.{lifted}
 
 -- entries of sections
 
@@ -53,11 +57,7 @@ rows_say says after max s xs = script_loop says after 0 max 0 s xs
 
 -- the choice of an item after that many sections
 abbrev pub item_says : Config → List Marked → ℕ → Preceding → Item → List ℕ
-item_says config outer sections s chosen =
-    script_among equal.eq
-    (more_items (nat_le config.finish_after sections) (nat_lt s.totals.modules config.max_modules)
-    (nat_lt (length outer + 1) config.max_nesting_depth && nat_lt s.totals.components config.max_components) (is_export_offered config))
-    chosen
+item_says config outer sections s chosen = script_among equal.eq (turn_items config (length outer) sections s.totals) chosen
 
 -- what follows the choice of the item of a section. A component in it is none.
 abbrev pub section_says : Part → Config → List Marked → Preceding → List ℕ
@@ -69,3 +69,9 @@ section_says (types ts) config outer s = rows_say (type_says config outer) (afte
 section_says (canons fs) config outer s = rows_say (canon_row_says config outer) (after_canon outer) (config.max_funcs - s.totals.funcs) s fs
 section_says (imports is) config outer s = rows_say (import_says config outer) (after_import outer) (config.max_imports - s.imports) s is
 section_says (exports es) config outer s = rows_say (export_says config outer) (after_export outer) (config.max_exports - s.exports) s es
+
+-- What a lifted primitive is chosen among.
+
+-- the primitives that flatten as it does
+abbrev pub flat_like : PrimitiveValType → List PrimitiveValType
+flat_like p = elim (flat_primitive p) [ None ↦ [] | Some v ↦ lifted v ]

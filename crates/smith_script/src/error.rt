@@ -1,6 +1,6 @@
 //! Why there is no script.
 
-use smith_check::{Fault, Place};
+use smith_check::Fault;
 use smith_read::Reason;
 use std::alloc::{AllocError, AllocFailed};
 use std::fmt;
@@ -42,8 +42,10 @@ pub enum ScriptError {
         reason: Reason,
         offset: usize,
     },
-    /// The component is not well formed: the first rule that it breaks, and the place of the entry that breaks it, as
-    /// `judged` of `smith_check` finds them. Which rule it is, no contract says.
+    /// The component is not well formed: the first rule that it breaks, and the number of the item that breaks it,
+    /// as `judged` of `smith_check` finds them. Which rule it is, no contract says. Items count from 0, in the order of
+    /// the bytes: each custom section, each core module, the beginning of each component in this one, and each entry of
+    /// a section that is a list.
     IllFormed(Fault),
     /// The component is well formed, but no input produces it within the limits. A limit that it does not keep is
     /// named; otherwise a name is too long, or a core module can't be generated. `offset` is where the component that
@@ -55,17 +57,6 @@ pub enum ScriptError {
     },
 }
 
-// A place as `section 2.0, entry 3`.
-fn write_place<W: fmt::Write>(f: &mut fmt::Formatter<W>, place: &Place) -> fmt::Result {
-    let mut before = "section ";
-    for index in &place.sections {
-        write!(f, "{before}{index}")?;
-        before = ".";
-    }
-    let entry = place.entry;
-    write!(f, ", entry {entry}")
-}
-
 impl fmt::Display for ScriptError {
     fn fmt<W: fmt::Write>(&self, f: &mut fmt::Formatter<W>) -> fmt::Result {
         match self {
@@ -75,9 +66,8 @@ impl fmt::Display for ScriptError {
             }
             ScriptError::Unread { reason, offset } => write!(f, "{reason} at offset {offset}"),
             ScriptError::IllFormed(fault) => {
-                let rule = fault.rule;
-                write!(f, "{rule} in ")?;
-                write_place(f, &fault.place)
+                let Fault { item, rule } = *fault;
+                write!(f, "{rule} in item {item}")
             }
             ScriptError::NoScript { limit, offset } => {
                 f.write_str("it cannot be generated")?;

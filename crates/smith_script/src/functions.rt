@@ -15,7 +15,7 @@ pub(crate) struct Functions {
 
 impl Model for Functions {
     ghost use Rattle.std.specs.Prelude.{ℕ, List};
-    ghost use Rattle.smith_script.specs.Functions.{AreAmong};
+    ghost use Rattle.smith_script.specs.Equals.{AreAmong};
 
     ghost Value = { List ℕ × List ℕ };
 

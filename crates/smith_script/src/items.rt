@@ -1,9 +1,7 @@
 //! Choices of items.
 
-ghost use Rattle.std.specs.Prelude.{◌≡◌, ◌+◌, List, length, IfOk, IfErr};
-ghost use Rattle.smith_input.specs.declared.error.Error.TheVariants.{OutOfMemory};
+ghost use Rattle.std.specs.Prelude.{◌≡◌, List, length};
 ghost use Rattle.smith_read.specs.PartNodes.{shown_part_node};
-ghost use Rattle.smith_scopes.specs.NodeScopes.{outer_marked_in};
 ghost use Rattle.smith_syntax.specs.Marked.{Marked};
 ghost use Rattle.smith_tree.specs.Script.{item_of};
 ghost use Rattle.smith_script_core.specs.Says.{Says};
@@ -12,9 +10,8 @@ ghost use Rattle.smith_script.specs.Preceding.{preceding};
 
 use crate::preceding::Open;
 use smith_read::PartNode;
-use smith_scopes::NodeScopes;
-use smith_script_types::{Error, Given, one_more, say_among};
-use smith_tree::{Item, item_choices};
+use smith_script_types::{Error, Given, say_among};
+use smith_tree::{Item, Turn, turn_items};
 
 /// The item of a part.
 pub(crate) fn item_of(part: &PartNode) -> Item
@@ -32,33 +29,6 @@ pub(crate) fn item_of(part: &PartNode) -> Item
     }
 }
 
-/// Where a turn is: that deep in components, and after that many sections of the innermost one.
-#[derive(Clone, Copy)]
-pub(crate) struct Turn {
-    pub(crate) depth: usize,
-    pub(crate) sections: usize,
-}
-
-impl Turn {
-    /// The first turn of a component in these scopes.
-    pub(crate) fn first(scopes: &NodeScopes<'_>) -> Turn
-        ensures depth { length (outer_marked_in scopes.now) ≡ result.depth }
-        ensures none { result.sections ≡ 0 }
-    {
-        let depth = scopes.nest.outer.len();
-        Turn { depth, sections: 0 }
-    }
-
-    /// The turn after one that adds a section.
-    pub(crate) fn next(self) -> Result<Turn, Error>
-        ensures next { IfOk result (λ t. (t.depth ≡ self.depth) × (t.sections ≡ self.sections + 1)) }
-        ensures memory { IfErr result (λ e. e ≡ OutOfMemory) }
-    {
-        let sections = one_more(self.sections)?;
-        Ok(Turn { sections, ..self })
-    }
-}
-
 /// The choice of an item.
 pub(crate) fn say_item(
     out: &mut Vec<u8>,
@@ -70,12 +40,5 @@ pub(crate) fn say_item(
     ensures { (own : Marked) (outer : List Marked) → length outer ≡ turn.depth → Says result out.old out.new
         (item_says given.entry.config.now outer turn.sections (preceding own here.now) item) }
 {
-    let config = given.config;
-    let finish = turn.sections >= config.finish_after;
-    let modules = here.totals.modules < config.max_modules;
-    let components = turn.depth < config.max_nesting_depth.saturating_sub(1)
-        && here.totals.components < config.max_components;
-    let exports = config.max_exports > 0;
-    let items = item_choices(finish, modules, components, exports);
-    say_among(out, items, &item)
+    say_among(out, turn_items(given.config, turn, here.totals), &item)
 }

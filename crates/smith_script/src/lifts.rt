@@ -7,7 +7,7 @@ ghost use Rattle.smith_read.specs.TypeNodes.{shown_type_node};
 ghost use Rattle.smith_tree.specs.TypeScript.{script_lifted, script_params, script_result, script_scalar};
 ghost use Rattle.smith_tree.specs.CanonScript.{script_lift};
 ghost use Rattle.smith_script_core.specs.Says.{Says};
-ghost use Rattle.smith_script.specs.Lifted.{flat_like};
+ghost use Rattle.smith_script.specs.Saying.{flat_like};
 ghost use Rattle.smith_script.specs.Preceding.{spaces_in, preceding};
 
 use crate::preceding::Open;

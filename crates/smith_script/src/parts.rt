@@ -16,13 +16,13 @@ ghost use Rattle.smith_script.specs.Saying.{section_says};
 ghost use Rattle.smith_script.specs.Preceding.{IsAfter, after_module, after_section, empty_in, opened, preceding};
 ghost use Rattle.smith_script.specs.Preceding.{totals_in};
 
-use crate::items::{Turn, item_of, say_item};
+use crate::items::{item_of, say_item};
 use crate::preceding::Open;
-use crate::rows::say_rows;
+use crate::rows::{Rows, say_rows};
 use smith_read::{ComponentTree, PartNode};
 use smith_scopes::NodeScopes;
 use smith_script_types::{Error, Given, one_more, say_contents, say_stand_in, say_text};
-use smith_tree::{Item, RefTotals};
+use smith_tree::{Item, RefTotals, Turn};
 
 // The totals when a component is opened.
 fn opened(totals: RefTotals) -> Result<RefTotals, Error>
@@ -80,27 +80,32 @@ fn say_section<'a>(
         PartNode::Custom(section) => say_custom(out, &section.name, &section.bytes),
         PartNode::CoreModule(text) => say_module(given, out, here, text),
         PartNode::CoreTypes(types) => {
-            let most = config
+            let max = config
                 .max_types
                 .saturating_sub(scopes.nest.own.core_types_len());
-            say_rows(given, out, scopes, here, most, types)
+            let section = Rows { max, rows: types };
+            say_rows(given, out, scopes, here, section)
         }
         PartNode::Component(_) => Ok(()),
         PartNode::Types(types) => {
-            let most = config.max_types.saturating_sub(scopes.nest.own.types_len());
-            say_rows(given, out, scopes, here, most, types)
+            let max = config.max_types.saturating_sub(scopes.nest.own.types_len());
+            let section = Rows { max, rows: types };
+            say_rows(given, out, scopes, here, section)
         }
         PartNode::Canons(canons) => {
-            let most = config.max_funcs.saturating_sub(here.totals.funcs);
-            say_rows(given, out, scopes, here, most, canons)
+            let max = config.max_funcs.saturating_sub(here.totals.funcs);
+            let section = Rows { max, rows: canons };
+            say_rows(given, out, scopes, here, section)
         }
         PartNode::Imports(imports) => {
-            let most = config.max_imports.saturating_sub(here.imports);
-            say_rows(given, out, scopes, here, most, imports)
+            let max = config.max_imports.saturating_sub(here.imports);
+            let section = Rows { max, rows: imports };
+            say_rows(given, out, scopes, here, section)
         }
         PartNode::Exports(exports) => {
-            let most = config.max_exports.saturating_sub(here.exports);
-            say_rows(given, out, scopes, here, most, exports)
+            let max = config.max_exports.saturating_sub(here.exports);
+            let section = Rows { max, rows: exports };
+            say_rows(given, out, scopes, here, section)
         }
     }
 }
@@ -172,11 +177,14 @@ fn say_parts<'a>(
     ensures outer { OnOk result (outer_marked_in scopes.new ≡ outer_marked_in scopes.old) }
 {
     let mut here = Open::new(given.alloc, totals);
-    let mut turn = Turn::first(scopes);
+    let mut turn = Turn {
+        depth: scopes.nest.outer.len(),
+        sections: 0,
+    };
     for part in parts {
         say_item(out, given, turn, &here, item_of(part))?;
         say_part(given, out, scopes, &mut here, part)?;
-        turn = turn.next()?;
+        turn.sections = one_more(turn.sections)?;
     }
     say_item(out, given, turn, &here, Item::Finish)?;
     Ok(here.totals)

@@ -53,30 +53,36 @@ pub(crate) trait Row {
         ensures outer { OnOk result (outer_marked_in scopes.new ≡ outer_marked_in scopes.old) };
 }
 
-/// A section with these entries, of which there are at most that many.
+/// The entries of a section, and how many there may be at most.
+#[derive(Clone, Copy)]
+pub(crate) struct Rows<'a, T> {
+    pub(crate) max: usize,
+    pub(crate) rows: &'a [T],
+}
+
+/// A section with these entries.
 pub(crate) fn say_rows<'a, T: Row>(
     given: Given<'_>,
     out: &mut Vec<u8>,
     scopes: &mut NodeScopes<'a>,
     here: &mut Open<'a>,
-    max: usize,
-    rows: &'a [T],
+    section: Rows<'a, T>,
 ) -> Result<(), Error>
     ensures said { Says result out.old out.new (rows_say
-        (T.says given.entry.config.now (outer_marked_in scopes.old)) (T.after (outer_marked_in scopes.old)) max
-        (preceding (own_marked_in scopes.old) here.old) (map T.shown rows.now)) }
+        (T.says given.entry.config.now (outer_marked_in scopes.old)) (T.after (outer_marked_in scopes.old))
+        section.entry.max (preceding (own_marked_in scopes.old) here.old) (map T.shown section.entry.rows.now)) }
     ensures added { OnOk result (preceding (own_marked_in scopes.new) here.new
         ≡ fold (T.after (outer_marked_in scopes.old)) (preceding (own_marked_in scopes.old) here.old)
-        (map T.shown rows.now)) }
+        (map T.shown section.entry.rows.now)) }
     ensures outer { OnOk result (outer_marked_in scopes.new ≡ outer_marked_in scopes.old) }
 {
     let mut done = 0;
-    for row in rows {
+    for row in section.rows {
         say_more(out, 0, done)?;
         row.say(given, out, scopes, here)?;
         done += 1;
     }
-    say_end(out, done, max)
+    say_end(out, done, section.max)
 }
 
 impl Row for CoreNode {

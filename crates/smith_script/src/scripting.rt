@@ -9,7 +9,7 @@ ghost use Rattle.smith_tree.specs.Tree.{Tree};
 ghost use Rattle.smith_tree.specs.WellFormed.{WellFormed};
 ghost use Rattle.smith_read.specs.PartNodes.{shown_tree};
 ghost use Rattle.smith_script.specs.IsScript.{CannotBeGenerated, IsGiven, IsScript, IsScriptIfAny};
-ghost use Rattle.smith_script.specs.Drafts.{IsDraft};
+ghost use Rattle.smith_script.specs.IsScript.{IsDraft};
 ghost use Rattle.smith_script.specs.Refusals.{AreReadAs, DiffersWithin, IsScriptRefusal};
 ghost use Rattle.smith_script.specs.declared.error.ScriptError.TheVariants.{InconsistentLimits, OutOfMemory};
 ghost use Rattle.smith_script.specs.declared.scripting.Trial.TheVariants as trial;

@@ -1,5 +1,4 @@
 pub mod Picking
 pub mod ReadableTexts
 pub mod Saying
-pub mod StandIns
 pub mod Turns

@@ -6,7 +6,7 @@ ghost use Rattle.smith_core.specs.StandInScript.{all_memories, counted_functions
 ghost use Rattle.smith_core.specs.StandInScript.{memories_of, memory_of, past_number, script_stand_in, stand_in_of};
 ghost use Rattle.smith_core.specs.StandInScript.{types_from, value_of, values_of};
 ghost use Rattle.smith_script_core.specs.Says.{Says};
-ghost use Rattle.smith_script_core.specs.StandIns.{script_functions, script_memories};
+ghost use Rattle.smith_script_core.specs.Fronts.{script_functions, script_memories};
 ghost use Rattle.smith_input.specs.declared.error.Error.TheVariants.{OutOfMemory};
 
 use crate::choices::{say_end, say_more};

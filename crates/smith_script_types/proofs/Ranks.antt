@@ -10,6 +10,12 @@ use Rattle.std.specs.Result.{result_unwrap_or}
 use Rattle.smith_input.specs.Script.{pick, rank_of, script_among}
 use Rattle.smith_syntax.specs.Places.{places}
 use Rattle.smith_core_types.proofs.MakingCore.{length-indexes}
+use Rattle.std.proofs.Common.{map, Option, None, Some}
+use Rattle.smith_scopes.specs.Kept.{AreOffered, is_offered, offered_places}
+use Rattle.smith_scopes.specs.declared.offers.Offer.{Offer}
+use Rattle.smith_scopes.specs.declared.offers.Offer.TheVariants as offer
+use Rattle.smith_scopes.proofs.Offered.{unmarked_places}
+use Rattle.smith_syntax.specs.Marked.{Marked}
 
 -- the rank of what is at an index and not before it, or is nowhere
 rank_is : (xs : List ℕ) (x i : ℕ) → i ≤ length xs → (i < length xs → get_or xs i 0 ≡ x) → ((k : ℕ) → k < i → get_or xs k 0 ≢ x) → rank_of nat_eq xs x ≡ i
@@ -92,3 +98,15 @@ index_among xs i =
     let e : i ≡ 0 + i = omega arith in
     ap (λ n. pick n (rank_of nat_eq (places (λ x. true) 0 xs) i)) (length-indexes 0 xs)
     ∙ ap (pick (length xs)) (ap (rank_of nat_eq (places (λ x. true) 0 xs)) e ∙ rank_all 0 i xs)
+
+-- Types that may be used for something, if no marks are kept.
+
+all_of : (o : Offer) (s : Marked) → AreOffered o s None → offered_places o s ≡ places (λ t. true) 0 s.types
+all_of o s a =
+    ap (λ o. offered_places o s) a.0
+    ∙ (ap (λ ms. offered_places offer.Equal (record s { marks = ms })) a.1
+    ∙ unmarked_places (is_offered offer.Equal) (λ t. true) (λ t. refl) 0 s.types)
+
+pub among_all : (o : Offer) (s : Marked) (i : ℕ) → AreOffered o s None
+    → script_among nat_eq (offered_places o s) i ≡ pick (length s.types) (min i (length s.types))
+among_all o s i a = ap (λ ks. script_among nat_eq ks i) (all_of o s a) ∙ index_among s.types i

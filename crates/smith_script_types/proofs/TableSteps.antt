@@ -14,6 +14,8 @@ use Rattle.smith_read.specs.Nodes.{shown_module_node}
 use Rattle.smith_read.specs.declared.core_types.ModuleNode.{ModuleNode}
 use Rattle.smith_script_types.specs.Tables.{Keeps, functions_in}
 use Rattle.smith_script_types.specs.declared.tables.Tables.{Tables}
+use Rattle.smith_read.proofs.ShownNodes.{shown_nodes}
+use Rattle.smith_script_core.proofs.Saying.{saying}
 
 -- the nodes of a list up to one, and it
 pub shown_more : (xs : List ModuleNode) (i : ℕ) (x : ModuleNode) → i < length xs → x ≡ get_or xs i x
@@ -40,3 +42,7 @@ front_kept {t} ds d fs e =
 -- the same tables, of what is equal
 pub kept_at : {t : Tables} {own : List Function} {ds es : List ModuleDecl} → Keeps t own ds → es ≡ ds → Keeps t (functions_in t.own.items) es
 kept_at {t} {own} {ds} {es} h e = subst (λ (fs : List Function). Keeps t fs es) (sym h.own) (subst (Keeps t own) (sym e) h)
+
+-- What proves the steps of writers of scripts over the types that are read.
+
+pub ruleset nodes = (saying, shown_nodes)

@@ -1,4 +1,3 @@
 pub mod Declaring
-pub mod Modules
 pub mod Places
 pub mod Tables

@@ -1,23 +1,19 @@
 //! What a declaration says before what it declares, and outer aliases.
 
-ghost use Rattle.std.specs.Prelude.{◌≡◌, ◌∷◌, ◌++◌, ◌+◌, [], ℕ, length, nat_eq, nat_lt, if◌then◌else◌};
-ghost use Rattle.std.specs.Prelude.{IfOk, IfErr, OnOk};
-ghost use Rattle.std.specs.List.Sorted.{IsStrictlyIncreasing};
+ghost use Rattle.std.specs.Prelude.{◌≡◌, ◌∷◌, ◌+◌, ℕ, length, nat_eq};
 ghost use Rattle.smith_input.specs.Script.{script_among};
-ghost use Rattle.smith_scopes.specs.NodeScopes.{outer_marked_in, own_marked_in, shown_marked};
-ghost use Rattle.smith_tree.specs.TypeOffers.{aliases_of, is_occupied, occupied};
+ghost use Rattle.smith_scopes.specs.NodeScopes.{shown_marked};
+ghost use Rattle.smith_tree.specs.TypeOffers.{aliases_of, occupied};
 ghost use Rattle.smith_tree.specs.TypeScript.{script_alias, script_declaration_item, script_declares, script_no_import};
 ghost use Rattle.smith_script_core.specs.Says.{Says};
-ghost use Rattle.smith_input.specs.declared.error.Error.TheVariants.{OutOfMemory};
 ghost use Rattle.smith_script_types.specs.Places.{outer_at, own_at};
 
 use crate::declaring::Declaring;
 use crate::place::Place;
 use crate::positions::say_position;
-use smith_scopes::{NodeScope, NodeScopes};
+use smith_scopes::{NodeScope, occupied, offered_declarations};
 use smith_script_core::{Error, say_choice, say_offered};
-use smith_tree::{DeclarationItem, declaration_offers};
-use std::alloc::Global;
+use smith_tree::DeclarationItem;
 
 // That no import is declared, when one might be.
 fn say_no_import(out: &mut Vec<u8>, place: Place<'_, '_>, importing: bool) -> Result<(), Error>
@@ -29,70 +25,12 @@ fn say_no_import(out: &mut Vec<u8>, place: Place<'_, '_>, importing: bool) -> Re
     Ok(())
 }
 
-fn is_occupied(scope: &NodeScope<'_>) -> bool
-    ensures { result ≡ is_occupied (shown_marked scope.now) }
-{
-    scope.types_len() > 0 || scope.core_types_len() > 0
-}
-
-// Adds the count of a scope if it has an entry.
-fn push_occupied(counts: &mut Vec<usize>, count: usize, scope: &NodeScope<'_>) -> Result<(), Error>
-    ensures added { OnOk result (counts.new.items
-        ≡ counts.old.items ++ (if is_occupied (shown_marked scope.now) then count ∷ [] else [])) }
-    ensures memory { IfErr result (λ e. e ≡ OutOfMemory) }
-{
-    if is_occupied(scope) {
-        counts.push(count)?;
-    }
-    Ok(())
-}
-
-// The counts of the scopes that have an entry.
-fn occupied(alloc: Global, scopes: &NodeScopes<'_>) -> Result<Vec<usize>, Error>
-    ensures list { IfOk result (λ v. v.items ≡ occupied (own_marked_in scopes.now ∷ outer_marked_in scopes.now)) }
-    ensures ascending { IfOk result (λ v. IsStrictlyIncreasing v.items) }
-    ensures memory { IfErr result (λ e. e ≡ OutOfMemory) }
-{
-    let mut counts = Vec::new(alloc);
-    push_occupied(&mut counts, 0, &scopes.nest.own)?;
-    let depth = scopes.nest.outer.len();
-    for place in 0..depth {
-        push_occupied(
-            &mut counts,
-            place + 1,
-            &scopes.nest.outer[depth - 1 - place],
-        )?;
-    }
-    Ok(counts)
-}
-
-// Does one of the scopes have an entry? The others are looked at only if the innermost has none.
-fn has_entry(place: Place<'_, '_>) -> Result<bool, Error>
-    ensures has { IfOk result (λ b. b ≡ nat_lt 0 (length (occupied (own_at place.entry ∷ outer_at place.entry)))) }
-    ensures memory { IfErr result (λ e. e ≡ OutOfMemory) }
-{
-    if is_occupied(&place.scopes.nest.own) {
-        return Ok(true);
-    }
-    let counts = occupied(place.alloc, place.scopes)?;
-    Ok(!counts.is_empty())
-}
-
-// May one more scope nest?
-fn may_nest(place: Place<'_, '_>) -> bool
-    ensures { result ≡ nat_lt (length (own_at place.entry ∷ outer_at place.entry))
-        place.entry.config.now.max_nesting_depth }
-{
-    place.scopes.nest.outer.len() < place.config.max_nesting_depth.saturating_sub(1)
-}
-
 // What is declared.
 fn say_item(out: &mut Vec<u8>, place: Place<'_, '_>, item: DeclarationItem) -> Result<(), Error>
     ensures { Says result out.old out.new
         (script_declaration_item place.entry.config.now (outer_at place.entry) (own_at place.entry) item) }
 {
-    let with_export = place.scopes.nest.own.has_export();
-    let offers = declaration_offers(with_export, has_entry(place)?, may_nest(place));
+    let offers = offered_declarations(place.scopes, place.config);
     say_offered(place.alloc, out, &offers, item)
 }
 

@@ -25,7 +25,7 @@ impl<'a> Declared<'a> {
     ghost use Rattle.smith_tree.specs.CoreTypeOffers.{allows_function, allows_type, undeclared, with_decl, with_front};
     ghost use Rattle.smith_scopes.specs.NodeScopes.{own_in};
     ghost use Rattle.smith_input.specs.declared.error.Error.TheVariants.{OutOfMemory};
-    ghost use Rattle.smith_script_types.specs.Modules.{so_far};
+    ghost use Rattle.smith_script_types.specs.Places.{so_far};
     ghost use Rattle.smith_script_types.specs.Tables.{function_in};
 
     /// What the canonical ABI asks in front: none of these declarations is an outer alias.

@@ -19,7 +19,7 @@ pub(crate) struct Declaring {
 }
 
 // How many imports a declaration is.
-#[tactic(auto, using(crate::proofs::Nodes::nodes))]
+#[tactic(auto, using(crate::proofs::TableSteps::nodes))]
 fn import_count(decl: &DeclNode) -> usize
     ensures count { result ≡ length (import_of (shown_decl_node decl.now)) }
     ensures few { result ≤ 1 }
@@ -35,7 +35,7 @@ fn import_count(decl: &DeclNode) -> usize
 }
 
 // How many exports a declaration is.
-#[tactic(auto, using(crate::proofs::Nodes::nodes))]
+#[tactic(auto, using(crate::proofs::TableSteps::nodes))]
 fn export_count(decl: &DeclNode) -> usize
     ensures count { result ≡ length (export_of (shown_decl_node decl.now)) }
     ensures few { result ≤ 1 }

@@ -8,7 +8,7 @@ ghost use Rattle.smith_format.specs.contracts.types.ExportKindPartialEq.TheImpl.
 ghost use Rattle.smith_tree.specs.ModuleScript.{script_bit, script_element, script_entity, script_entity_of};
 ghost use Rattle.smith_tree.specs.CoreTypeOffers.{entity_kinds};
 ghost use Rattle.smith_script_core.specs.Says.{Says};
-ghost use Rattle.smith_script_types.specs.Modules.{so_far};
+ghost use Rattle.smith_script_types.specs.Places.{so_far};
 
 use crate::declared::Declared;
 use crate::place::Place;

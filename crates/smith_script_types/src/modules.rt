@@ -5,7 +5,7 @@ ghost use Rattle.smith_read.specs.Nodes.{shown_module_node};
 ghost use Rattle.smith_tree.specs.ModuleScript.{alias_place, script_decl, script_item, script_module};
 ghost use Rattle.smith_tree.specs.CoreTypeOffers.{alias_choices};
 ghost use Rattle.smith_script_core.specs.Says.{Says};
-ghost use Rattle.smith_script_types.specs.Modules.{so_far};
+ghost use Rattle.smith_script_types.specs.Places.{so_far};
 ghost use Rattle.smith_script_types.specs.Places.{plain_at};
 
 use crate::declared::Declared;

@@ -69,7 +69,7 @@ pub struct Typed {
 
 /// A type with that much fuel, how much it leaves of it, and its mark, if marks are kept.
 #[cycle(types)]
-#[tactic(auto, using(crate::proofs::Nodes::nodes))]
+#[tactic(auto, using(crate::proofs::TableSteps::nodes))]
 pub fn say_type<'a>(
     out: &mut Vec<u8>,
     given: Given<'_>,
@@ -117,7 +117,7 @@ pub fn say_type<'a>(
 
 // A declaration, which is added to the scope, and how much fuel it leaves.
 #[cycle(types)]
-#[tactic(auto, using(crate::proofs::Nodes::nodes))]
+#[tactic(auto, using(crate::proofs::TableSteps::nodes))]
 fn say_decl<'a>(
     out: &mut Vec<u8>,
     given: Given<'_>,
@@ -174,7 +174,7 @@ fn say_decl<'a>(
 // What a type declares, in a scope of its own, how much fuel it leaves, and the mark of the type: what a component type
 // exports does not matter.
 #[cycle(types)]
-#[tactic(auto, using(crate::proofs::Nodes::nodes))]
+#[tactic(auto, using(crate::proofs::TableSteps::nodes))]
 fn say_decls<'a>(
     out: &mut Vec<u8>,
     given: Given<'_>,

@@ -1,20 +1,18 @@
 //! What things are called in a tally.
 
 use smith_core::{EntityType, RefType, ValType};
-use smith_read::{Func, PartNode, TypeNode};
+use smith_read::{Contents, Func, TypeNode};
 use smith_syntax::{ComponentTypeRef, ComponentValType, DefinedType, PrimitiveValType};
 
-/// A section of a component.
-pub(crate) fn part_label(part: &PartNode) -> &'static str {
-    match part {
-        PartNode::Custom(_) => "custom section",
-        PartNode::CoreModule(_) => "core module",
-        PartNode::CoreTypes(_) => "section of core types",
-        PartNode::Component(_) => "component",
-        PartNode::Types(_) => "section of types",
-        PartNode::Canons(_) => "section of canonical functions",
-        PartNode::Imports(_) => "section of imports",
-        PartNode::Exports(_) => "section of exports",
+/// A component, or a section that is a list.
+pub(crate) fn contents_label(contents: Contents<'_>) -> &'static str {
+    match contents {
+        Contents::Parts(_) => "component",
+        Contents::CoreTypes(_) => "section of core types",
+        Contents::Types(_) => "section of types",
+        Contents::Canons(_) => "section of canonical functions",
+        Contents::Imports(_) => "section of imports",
+        Contents::Exports(_) => "section of exports",
     }
 }
 

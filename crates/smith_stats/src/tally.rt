@@ -1,6 +1,6 @@
 //! The counts.
 
-use smith_read::{ComponentTree, MOST_DEPTH};
+use smith_read::{ComponentTree, Steps};
 use std::alloc::{AllocError, Global};
 use std::collections::BTreeMap;
 use std::fmt;
@@ -15,6 +15,7 @@ struct Shape {
 /// How much there is in the components of files.
 #[derive(Drop)]
 pub struct Tally {
+    alloc: Global,
     files: usize,
     unread: usize,
     bytes: usize,
@@ -33,6 +34,7 @@ impl Tally {
     /// Nothing so far.
     pub fn new(alloc: Global) -> Tally {
         Tally {
+            alloc,
             files: 0,
             unread: 0,
             bytes: 0,
@@ -53,7 +55,7 @@ impl Tally {
     pub fn add(&mut self, bytes: usize, component: &ComponentTree) -> Result<(), AllocError> {
         increase(&mut self.files, 1);
         increase(&mut self.bytes, bytes);
-        self.add_parts(&component.parts, MOST_DEPTH)
+        self.add_steps(Steps::new(self.alloc, component)?)
     }
 
     /// Adds that many things of that sort.

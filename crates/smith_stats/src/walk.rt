@@ -1,50 +1,13 @@
 //! A walk over a component's nodes, which adds each to a tally.
 
 use crate::labels::{
-    canon_label, core_val_label, entity_label, part_label, ref_label, type_label, val_label,
+    canon_label, contents_label, core_val_label, entity_label, ref_label, type_label, val_label,
 };
 use crate::tally::{Tally, increase};
 use smith_core::{FuncType as CoreFuncType, ValType};
-use smith_read::{
-    CoreNode, DeclNode, Export, Func, ImportNode, MOST_DEPTH, ModuleNode, PartNode, TypeNode,
-};
+use smith_read::{Contents, CoreNode, DeclNode, MOST_DEPTH, ModuleNode, Step, Steps, TypeNode};
 use smith_syntax::{ComponentValType, DefinedType, FuncType};
 use std::alloc::AllocError;
-
-/// An entry of a section that is a list.
-trait Entry {
-    fn add_to(&self, tally: &mut Tally) -> Result<(), AllocError>;
-}
-
-impl Entry for CoreNode {
-    fn add_to(&self, tally: &mut Tally) -> Result<(), AllocError> {
-        tally.add_core_type("sections of core types", self)
-    }
-}
-
-impl Entry for TypeNode {
-    fn add_to(&self, tally: &mut Tally) -> Result<(), AllocError> {
-        tally.add_type("sections of types", self, MOST_DEPTH)
-    }
-}
-
-impl Entry for Func {
-    fn add_to(&self, tally: &mut Tally) -> Result<(), AllocError> {
-        tally.add_one("sections of canonical functions", canon_label(self))
-    }
-}
-
-impl Entry for ImportNode {
-    fn add_to(&self, tally: &mut Tally) -> Result<(), AllocError> {
-        tally.add_one("sections of imports", ref_label(self.to))
-    }
-}
-
-impl Entry for Export {
-    fn add_to(&self, tally: &mut Tally) -> Result<(), AllocError> {
-        tally.add_one("sections of exports", "function")
-    }
-}
 
 // Where the imports and the exports of a type are.
 #[derive(Clone, Copy)]
@@ -74,38 +37,61 @@ const OF_MODULE_TYPE: Places = Places {
 
 // The nodes that sections are made of. None that was read is deeper than `MOST_DEPTH`.
 impl Tally {
-    /// The sections of a component, at most that deep.
-    pub(crate) fn add_parts(&mut self, parts: &[PartNode], depth: u32) -> Result<(), AllocError> {
+    /// All steps of a component.
+    pub(crate) fn add_steps(&mut self, mut steps: Steps<'_>) -> Result<(), AllocError> {
+        let mut level = 0;
+        self.add_level(&mut level);
+        while let Some(step) = steps.next()? {
+            self.add_step(step, &mut level)?;
+        }
+        Ok(())
+    }
+
+    // A component that is inside that many others.
+    fn add_level(&mut self, level: &mut usize) {
+        increase(level, 1);
         increase(&mut self.components, 1);
-        let level = MOST_DEPTH.saturating_sub(depth) as usize + 1;
-        self.depth = self.depth.max(level);
-        for part in parts {
-            self.add_one("components", part_label(part))?;
-            match part {
-                PartNode::Component(inner) if depth > 0 => self.add_parts(inner, depth - 1)?,
-                _ => self.add_section(part)?,
+        self.depth = self.depth.max(*level);
+    }
+
+    fn add_step(&mut self, step: Step<'_>, level: &mut usize) -> Result<(), AllocError> {
+        match step {
+            Step::Begin(contents) => {
+                self.add_one("components", contents_label(contents))?;
+                if let Contents::Parts(_) = contents {
+                    self.add_level(level);
+                }
+                Ok(())
             }
+            Step::End(contents) => {
+                if let Contents::Parts(_) = contents {
+                    *level = level.saturating_sub(1);
+                }
+                Ok(())
+            }
+            Step::Custom(_) => self.add_one("components", "custom section"),
+            Step::CoreModule(_) => self.add_one("components", "core module"),
+            Step::CoreType(ty) => {
+                increase(&mut self.entries, 1);
+                self.add_core_type("sections of core types", ty)
+            }
+            Step::Type(ty) => {
+                increase(&mut self.entries, 1);
+                self.add_type("sections of types", ty, MOST_DEPTH)
+            }
+            Step::Canon(canon) => self.add_entry(
+                "sections of canonical functions",
+                canon_label(canon),
+            ),
+            Step::Import(import) => self.add_entry("sections of imports", ref_label(import.to)),
+            Step::Export(_) => self.add_entry("sections of exports", "function"),
         }
-        Ok(())
     }
 
-    fn add_section(&mut self, part: &PartNode) -> Result<(), AllocError> {
-        match part {
-            PartNode::CoreTypes(types) => self.add_entries(types),
-            PartNode::Types(types) => self.add_entries(types),
-            PartNode::Canons(canons) => self.add_entries(canons),
-            PartNode::Imports(imports) => self.add_entries(imports),
-            PartNode::Exports(exports) => self.add_entries(exports),
-            PartNode::Custom(_) | PartNode::CoreModule(_) | PartNode::Component(_) => Ok(()),
-        }
-    }
-
-    fn add_entries<T: Entry>(&mut self, entries: &[T]) -> Result<(), AllocError> {
-        increase(&mut self.entries, entries.len());
-        for entry in entries {
-            entry.add_to(self)?;
-        }
-        Ok(())
+    // An entry of a section that is one thing of that sort.
+    fn add_entry(&mut self, within: &'static str, sort: &'static str) -> Result<(), AllocError> {
+        increase(&mut self.entries, 1);
+        self.add_one(within, sort)
     }
 
     #[cycle(adding)]

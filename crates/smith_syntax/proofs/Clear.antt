@@ -1,5 +1,5 @@
 -- No bytes begin with two types of values or of functions, and none with two core types.
-use Rattle.std.proofs.Common.{◌≡◌, ℕ, ◌<◌, ◌≤◌, inl, inr, List, [], ◌∷◌, refl, ap, arith, Some, None, Option, lit≤, lit<}
+use Rattle.std.proofs.Common.{◌≡◌, ℕ, ◌<◌, ◌≤◌, List, [], ◌∷◌, refl, ap, arith, Some, None, Option, lit≤, lit<}
 use Rattle.smith_format.specs.Clear.{Agree, IsClear}
 use Rattle.smith_format.specs.CoreTypes.{core_val, core_function}
 use Rattle.smith_format.specs.Entities.{entity}
@@ -56,11 +56,7 @@ clear_primitive = clear_byte primvaltype primitive_same
 
 -- a primitive's byte begins no index
 differs : (a : PrimitiveValType) (i : ℕ) (p q : Piece) (b : List ℕ) → byte (primvaltype a) ⊕ p ≡ Some b → s_index i ⊕ q ≡ Some b → ⊥
-differs a i p q b e h =
-    let x = head (primvaltype a) [] p b e in
-    let y = s_index_head i q b h in
-    let c : primvaltype a ≡ y.0 = clash _ _ b x (y.1, y.2) in
-    let r = primitive_range a in elim y.3 [ inl l ↦ omega (arith, r.0) | inr l ↦ omega (arith, r.1) ]
+differs a i p q b e h = grind (arith, head, s_index_head, clash, primitive_range)
 
 val_law : (x y : ComponentValType) (p q : Piece) (b : List ℕ) → valtype x ⊕ p ≡ Some b → valtype y ⊕ q ≡ Some b → Agree x y p q
 val_law (Primitive a) (Primitive c) p q b e h = let r = clear_primitive.law a c p q b e h in record { same = ap Primitive r.same; rests = r.rests }
@@ -132,14 +128,7 @@ tag (result_type ok err) = 0x6a
 
 pub tag_range : (x : DefValType) → 0x6a ≤ tag x
 tag_range (primitive_type a) = let r = (primitive_range a).0 in omega arith
-tag_range (record_type fs) = lit≤ tt
-tag_range (variant_type cs) = lit≤ tt
-tag_range (list_type v) = lit≤ tt
-tag_range (tuple_type vs) = lit≤ tt
-tag_range (flags_type ns) = lit≤ tt
-tag_range (enum_type ns) = lit≤ tt
-tag_range (option_type v) = lit≤ tt
-tag_range (result_type ok err) = lit≤ tt
+tag_range _ = lit≤ tt
 
 pub tagged : (x : DefValType) (p : Piece) (b : List ℕ) → defvaltype x ⊕ p ≡ Some b → (t : List ℕ) × (b ≡ tag x ∷ t)
 tagged (primitive_type a) p b e = head (primvaltype a) [] p b e

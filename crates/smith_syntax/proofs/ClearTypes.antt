@@ -32,9 +32,7 @@ ref_tagged (to.Instance i) p b e = then_head 0x05 [] (u i) p b e
 -- an index after bytes that say what it is of
 index_law : (first : List ℕ) (of : ℕ → ComponentTypeRef) (i j : ℕ) (p q : Piece) (b : List ℕ) → (bytes first ⊕ u i) ⊕ p ≡ Some b
     → (bytes first ⊕ u j) ⊕ q ≡ Some b → Agree (of i) (of j) p q
-index_law first of i j p q b e h =
-    let t = then_tail first (u i) (u j) p q b e h in
-    let r = clear_u.law i j p q t.rest t.first t.second in record { same = ap of r.same; rests = r.rests }
+index_law first of i j p q b e h = grind (arith, then_tail, clear_u)
 
 ref_law : (x y : ComponentTypeRef) (p q : Piece) (b : List ℕ) → externdesc x ⊕ p ≡ Some b → externdesc y ⊕ q ≡ Some b → Agree x y p q
 ref_law (to.Module i) (to.Module j) p q b e h = index_law (0x00 ∷ 0x11 ∷ []) to.Module i j p q b e h

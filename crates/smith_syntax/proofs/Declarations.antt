@@ -1,5 +1,5 @@
 -- How types of components and instances are spelled, and what they declare, over the program's lists.
-use Rattle.std.proofs.Common.{◌≡◌, ℕ, ◌+◌, ◌<◌, ◌^◌, arith, Bool, true, false, List, [], ◌∷◌, length, map, Option, Some, SomeIff, refl, ap, ◌∙◌}
+use Rattle.std.proofs.Common.{◌≡◌, ℕ, ◌+◌, ◌<◌, ◌^◌, arith, Bool, true, false, List, [], ◌∷◌, length, Option, Some, SomeIff, refl, ap, ◌∙◌}
 use Rattle.std.specs.declared.rc.Rc.{Rc}
 use Rattle.std.specs.declared.alloc.Global.{Global}
 use Rattle.smith_format.specs.Piece.{Piece, ◌⊕◌, byte, bytes, u, each, many}
@@ -16,7 +16,7 @@ use Rattle.smith_syntax.specs.declared.deftype.OuterAliasKind.TheVariants as kin
 use Rattle.smith_syntax.specs.Entries.{DeclOf, DeclsOf, in_order, no_decls, then_decls, decl_count, plain_decl, plain_decls}
 use Rattle.smith_syntax.specs.Grammar.{decl, decls, entry}
 use Rattle.smith_syntax.specs.Shown.{shown_type}
-use Rattle.smith_syntax.specs.ShownDecls.{full_component_decl, full_instance_decl, shown_alias, shown_component_decl, shown_instance_decl}
+use Rattle.smith_syntax.specs.ShownDecls.{shown_alias, shown_component_decl, shown_instance_decl}
 use Rattle.smith_syntax.proofs.Shown.{alias_of_core_type, alias_of_type, shown_component_is, shown_instance_is}
 
 -- Declarations in order are written as a list of them, if `all` writes one after another by `one`.
@@ -47,17 +47,11 @@ module _ {N K : Type 0} (b : Bool) where
 
 pub entry_component : (t : ComponentType) → entry (shown_type (ty.Component t)) ≡ byte 0x41 ⊕ many (λ d. decl true (shown_component_decl d))
     t.defs.items
-entry_component t =
-    ap entry (shown_component_is t)
-    ∙ ap (λ p. byte 0x41 ⊕ p) (many_plain true (map full_component_decl t.defs.items)
-    ∙ many-map (λ d. decl true (plain_decl d)) full_component_decl t.defs.items)
+entry_component t = grind (arith, shown_component_is, many_plain, many-map)
 
 pub entry_instance : (t : InstanceType) → entry (shown_type (ty.Instance t)) ≡ byte 0x42 ⊕ many (λ d. decl false (shown_instance_decl d))
     t.defs.items
-entry_instance t =
-    ap entry (shown_instance_is t)
-    ∙ ap (λ p. byte 0x42 ⊕ p) (many_plain false (map full_instance_decl t.defs.items)
-    ∙ many-map (λ d. decl false (plain_decl d)) full_instance_decl t.defs.items)
+entry_instance t = grind (arith, shown_instance_is, many_plain, many-map)
 
 -- outer aliases
 

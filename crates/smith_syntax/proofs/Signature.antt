@@ -1,5 +1,5 @@
 -- Signatures: the fields of the program's function types, what distinguishes them, and how they are spelled.
-use Rattle.std.proofs.Common.{◌≡◌, true, List, [], ◌∷◌, ◌++◌, map, Option, refl, sym, ap, ◌∙◌}
+use Rattle.std.proofs.Common.{arith, ◌≡◌, true, List, [], ◌∷◌, ◌++◌, map, Option, refl, sym, ap, ◌∙◌}
 use Rattle.std.proofs.lemmas.List.{length-map}
 use Rattle.std.proofs.lemmas.Bool.{false≢true}
 use Rattle.std.specs.Cmp.Lexicographic.{pointwise}
@@ -11,7 +11,7 @@ use Rattle.std.specs.declared.string.String.{String}
 use Rattle.smith_format.specs.Piece.{◌⊕◌, byte, many}
 use Rattle.smith_format.proofs.Piece.{assoc}
 use Rattle.smith_format.proofs.Many.{many-map}
-use Rattle.smith_syntax.specs.Entries.{Signature, EntryOf, defined, function, component_type, instance_type, plain}
+use Rattle.smith_syntax.specs.Entries.{Signature, EntryOf, function, plain}
 use Rattle.smith_syntax.specs.Grammar.{labelvaltype, resultlist, functype}
 use Rattle.smith_syntax.specs.Shown.{full_type, shown_type}
 use Rattle.smith_syntax.specs.HasSignature.{is_of_signature, has_signature}
@@ -42,16 +42,12 @@ input-named xs r = λ i. (usize (sym (length-map {A = Stored} xs named) i) ++ sy
 
 module _ {N K : Type 0} where
   told : (s : Signature) (e : EntryOf N K) → is_of_signature s e ≡ true → plain e ≡ function s
-  told s (defined t) e = absurd (false≢true e)
   told s (function f) e = ap function (sym ((same_signature_Decides s f).0 e))
-  told s (component_type ds) e = absurd (false≢true e)
-  told s (instance_type ds) e = absurd (false≢true e)
+  told s _ e = absurd (false≢true e)
 
   tells : (s : Signature) (e : EntryOf N K) → plain e ≡ function s → is_of_signature s e ≡ true
-  tells s (defined t) e = cc
   tells s (function f) e = (same_signature_Decides s f).1 (let z : s ≡ f = cc in z)
-  tells s (component_type ds) e = cc
-  tells s (instance_type ds) e = cc
+  tells s _ e = cc
 
 pub signature_shown : (s : Signature) (ty : DefType) → has_signature s ty ≡ true → shown_type ty ≡ function s
 signature_shown s ty e = told s (full_type ty) e
@@ -62,6 +58,4 @@ shown_signature s ty e = tells s (full_type ty) e
 -- how a function type is spelled, by its fields
 pub functype_is : (f : Signature) (ps : List Stored) (r : Option ComponentValType) → signature ps r ≡ f
     → functype f ≡ (byte 0x40 ⊕ many (λ p. labelvaltype (named p)) ps) ⊕ resultlist r
-functype_is f ps r e =
-    ap functype (sym e) ∙ ap (λ p. byte 0x40 ⊕ p ⊕ resultlist r) (many-map labelvaltype named ps)
-    ∙ sym (assoc (byte 0x40) (many (λ p. labelvaltype (named p)) ps) (resultlist r))
+functype_is f ps r e = grind (arith, many-map, assoc)

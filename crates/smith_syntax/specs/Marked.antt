@@ -95,11 +95,8 @@ core_size_named scopes count i = elim (slice_get scopes count) [ None ↦ 0 | So
 
 -- the mark of the type that an export is equal to, as it is named then
 abbrev pub exported_mark : List Mark → ComponentTypeRef → Mark
-exported_mark marks (to.Module i) = no_mark
-exported_mark marks (to.Func i) = no_mark
 exported_mark marks (to.TypeEq i) = equal_mark (get_or marks i no_mark)
-exported_mark marks (to.Component i) = no_mark
-exported_mark marks (to.Instance i) = no_mark
+exported_mark marks _ = no_mark
 
 -- that mark for each of these
 abbrev pub marks_for : {A : Type 0} → Option A → Mark → List Mark

@@ -32,31 +32,23 @@ aliased around own (suc (suc n)) i = None
 
 -- the function type that it declares
 abbrev pub func_of : ModuleDecl → List Function
-func_of (imports m n e) = []
 func_of (declares f) = f ∷ []
-func_of (aliases count i) = []
-func_of (exports n e) = []
+func_of _ = []
 
 -- the outer alias: its count of scopes, and its index
 abbrev pub alias_of : ModuleDecl → List (ℕ × ℕ)
-alias_of (imports m n e) = []
-alias_of (declares f) = []
 alias_of (aliases count i) = (count, i) ∷ []
-alias_of (exports n e) = []
+alias_of _ = []
 
 -- what it imports, after the two names
 abbrev pub module_import_of : ModuleDecl → List CoreImport
 module_import_of (imports m n e) = (m, n, e) ∷ []
-module_import_of (declares f) = []
-module_import_of (aliases count i) = []
-module_import_of (exports n e) = []
+module_import_of _ = []
 
 -- what it exports, after the name
 abbrev pub module_export_of : ModuleDecl → List (List ℕ × EntityType)
-module_export_of (imports m n e) = []
-module_export_of (declares f) = []
-module_export_of (aliases count i) = []
 module_export_of (exports n e) = (n, e) ∷ []
+module_export_of _ = []
 
 -- what a declaration adds to the module type's own types
 abbrev pub adds : List CoreEntry → List Function → ModuleDecl → List Function

@@ -1,7 +1,7 @@
 -- How many scopes a type opens.
 use Rattle.std.specs.Prelude.{ℕ, ◌+◌, max}
 use Rattle.smith_syntax.specs.Entries.{Entry, defined, function, component_type, instance_type}
-use Rattle.smith_syntax.specs.Entries.{Decl, Decls, core_type_decl, type_decl, type_alias, core_type_alias, import_decl, export_decl, no_decls, then_decls}
+use Rattle.smith_syntax.specs.Entries.{Decl, Decls, type_decl, no_decls, then_decls}
 
 -- How deep the scopes of component types and instance types are in a type.
 abbrev mutual
@@ -12,12 +12,8 @@ abbrev mutual
   nesting (instance_type ds) = decls_nesting ds + 1
 
   pub decl_nesting : Decl → ℕ
-  decl_nesting (core_type_decl t k) = 0
   decl_nesting (type_decl e) = nesting e
-  decl_nesting (type_alias count i k) = 0
-  decl_nesting (core_type_alias count i k) = 0
-  decl_nesting (import_decl name n r) = 0
-  decl_nesting (export_decl name n r) = 0
+  decl_nesting _ = 0
 
   pub decls_nesting : Decls → ℕ
   decls_nesting no_decls = 0

@@ -38,30 +38,22 @@ module _ {T C : Type 0} where
 -- Is it a type of values, as opposed to one of functions, components or instances?
 abbrev pub is_defined : Entry → Bool
 is_defined (defined t) = true
-is_defined (function s) = false
-is_defined (component_type ds) = false
-is_defined (instance_type ds) = false
+is_defined _ = false
 
 -- Is it a type of functions?
 abbrev pub is_func : Entry → Bool
-is_func (defined t) = false
 is_func (function s) = true
-is_func (component_type ds) = false
-is_func (instance_type ds) = false
+is_func _ = false
 
 -- Is it a type of components?
 abbrev pub is_component : Entry → Bool
-is_component (defined t) = false
-is_component (function s) = false
 is_component (component_type ds) = true
-is_component (instance_type ds) = false
+is_component _ = false
 
 -- Is it a type of instances?
 abbrev pub is_instance : Entry → Bool
-is_instance (defined t) = false
-is_instance (function s) = false
-is_instance (component_type ds) = false
 is_instance (instance_type ds) = true
+is_instance _ = false
 
 -- Is it the type of a core module?
 abbrev pub is_core_module : CoreEntry → Bool
@@ -81,11 +73,8 @@ core_type_named scopes count i = in_scope (λ s. s.core_types) scopes count i
 
 -- The type that an export adds to the scope: only what is equal to a type adds one.
 abbrev pub exported_type : Scope → ComponentTypeRef → Option Entry
-exported_type own (to.Module i) = None
-exported_type own (to.Func i) = None
 exported_type own (to.TypeEq i) = slice_get own.types i
-exported_type own (to.Component i) = None
-exported_type own (to.Instance i) = None
+exported_type own _ = None
 
 -- The scope after a declaration in it (Explainer.md, index spaces). A declared type or core type adds itself, an alias what it names,
 -- and an export of a type that type. Nothing else adds anything.

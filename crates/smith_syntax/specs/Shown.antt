@@ -54,10 +54,8 @@ shown_shared_core t = shown_core t.value
 
 -- the function types that the outer aliases of a core type keep, in order
 abbrev pub aliased_functions : ModuleTypeDef → List Function
-aliased_functions (decl.FuncDef f) = []
-aliased_functions (decl.Import i) = []
 aliased_functions (decl.OuterAlias count i ty) = shown_func ty.value ∷ []
-aliased_functions (decl.Export name entity) = []
+aliased_functions _ = []
 
 abbrev pub kept_core : CoreType → List Function
 kept_core (core.Func f) = []

@@ -4,8 +4,8 @@ use Rattle.smith_format.specs.CoreTypes.{Function}
 use Rattle.smith_format.specs.declared.types.EntityType.{EntityType}
 use Rattle.smith_format.specs.declared.types.EntityType.TheVariants.{Func, Table, Memory, Global, Tag}
 use Rattle.smith_syntax.specs.Entries.{CoreEntry, core_func, core_module, ModuleDecl, Signature}
-use Rattle.smith_syntax.specs.Entries.{DefValType, primitive_type, record_type, variant_type, list_type}
-use Rattle.smith_syntax.specs.Entries.{tuple_type, flags_type, enum_type, option_type, result_type}
+use Rattle.smith_syntax.specs.Entries.{DefValType, record_type, variant_type, list_type}
+use Rattle.smith_syntax.specs.Entries.{tuple_type, option_type, result_type}
 use Rattle.smith_syntax.specs.ModuleTypes.{adds, entities_in}
 use Rattle.smith_syntax.specs.declared.types.ComponentValType.{ComponentValType}
 use Rattle.smith_syntax.specs.declared.types.ComponentValType.TheVariants.{Primitive, Indexed}
@@ -35,15 +35,13 @@ abbrev pub summed : List ℕ → List ComponentValType → ℕ
 summed types vs = sum (map (value_size types) vs) + 1
 
 abbrev pub defined_size : List ℕ → DefValType → ℕ
-defined_size types (primitive_type p) = 1
 defined_size types (record_type fs) = summed types (members (record_type fs))
 defined_size types (variant_type cs) = summed types (members (variant_type cs))
 defined_size types (list_type v) = value_size types v
 defined_size types (tuple_type vs) = summed types vs
-defined_size types (flags_type ns) = 1
-defined_size types (enum_type ns) = 1
 defined_size types (option_type v) = value_size types v
 defined_size types (result_type ok err) = maybe_size types ok + maybe_size types err
+defined_size types _ = 1
 
 abbrev pub signature_size : List ℕ → Signature → ℕ
 signature_size types s = summed types (signature_members s)

@@ -48,15 +48,12 @@ FormedDefined (result_type ok err) own = FormedMaybe own ok × FormedMaybe own e
 
 -- how many fields, cases, tuple members and labels there are
 abbrev pub defined_size : DefValType → ℕ
-defined_size (primitive_type p) = 0
 defined_size (record_type fs) = length fs
 defined_size (variant_type cs) = length cs
-defined_size (list_type v) = 0
 defined_size (tuple_type vs) = length vs
 defined_size (flags_type ns) = length ns
 defined_size (enum_type ns) = length ns
-defined_size (option_type v) = 0
-defined_size (result_type ok err) = 0
+defined_size _ = 0
 
 -- What is imported or exported: a function or a tag names one of the module type's own types, which has no results for a tag.
 abbrev pub FormedEntity : List Function → EntityType → Type 0
@@ -103,30 +100,19 @@ FormedRef own (to.Instance i) = (e : Entry) × (slice_get own.types i ≡ Some e
 
 -- Is it a type that is equal to another?
 abbrev pub is_type_eq : ComponentTypeRef → Bool
-is_type_eq (to.Module i) = false
-is_type_eq (to.Func i) = false
 is_type_eq (to.TypeEq i) = true
-is_type_eq (to.Component i) = false
-is_type_eq (to.Instance i) = false
+is_type_eq _ = false
 
 module _ {N K : Type 0} where
   -- the name that a declaration imports, and what is beside it
   abbrev pub import_of : DeclOf N K → List (List ℕ × N)
-  import_of (core_type_decl t k) = []
-  import_of (type_decl e) = []
-  import_of (type_alias count i k) = []
-  import_of (core_type_alias count i k) = []
   import_of (import_decl name n r) = (name, n) ∷ []
-  import_of (export_decl name n r) = []
+  import_of _ = []
 
   -- the name that a declaration exports, and what is beside it
   abbrev pub export_of : DeclOf N K → List (List ℕ × N)
-  export_of (core_type_decl t k) = []
-  export_of (type_decl e) = []
-  export_of (type_alias count i k) = []
-  export_of (core_type_alias count i k) = []
-  export_of (import_decl name n r) = []
   export_of (export_decl name n r) = (name, n) ∷ []
+  export_of _ = []
 
   -- all that declarations import, and all that they export
   abbrev pub decl_imports : DeclsOf N K → List (List ℕ × N)
@@ -181,10 +167,7 @@ abbrev mutual
   pub decl_size : Decl → ℕ
   decl_size (core_type_decl t k) = core_size t
   decl_size (type_decl e) = size e
-  decl_size (type_alias count i k) = 0
-  decl_size (core_type_alias count i k) = 0
-  decl_size (import_decl name n r) = 0
-  decl_size (export_decl name n r) = 0
+  decl_size _ = 0
 
   pub decls_size : Decls → ℕ
   decls_size no_decls = 0

@@ -1,7 +1,6 @@
 -- The outer aliases that are offered: how many there are, and what is at each index.
 use Rattle.std.proofs.Common.{◌≡◌, ℕ, zero, suc, ◌+◌, None, Some, List, [], ◌∷◌, length, sym, ap, ◌∙◌, refl, arith, length-append}
 use Rattle.std.specs.Prelude.{slice_get}
-use Rattle.smith_syntax.specs.Entries.{Entry, CoreEntry, FullDecl, type_alias, core_type_alias, keeps_type, keeps_core_type}
 use Rattle.smith_syntax.specs.Marked.{Marked}
 use Rattle.smith_tree.specs.TypeOffers.{numbered, aliases_of}
 
@@ -27,14 +26,8 @@ module _ {A B : Type 0} (f : ℕ → A → B) where
   numbered_here xs k x e = numbered_at 0 xs k x e ∙ ap (λ n. Some (f n x)) (let z : 0 + k ≡ k = omega arith in z)
 
   pub numbered_stands : (xs : List A) (k : ℕ) (y : B) → slice_get (numbered f 0 xs) k ≡ Some y → (x : A) × (slice_get xs k ≡ Some x) × (y ≡ f k x)
-  numbered_stands xs k y e =
-      let r = numbered_later 0 xs k y e in
-      let at : 0 + k ≡ k = omega arith in
-      (r.0, r.1, r.2 ∙ ap (λ m. f m r.0) at)
+  numbered_stands xs k y e = grind (arith, numbered_later)
 
 -- how many entries a scope has
 pub length-aliases : (count : ℕ) (s : Marked) → length (aliases_of count s) ≡ length s.types + length s.core_types
-length-aliases count s =
-    let f : ℕ → Entry → FullDecl = λ i e. type_alias count i (keeps_type e) in
-    let g : ℕ → CoreEntry → FullDecl = λ i e. core_type_alias count i (keeps_core_type e) in
-    omega (arith, length-append (numbered f 0 s.types) (numbered g 0 s.core_types), length-numbered f 0 s.types, length-numbered g 0 s.core_types)
+length-aliases count s = grind (arith, length-append, length-numbered)

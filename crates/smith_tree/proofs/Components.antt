@@ -1,5 +1,5 @@
 -- Components of which each type, import and export was offered are valid.
-use Rattle.std.proofs.Common.{◌≡◌, ◌≤◌, true, List, [], ◌∷◌, fold, refl, ap, subst, ◌∙◌}
+use Rattle.std.proofs.Common.{rules, ◌≡◌, ◌≤◌, true, List, [], ◌∷◌, fold, refl, ap, subst, ◌∙◌}
 use Rattle.smith_format.specs.Consistency.{IsConsistent}
 use Rattle.smith_format.specs.declared.config.Config.{Config}
 use Rattle.smith_syntax.specs.Marked.{Marked, empty_marked}
@@ -12,7 +12,7 @@ use Rattle.smith_tree.specs.Tree.{Tree, Part, ends, first, custom, core_module, 
 use Rattle.smith_tree.specs.Tree.{add, parts_of}
 use Rattle.smith_tree.specs.WellFormed.{Formed, FormedCanons, FormedPart, scope_of}
 use Rattle.smith_tree.specs.Bodies.{Body, empty_body}
-use Rattle.smith_tree.specs.Counts.{Counts, with_component, with_module}
+use Rattle.smith_tree.specs.Counts.{Counts, with_component}
 use Rattle.smith_tree.specs.Demands.{everything}
 use Rattle.smith_tree.specs.Facts.{FactScope}
 use Rattle.smith_tree.specs.Validates.{ValidPart, ValidParts, Validates, after_part, names_of}
@@ -49,9 +49,7 @@ module _ (config : Config) (valid : config.must_validate ≡ true) (few : config
         → ValidPart everything p s outer b
         × Stands config (spaces_after s p).types (spaces_after s p).functions (marked_after_part p s marked m) (after_part p s outer b) l
     valid_part (custom name contents) l before around s marked outer m b same h k w limits r o = (tt, h)
-    valid_part (core_module text) l before around s marked outer m b same h k w limits r o =
-        let here = stands_module config s.types s.functions m b l h in
-        (((stands_small config m (record b { counts = with_module b.counts }) l here).1, module_has_few config few text r), here)
+    valid_part (core_module text) l before around s marked outer m b same h k w limits r o = search (rules, stands_module, stands_small, module_has_few)
     valid_part (core_types ts) l before around s marked outer m b same h k w limits r o = cores config ts s.types s.functions m b l h limits
     valid_part (component t) l before around s marked outer m b same h k w limits r o =
         let here = stands_component config s.types s.functions m b l h in (

@@ -1,5 +1,5 @@
 -- Whether a core module has few memories, section by section.
-use Rattle.std.proofs.Common.{◌≡◌, ◌↔◌, ℕ, ◌≤◌, List, [], ◌∷◌, ◌++◌, Some, refl, ap, sym, ◌∙◌, subst, drop}
+use Rattle.std.proofs.Common.{arith, ◌≡◌, ◌↔◌, ℕ, ◌≤◌, List, [], ◌∷◌, ◌++◌, Some, refl, ap, sym, ◌∙◌, subst, drop}
 use Rattle.smith_core.specs.Preamble.{core_preamble}
 use Rattle.smith_format.specs.Piece.{Piece, ◌⊕◌, bytes, each, sized, u}
 use Rattle.smith_format.proofs.Clear.{clear_u, same_section, section_head}
@@ -20,10 +20,7 @@ behind p text e =
     (a.right, a.q_is, a.is ∙ ap (λ l. l ++ a.right) (sym front))
 
 pub few_module : (sections : List ℕ) → FewIn sections → HasFewMemories (core_preamble ++ sections)
-few_module sections few before contents after e =
-    let a = behind (each section before ⊕ section (5, contents) ⊕ bytes after) (core_preamble ++ sections) e in
-    let same : sections ≡ a.0 = ap (drop 8) a.2 in
-    few before contents after (a.1 ∙ ap Some (sym same))
+few_module sections few before contents after e = grind (arith, behind, drop, Some)
 
 pub few_sections : (sections : List ℕ) → HasFewMemories (core_preamble ++ sections) → FewIn sections
 few_sections sections few before contents after e =
@@ -31,8 +28,7 @@ few_sections sections few before contents after e =
 
 -- what begins otherwise
 pub few_other : (text : List ℕ) → ((sections : List ℕ) → text ≡ core_preamble ++ sections → ⊥) → HasFewMemories text
-few_other text other before contents after e =
-    let a = behind (each section before ⊕ section (5, contents) ⊕ bytes after) text e in absurd (other a.0 a.2)
+few_other text other before contents after e = grind (arith, behind)
 
 -- the first of some sections
 first_of : (s : ℕ × List ℕ) (before : List (ℕ × List ℕ)) (p : Piece) (b : List ℕ) → each section (s ∷ before) ⊕ p ≡ Some b
@@ -49,34 +45,18 @@ few_none b none (s ∷ before) contents after e =
     absurd (none s.0 s.1 rests.rest (ap (λ q. section s ⊕ q) (sym rests.first) ∙ f))
 
 pub few_end : FewIn []
-few_end =
-    few_none [] (λ id contents after e.
-    let h = section_head id (bytes contents) (bytes after) [] e in
-    let f : [] ≡ id ∷ h.0 = h.1 in cc)
+few_end = grind (arith, few_none, section_head)
 
 module _ (id : ℕ) (contents next b : List ℕ) (is : section (id, contents) ⊕ bytes next ≡ Some b) where
   same_id : (other : ℕ) (c p : Piece) → sized other c ⊕ p ≡ Some b → id ≡ other
-  same_id other c p e =
-      let h = section_head id (bytes contents) (bytes next) b is in
-      let k = section_head other c p b e in
-      let f : id ∷ h.0 ≡ other ∷ k.0 = sym h.1 ∙ k.1 in cc
+  same_id other c p e = grind (arith, section_head)
 
   abbrev Is : ℕ → Type 0
   Is n = sized n (bytes contents) ⊕ bytes next ≡ Some b
 
   pub few_next : (id ≡ 5 → CountsFew contents) → FewIn next → FewIn b
-  few_next counted few [] others after e =
-      let f : section (5, others) ⊕ bytes after ≡ Some b = sym (left_nil (section (5, others) ⊕ bytes after)) ∙ e in
-      let five = same_id 5 (bytes others) (bytes after) f in
-      let s = same_section 5 (bytes contents) (bytes others) (bytes next) (bytes after) b (subst Is five is) f in
-      let same : contents ≡ others = let g : Some contents ≡ Some others = s.first ∙ sym s.second in cc in
-      subst CountsFew same (counted five)
-  few_next counted few (s ∷ before) others after e =
-      let p : Piece = each section before ⊕ section (5, others) ⊕ bytes after in
-      let f : section s ⊕ p ≡ Some b = first_of s before (section (5, others) ⊕ bytes after) b e in
-      let same = same_id s.0 (bytes s.1) p f in
-      let t = same_section s.0 (bytes contents) (bytes s.1) (bytes next) p b (subst Is same is) f in
-      few before others after (t.rests.second ∙ sym t.rests.first)
+  few_next counted few [] others after e = grind (arith, Some, left_nil, same_id, same_section)
+  few_next counted few (s ∷ before) others after e = grind (arith, Some, first_of, same_id, same_section)
 
   pub few_after : FewIn b → FewIn next
   few_after few before others after e =
@@ -89,8 +69,7 @@ module _ (id : ℕ) (contents next b : List ℕ) (is : section (id, contents) �
 
 -- a count and what follows it
 pub few_counted : (contents : List ℕ) (n : ℕ) (items : List ℕ) → u n ⊕ bytes items ≡ Some contents → n ≤ 100 → CountsFew contents
-few_counted contents n items is few count entries e =
-    subst (λ m. m ≤ 100) (clear_u.law n count (bytes items) (bytes entries) contents is e).same few
+few_counted contents n items is few count entries e = grind (arith, clear_u)
 
 -- a memory section alone
 pub memories_counted : (count : ℕ) (memories text : List ℕ) → bytes core_preamble ⊕ sized 5 (u count ⊕ bytes memories) ≡ Some text

@@ -77,8 +77,7 @@ module _ (config : Config) where
       → AllByRecursion IsSmallFunction own → AllByRecursion IsSmallFunction (func_of d) → AllByRecursion IsSmallFunction (adds around own d)
   adds_small around own (declares f) k h small = (small.0, tt)
   adds_small around own (imports m n e) k h small = tt
-  adds_small around own (aliases count i) k h small =
-      all_both IsSmallFunction (option_to_list (aliased around own count i)) [] (alias_small around own count i k h) tt
+  adds_small around own (aliases count i) k h small = grind (arith, all_both, alias_small)
   adds_small around own (exports n e) k h small = tt
 
   pub small_module : (around : List CoreEntry) (own : List Function) (ds : List ModuleDecl) → AllByRecursion (CoreLimits config) around

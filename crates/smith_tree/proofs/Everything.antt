@@ -3,7 +3,7 @@ use Rattle.std.proofs.Common.{◌≡◌, ℕ, Bool, true, false, List, [], ◌�
 use Rattle.std.specs.List.{AllByRecursion}
 use Rattle.smith_format.specs.declared.config.Config.{Config}
 use Rattle.smith_syntax.specs.Entries.{Entry, ImportEntry, Decl, Decls, defined, function, component_type, instance_type}
-use Rattle.smith_syntax.specs.Entries.{core_type_decl, type_decl, type_alias, core_type_alias, import_decl, export_decl, no_decls, then_decls}
+use Rattle.smith_syntax.specs.Entries.{type_decl, import_decl, export_decl, no_decls, then_decls}
 use Rattle.smith_syntax.specs.Marked.{Marked, empty_marked, marked_after}
 use Rattle.smith_syntax.specs.Marks.{is_everywhere, is_small, is_somewhere}
 use Rattle.smith_syntax.specs.Members.{members, signature_members}
@@ -18,7 +18,7 @@ use Rattle.smith_tree.specs.Offered.{IsOffered, OfferedExports, OfferedImports, 
 use Rattle.smith_tree.specs.Open.{is_finish_offered}
 use Rattle.smith_tree.specs.Readable.{AreFinishable, IsFinishable}
 use Rattle.smith_tree.specs.Spaces.{Spaces, after_export, after_part, no_spaces}
-use Rattle.smith_tree.specs.Tree.{ExportEntry, Tree, Part, ends, first, custom, core_module, core_types, component, types, canons, imports, exports}
+use Rattle.smith_tree.specs.Tree.{ExportEntry, Tree, Part, ends, first, component, types, imports, exports}
 use Rattle.smith_tree.specs.Tree.{inside}
 use Rattle.smith_tree.specs.Unmarked.{KeepsNothing}
 use Rattle.smith_tree.proofs.Unmarked.{empty_keeps_nothing, nothing_after, nothing_after_import, nothing_after_part, nothing_after_reference}
@@ -65,12 +65,10 @@ mutual
   entry_offered (instance_type ds) own outer b = decls_offered ds (own ∷ outer) (empty_marked own.keeps) (empty_keeps_nothing own.keeps b.keeps)
 
   decl_offered : (d : Decl) (outer : List Marked) (own : Marked) → KeepsNothing own → OfferedDecl d outer own
-  decl_offered (core_type_decl t k) outer own b = tt
   decl_offered (type_decl e) outer own b = entry_offered e own outer b
-  decl_offered (type_alias count i k) outer own b = tt
-  decl_offered (core_type_alias count i k) outer own b = tt
   decl_offered (import_decl name n r) outer own b = ref_offered own true r b
   decl_offered (export_decl name n r) outer own b = ref_offered own false r b
+  decl_offered _ outer own b = tt
 
   decls_offered : (ds : Decls) (outer : List Marked) (own : Marked) → KeepsNothing own → OfferedDecls ds outer own
   decls_offered no_decls outer own b = tt
@@ -103,15 +101,12 @@ module _ (config : Config) (off : config.must_validate ≡ false) where
         (part_offered p s outer own b, parts_offered t (after_part s p) outer (marked_after_part p s outer own) (nothing_after_part p s outer own b))
 
     part_offered : (p : Part) (s : Spaces) (outer : List Marked) (own : Marked) → KeepsNothing own → OfferedPart p config s outer own
-    part_offered (custom name contents) s outer own b = tt
-    part_offered (core_module text) s outer own b = tt
-    part_offered (core_types ts) s outer own b = tt
     part_offered (component t) s outer own b =
         parts_offered t no_spaces (own ∷ outer) (empty_marked config.must_validate) (empty_keeps_nothing config.must_validate off)
     part_offered (types ts) s outer own b = types_offered ts outer own b
-    part_offered (canons fs) s outer own b = tt
     part_offered (imports is) s outer own b = imports_offered is own b
     part_offered (exports es) s outer own b = exports_offered es s own b
+    part_offered _ s outer own b = tt
 
   pub everything_offered : (t : Tree) → IsOffered config t
   everything_offered t = parts_offered t no_spaces [] (empty_marked config.must_validate) (empty_keeps_nothing config.must_validate off)

@@ -1,10 +1,10 @@
 -- What is imported and exported refers to what is named, if marks offer it.
-use Rattle.std.proofs.Common.{◌≡◌, ℕ, zero, suc, true, false, List, [], ◌∷◌, ◌++◌, map, flat_map, refl, sym, ap, subst, ◌∙◌, append-nil}
+use Rattle.std.proofs.Common.{arith, ◌≡◌, ℕ, zero, suc, true, false, List, [], ◌∷◌, ◌++◌, map, flat_map, refl, sym, ap, subst, ◌∙◌, append-nil}
 use Rattle.std.proofs.Common.{Option, Some, None, slice_get, option_to_list, get_or}
 use Rattle.smith_format.specs.declared.config.Config.{Config}
 use Rattle.smith_syntax.specs.Entries.{Entry}
 use Rattle.smith_syntax.specs.Marked.{Marked, exported_mark, marks_for, reference_reach, scope_in}
-use Rattle.smith_syntax.specs.Marks.{equal_mark, is_everywhere, is_somewhere, no_mark, parts_of, reaches_everywhere, reaches_somewhere}
+use Rattle.smith_syntax.specs.Marks.{equal_mark, is_everywhere, is_somewhere, parts_of, reaches_everywhere, reaches_somewhere}
 use Rattle.smith_syntax.specs.Scope.{exported_type}
 use Rattle.smith_syntax.specs.Usable.{OfferedRef, mark_at}
 use Rattle.smith_syntax.specs.WellFormed.{is_type_eq}
@@ -152,20 +152,10 @@ module _ (config : Config) (named : List Id) (m : Marked) (own : FactScope) (out
   pub export_added : (r : ComponentTypeRef) → TiedScope config named m own
       → TiedTypes (named ++ names_of (externs_at own outer r)) (marks_for (exported_type (scope_in m) r) (exported_mark m.marks r))
       (exported_facts own outer r)
-  export_added (to.Module i) t = tt
-  export_added (to.Func i) t = tt
-  export_added (to.TypeEq i) t =
-      equal_added named (id_at (own ∷ outer)) (slice_get m.types i) (get_or m.marks i no_mark) (slice_get own.types i)
-      (entry_at named m.types m.marks own.types i t.entries t.types)
-  export_added (to.Component i) t = tt
-  export_added (to.Instance i) t = tt
+  export_added (to.TypeEq i) t = grind (arith, equal_added, slice_get, get_or, entry_at)
+  export_added _ t = tt
 
   pub export_many : (r : ComponentTypeRef) → TiedScope config named m own
       → AsMany (option_to_list (exported_type (scope_in m) r)) (exported_facts own outer r)
-  export_many (to.Module i) t = tt
-  export_many (to.Func i) t = tt
-  export_many (to.TypeEq i) t =
-      equal_many (id_at (own ∷ outer)) (option_to_list (slice_get m.types i)) (option_to_list (slice_get own.types i))
-      (many_at m.types own.types i t.entries)
-  export_many (to.Component i) t = tt
-  export_many (to.Instance i) t = tt
+  export_many (to.TypeEq i) t = grind (arith, equal_many, option_to_list, slice_get, many_at)
+  export_many _ t = tt

@@ -11,7 +11,7 @@ use Rattle.smith_syntax.specs.Usable.{OfferedDecl}
 use Rattle.smith_syntax.specs.declared.deftype.ComponentTypeRef.{ComponentTypeRef}
 use Rattle.smith_syntax.specs.declared.deftype.ComponentTypeRef.TheVariants as to
 use Rattle.smith_tree.specs.Bodies.{Body, IsSmall, after_decl, after_export, after_import, core_facts, empty_body, equal_facts, exported_facts, facts}
-use Rattle.smith_tree.specs.Bodies.{named_in, reference_size, with_core_facts, with_facts}
+use Rattle.smith_tree.specs.Bodies.{reference_size, with_core_facts, with_facts}
 use Rattle.smith_tree.specs.Counts.{Counts, ValidCounts, with_export, with_import, with_type_count}
 use Rattle.smith_tree.specs.Demands.{everything}
 use Rattle.smith_tree.specs.Facts.{CoreFacts, FactScope, Facts, Id, id_at, sizes as fact_sizes}
@@ -35,15 +35,7 @@ pub few_small : (n : ℕ) (b : Body) → Few n b → n ≤ 100 → IsSmall every
 few_small n b f few = (omega (arith, f.size), few_counts b.counts (omega (arith, f.counts)))
   where
     few_counts : (c : Counts) → counted c ≤ 200 → ValidCounts c
-    few_counts c k = record {
-      types = omega arith;
-      functions = omega arith;
-      modules = omega arith;
-      components = omega arith;
-      instances = omega arith;
-      imports = omega arith;
-      exports = omega arith;
-    }
+    few_counts c k = grind arith
 
 counted_import : (c : Counts) (r : ComponentTypeRef) → counted (with_import c r) ≤ counted c + 2
 counted_import c (to.Module i) = omega arith
@@ -57,11 +49,8 @@ equal_count id f = omega (arith, length-map (option_to_list f) (equal_facts id),
 
 counted_export : (c : Counts) (own : FactScope) (outer : List FactScope) (r : ComponentTypeRef)
     → counted (with_type_count (with_export c r) (length (exported_facts own outer r))) ≤ counted c + 2
-counted_export c own outer (to.Module i) = omega arith
-counted_export c own outer (to.Func i) = omega arith
 counted_export c own outer (to.TypeEq i) = omega (arith, equal_count (id_at (own ∷ outer)) (slice_get own.types i))
-counted_export c own outer (to.Component i) = omega arith
-counted_export c own outer (to.Instance i) = omega arith
+counted_export c own outer _ = omega arith
 
 -- after that many more types or core types, and after an import and an export
 
@@ -83,12 +72,8 @@ pub few_decl : (config : Config) (d : Decl) (marked : List Marked) (outer : List
     → OfferedDecl d marked m → Few n b → Few (n + 1) (after_decl d outer b)
 few_decl config (core_type_decl e kept) marked outer m b n t h f = few_cores n b (core_facts e b.own ∷ []) f (omega arith)
 few_decl config (type_decl e) marked outer m b n t h f = few_types n b (facts e b.own outer ∷ []) f (omega arith)
-few_decl config (type_alias count i kept) marked outer m b n t h f =
-    let o = named_in (λ s. s.types) (b.own ∷ outer) count i in
-    few_types n b (option_to_list o) f (one_at_most o)
-few_decl config (core_type_alias count i kept) marked outer m b n t h f =
-    let o = named_in (λ s. s.core_types) (b.own ∷ outer) count i in
-    few_cores n b (option_to_list o) f (one_at_most o)
+few_decl config (type_alias count i kept) marked outer m b n t h f = grind (arith, few_types, option_to_list, one_at_most)
+few_decl config (core_type_alias count i kept) marked outer m b n t h f = grind (arith, few_cores, option_to_list, one_at_most)
 few_decl config (import_decl name k r) marked outer m b n t h f =
     few_import n b outer r f (small_reference config (names_of b.exports) m b.own true r t.own h)
 few_decl config (export_decl name k r) marked outer m b n t h f =

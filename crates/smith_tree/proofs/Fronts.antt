@@ -7,8 +7,8 @@ use Rattle.smith_format.specs.declared.types.ExportKind.{ExportKind}
 use Rattle.smith_format.specs.declared.types.ExportKind.TheVariants as kind
 use Rattle.smith_format.specs.CoreTypes.{Function}
 use Rattle.smith_syntax.specs.Entries.{ModuleDecl, aliases, declares, exports, imports}
-use Rattle.smith_syntax.specs.ModuleTypes.{after_front, after_function, after_memory, after_realloc, free, is_export, is_function_of}
-use Rattle.smith_syntax.specs.ModuleTypes.{is_of_kind, is_type, module_import_of, realloc}
+use Rattle.smith_syntax.specs.ModuleTypes.{after_front, after_function, after_memory, is_export, is_function_of}
+use Rattle.smith_syntax.specs.ModuleTypes.{is_of_kind, is_type, module_import_of}
 use Rattle.smith_tree.specs.Sizes.{imported_of_kind}
 
 more_pass : {A : Type 0} (b : Bool) (x : A) (xs : List A) → length (cond b (x ∷ xs) xs) ≤ suc (length xs)
@@ -33,10 +33,7 @@ few_imports [] = omega arith
 few_imports (d ∷ ds) = omega (arith, few_in_one d ds, few_imports ds)
 
 few_of_kind : (k : ExportKind) (ds : List ModuleDecl) → imported_of_kind k ds ≤ import_count ds
-few_of_kind k ds =
-    let es = flat_map module_import_of ds in
-    let named : List EntityType = map (λ i. i.2) es in
-    omega (arith, fewer_pass (is_of_kind k) named, length-map es (λ i. i.2))
+few_of_kind k ds = grind (arith, fewer_pass, length-map)
 
 -- How much shorter the rest is.
 
@@ -58,28 +55,17 @@ function_length name f i (d ∷ []) = omega arith
 function_length name f i (d ∷ e ∷ ds) = two_less (is_type f d && is_export name (is_function_of i) e) d e ds
 
 pub front_length : (ds : List ModuleDecl) → length ds ≤ length (after_front ds) + 5
-front_length ds =
-    let a = after_memory ds in
-    omega (
-      arith,
-      memory_length ds,
-      function_length (codes "canonical_abi_realloc") realloc 0 a,
-      function_length (codes "canonical_abi_free") free (if nat_lt (length (after_realloc a)) (length a) then 1 else 0) (after_realloc a),
-    )
+front_length ds = grind (arith, memory_length, function_length, codes, nat_lt, length)
 
 -- It has as many imports.
 
 export_imports : (name : List ℕ) (test : EntityType → Bool) (d : ModuleDecl) → is_export name test d ≡ true → module_import_of d ≡ []
-export_imports name test (declares f) h = refl
 export_imports name test (imports m n e) h = cc
-export_imports name test (aliases count i) h = refl
-export_imports name test (exports n e) h = refl
+export_imports name test _ h = refl
 
 type_imports : (f : Function) (d : ModuleDecl) → is_type f d ≡ true → module_import_of d ≡ []
-type_imports f (declares g) h = refl
 type_imports f (imports m n e) h = cc
-type_imports f (aliases count i) h = refl
-type_imports f (exports n e) h = refl
+type_imports f _ h = refl
 
 kept_one : (b : Bool) (d : ModuleDecl) (ds : List ModuleDecl) → (b ≡ true → module_import_of d ≡ [])
     → import_count (d ∷ ds) ≤ import_count (if b then ds else d ∷ ds)
@@ -94,25 +80,15 @@ kept_two false b d e ds h k = omega arith
 
 memory_imports : (ds : List ModuleDecl) → import_count ds ≤ import_count (after_memory ds)
 memory_imports [] = omega arith
-memory_imports (d ∷ ds) =
-    let is_memory = is_of_kind kind.Memory in
-    kept_one (is_export (codes "memory") is_memory d) d ds (export_imports (codes "memory") is_memory d)
+memory_imports (d ∷ ds) = grind (arith, kept_one, codes, export_imports)
 
 function_imports : (name : List ℕ) (f : Function) (i : ℕ) (ds : List ModuleDecl) → import_count ds ≤ import_count (after_function name f i ds)
 function_imports name f i [] = omega arith
 function_imports name f i (d ∷ []) = omega arith
-function_imports name f i (d ∷ e ∷ ds) =
-    kept_two (is_type f d) (is_export name (is_function_of i) e) d e ds (type_imports f d) (export_imports name (is_function_of i) e)
+function_imports name f i (d ∷ e ∷ ds) = grind (arith, kept_two, type_imports, export_imports)
 
 front_imports : (ds : List ModuleDecl) → import_count ds ≤ import_count (after_front ds)
-front_imports ds =
-    let a = after_memory ds in
-    omega (
-      arith,
-      memory_imports ds,
-      function_imports (codes "canonical_abi_realloc") realloc 0 a,
-      function_imports (codes "canonical_abi_free") free (if nat_lt (length (after_realloc a)) (length a) then 1 else 0) (after_realloc a),
-    )
+front_imports ds = grind (arith, memory_imports, function_imports, codes, nat_lt, length)
 
 -- so there are no more imports than declarations after it
 pub imports_behind : (k : ExportKind) (ds : List ModuleDecl) → imported_of_kind k ds ≤ length (after_front ds)

@@ -87,14 +87,12 @@ primitive_sum types (Indexed i ∷ vs) so_far h = absurd h.0
 
 pub fits_function : (e : Entry) (own : FactScope) (outer : List FactScope) (plain : Scope) (around : List Scope) → FormedEntry e plain around
     → FitsFunction e (facts e own outer)
-fits_function (defined d) own outer plain around h = tt
 fits_function (function s) own outer plain around h =
     let vs = signature_members s in (
       omega arith,
       λ k. (primitive_needs own.types vs k, omega (arith, primitive_sum (fact_sizes own.types) vs 0 k, few_members s h.2)),
     )
-fits_function (component_type ds) own outer plain around h = tt
-fits_function (instance_type ds) own outer plain around h = tt
+fits_function _ own outer plain around h = tt
 
 -- What flattens is of primitives.
 
@@ -166,10 +164,8 @@ free_at named (m ∷ ms) (g ∷ fs) zero f t small reach e =
 free_at named (m ∷ ms) (g ∷ fs) (suc i) f t small reach e = free_at named ms fs i f t.1 small reach e
 
 function_of_entry : (e : Entry) → is_func e ≡ true → (s : Signature) × (e ≡ function s)
-function_of_entry (defined d) h = cc
 function_of_entry (function s) h = (s, refl)
-function_of_entry (component_type ds) h = cc
-function_of_entry (instance_type ds) h = cc
+function_of_entry _ h = cc
 
 size_at : (fs : List Facts) (i : ℕ) (f : Facts) → slice_get fs i ≡ Some f → get_or (fact_sizes fs) i 0 ≡ f.size
 size_at [] i f e = absurd (none-some f e)
@@ -194,8 +190,7 @@ imported_function named es ms fs i e h t stands is_one small reach =
 -- What is exported of a function that is free refers to nothing, and is small.
 
 some_free : (named : List Id) (o : Option Facts) (f : Facts) → o ≡ Some f → f.refers ≡ [] → RefersTo named (map function_extern (option_to_list o))
-some_free named o f e free =
-    subst (λ x. RefersTo named (map function_extern (option_to_list x))) (sym e) (none_named named f.refers free, tt)
+some_free named o f e free = grind (arith, none_named, free)
 
 pub free_refers : (named : List Id) (fs : List Facts) (i : ℕ) → IsFreeAt fs i → RefersTo named (map function_extern (option_to_list (slice_get fs i)))
 free_refers named fs i h = some_free named (slice_get fs i) h.found h.stands h.free.0

@@ -30,72 +30,27 @@ few_left ends = record { functions = omega arith; exports = omega arith; modules
 few_left (first p t) = few_part p (few_left t)
   where
     few_part : (p : Part) → FewLeft t (left t) → FewLeft (first p t) (part_left p (left t))
-    few_part (custom name contents) k = record {
-      functions = omega (arith, k.functions);
-      exports = omega (arith, k.exports);
-      modules = omega (arith, k.modules);
-      components = omega (arith, k.components);
-      instances = omega (arith, k.instances);
-    }
-    few_part (core_module text) k = record {
-      functions = omega (arith, k.functions);
-      exports = omega (arith, k.exports);
-      modules = omega (arith, k.modules);
-      components = omega (arith, k.components);
-      instances = omega (arith, k.instances);
-    }
-    few_part (core_types ts) k = record {
-      functions = omega (arith, k.functions);
-      exports = omega (arith, k.exports);
-      modules = omega (arith, k.modules);
-      components = omega (arith, k.components);
-      instances = omega (arith, k.instances);
-    }
-    few_part (component u) k = record {
-      functions = omega (arith, k.functions);
-      exports = omega (arith, k.exports);
-      modules = omega (
-        arith,
-        k.modules,
-        length-append (anywhere modules_in u) (anywhere modules_in t),
-        length-append (anywhere imported_modules_in u) (anywhere imported_modules_in t),
-      );
-      components = omega (
-        arith,
-        k.components,
-        length-append (inside u) (inside t),
-        length-append (anywhere imported_components_in u) (anywhere imported_components_in t),
-      );
-      instances = omega (arith, k.instances, length-append (anywhere imported_instances_in u) (anywhere imported_instances_in t));
-    }
-    few_part (types ts) k = record {
-      functions = omega (arith, k.functions);
-      exports = omega (arith, k.exports);
-      modules = omega (arith, k.modules);
-      components = omega (arith, k.components);
-      instances = omega (arith, k.instances);
-    }
-    few_part (canons cs) k = record {
-      functions = omega (arith, k.functions, length-append cs (own canons_in t));
-      exports = omega (arith, k.exports);
-      modules = omega (arith, k.modules);
-      components = omega (arith, k.components);
-      instances = omega (arith, k.instances);
-    }
-    few_part (imports is) k = record {
-      functions = omega (arith, k.functions, length-append (imported_functions_in (imports is)) (own imported_functions_in t));
-      exports = omega (arith, k.exports);
-      modules = omega (arith, k.modules, length-append (imported_modules_in (imports is)) (anywhere imported_modules_in t));
-      components = omega (arith, k.components, length-append (imported_components_in (imports is)) (anywhere imported_components_in t));
-      instances = omega (arith, k.instances, length-append (imported_instances_in (imports is)) (anywhere imported_instances_in t));
-    }
-    few_part (exports es) k = record {
-      functions = omega (arith, k.functions, length-append es (own exports_in t));
-      exports = omega (arith, k.exports, length-append es (own exports_in t));
-      modules = omega (arith, k.modules);
-      components = omega (arith, k.components);
-      instances = omega (arith, k.instances);
-    }
+    few_part (custom name contents) k = grind arith
+    few_part (core_module text) k = grind arith
+    few_part (core_types ts) k = grind arith
+    few_part (component u) k = grind (
+      arith,
+      length-append (anywhere modules_in u) (anywhere modules_in t),
+      length-append (anywhere imported_modules_in u) (anywhere imported_modules_in t),
+      length-append (inside u) (inside t),
+      length-append (anywhere imported_components_in u) (anywhere imported_components_in t),
+      length-append (anywhere imported_instances_in u) (anywhere imported_instances_in t),
+    )
+    few_part (types ts) k = grind arith
+    few_part (canons cs) k = grind (arith, length-append cs (own canons_in t))
+    few_part (imports is) k = grind (
+      arith,
+      length-append (imported_functions_in (imports is)) (own imported_functions_in t),
+      length-append (imported_modules_in (imports is)) (anywhere imported_modules_in t),
+      length-append (imported_components_in (imports is)) (anywhere imported_components_in t),
+      length-append (imported_instances_in (imports is)) (anywhere imported_instances_in t),
+    )
+    few_part (exports es) k = grind (arith, length-append es (own exports_in t))
 
 -- Types and core types: sections of other things add none.
 
@@ -194,16 +149,7 @@ module _ (config : Config) (valid : AreCountsValid config) where
   }
 
   fits_left : (t : Tree) → OwnLimits config t → Whole t → Fits no_counts (left t)
-  fits_left t o w =
-      let few = few_left t in
-      record {
-        types = omega (arith, types_left t no_spaces, o.types, o.core_types, valid.types);
-        functions = omega (arith, few.functions, o.functions, o.exports, valid.funcs);
-        modules = omega (arith, few.modules, w.modules);
-        components = omega (arith, few.components, w.components);
-        instances = omega (arith, few.instances, w.instances);
-        exports = omega (arith, few.exports, o.exports, valid.funcs);
-      }
+  fits_left t o w = grind (arith, few_left, types_left)
 
   -- the parts, and what precedes them
   record Kept (t : Tree) (s : Spaces) : Type 0 where
@@ -252,12 +198,7 @@ module _ (config : Config) (valid : AreCountsValid config) where
       kept_same (exports es) t (fold after_export s es) s (export_types es s) tt (kept t (fold after_export s es) (whole_rest (exports es) t w) h c)
 
   whole_tree : (t : Tree) → Maxima config t → Whole t
-  whole_tree t m = record {
-    modules = omega (arith, m.modules, valid.modules);
-    components = omega (arith, m.components, valid.components);
-    instances = omega (arith, m.instances, valid.instances);
-    inner = m.each.1;
-  }
+  whole_tree t m = grind arith
 
   pub limits_fit : (t : Tree) → Maxima config t → Fits no_counts (left t)
   limits_fit t m = fits_left t m.each.0 (whole_tree t m)

@@ -1,16 +1,16 @@
 -- What is kept of components: of one with one more part, and its scope by itself.
-use Rattle.std.proofs.Common.{◌≡◌, ℕ, List, [], ◌∷◌, ◌++◌, map, length, fold, refl, sym, ap, ◌∙◌, append-nil}
+use Rattle.std.proofs.Common.{arith, ◌≡◌, List, [], ◌∷◌, ◌++◌, fold, refl, sym, ap, ◌∙◌, append-nil}
 use Rattle.smith_format.specs.declared.config.Config.{Config}
 use Rattle.smith_syntax.specs.Entries.{Entry, CoreEntry, ImportEntry}
 use Rattle.smith_syntax.specs.Marked.{Marked, empty_marked, scope_in, scopes_in_marked, with_export}
 use Rattle.smith_syntax.specs.Scope.{Scope}
 use Rattle.smith_syntax.specs.declared.deftype.ComponentTypeRef.{ComponentTypeRef}
-use Rattle.smith_tree.specs.Marking.{marked_after_part, marked_after_parts, marked_from, marked_in, marked_inner, marked_of, with_core_entry}
+use Rattle.smith_tree.specs.Marking.{marked_after_part, marked_after_parts, marked_from, marked_in, marked_of, with_core_entry}
 use Rattle.smith_tree.specs.Marking.{with_export_entries, with_exports_entry, with_import_entry, with_type_entry, exported_reference}
 use Rattle.smith_tree.specs.Open.{scopes_from, scopes_in}
 use Rattle.smith_tree.specs.Spaces.{Spaces, after_canon, after_export, after_import, after_part, no_spaces, spaces_of}
-use Rattle.smith_tree.specs.Tree.{Canon, ExportEntry, lift, lower, Tree, Part, add, ends, first, custom, core_module, core_types}
-use Rattle.smith_tree.specs.Tree.{component, types, canons, imports, exports, parts_of}
+use Rattle.smith_tree.specs.Tree.{Canon, ExportEntry, lift, lower, Tree, Part, add, ends, first, core_types}
+use Rattle.smith_tree.specs.Tree.{types, canons, imports, exports, parts_of}
 use Rattle.smith_tree.specs.WellFormed.{scope_of}
 
 -- One more part.
@@ -72,15 +72,12 @@ exports_keep (e ∷ es) s = exports_keep es (after_export s e)
 
 pub scope_after_part : (p : Part) (s : Spaces) (outer : List Marked) (own : Marked) → scope_in own ≡ of_spaces s
     → scope_in (marked_after_part p s outer own) ≡ of_spaces (after_part s p)
-scope_after_part (custom name contents) s outer own e = e
-scope_after_part (core_module text) s outer own e = e
-scope_after_part (core_types ts) s outer own e =
-    core_types_after ts own ∙ ap (λ (d : Scope). record { types = d.types; core_types = d.core_types ++ ts }) e
-scope_after_part (component t) s outer own e = e
+scope_after_part (core_types ts) s outer own e = grind (arith, core_types_after)
 scope_after_part (types ts) s outer own e = types_after outer ts own ∙ ap (λ (d : Scope). record { types = d.types ++ ts; core_types = d.core_types }) e
 scope_after_part (canons fs) s outer own e = e ∙ sym (canons_keep fs s)
 scope_after_part (imports is) s outer own e = imports_after is own ∙ e ∙ sym (imports_keep is s)
 scope_after_part (exports es) s outer own e = exports_after es s own ∙ e ∙ sym (exports_keep es s)
+scope_after_part _ s outer own e = e
 
 scope_after_parts : (t : Tree) (s : Spaces) (outer : List Marked) (own : Marked) → scope_in own ≡ of_spaces s
     → scope_in (marked_after_parts t s outer own) ≡ of_spaces (fold after_part s (parts_of t))
@@ -128,14 +125,11 @@ export_entries_keep (e ∷ es) s own =
     ∙ references_keep (exported_reference s.functions e) own
 
 part_keeps : (p : Part) (s : Spaces) (outer : List Marked) (own : Marked) → (marked_after_part p s outer own).keeps ≡ own.keeps
-part_keeps (custom name contents) s outer own = refl
-part_keeps (core_module text) s outer own = refl
 part_keeps (core_types ts) s outer own = core_types_keep ts own
-part_keeps (component t) s outer own = refl
 part_keeps (types ts) s outer own = types_keep outer ts own
-part_keeps (canons fs) s outer own = refl
 part_keeps (imports is) s outer own = import_entries_keep is own
 part_keeps (exports es) s outer own = export_entries_keep es s own
+part_keeps _ s outer own = refl
 
 parts_keep : (t : Tree) (s : Spaces) (outer : List Marked) (own : Marked) → (marked_after_parts t s outer own).keeps ≡ own.keeps
 parts_keep ends s outer own = refl

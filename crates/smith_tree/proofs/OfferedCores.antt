@@ -43,7 +43,4 @@ module_size_is (core_module ds) own = refl
 
 pub fits_core : (config : Config) (e : CoreEntry) (own : FactScope) → AllByRecursion (FitsCore config) own.core_types → CoreLimits config e
     → FitsCore config (core_facts e own)
-fits_core config e own k h = record {
-  limits = h;
-  small = omega (arith, small_core config (entries_of own.core_types) e (limits_of config own.core_types k) h, module_size_is e own);
-}
+fits_core config e own k h = grind (arith, small_core config (entries_of own.core_types) e (limits_of config own.core_types k) h, module_size_is e own)

@@ -9,8 +9,7 @@ use Rattle.smith_input.proofs.ReadsTexts.{bytes_read, bytes_tail, bytes_unique, 
 use Rattle.smith_tree.specs.ReadsCustom.{ReadsCustom}
 
 pub custom_short : (b name contents rest : List ℕ) → ReadsCustom b name contents rest → length name ≤ 1000
-custom_short b name contents rest (mid, t, bs) =
-    omega (arith, ap length t.longest.front, length-take (length name) (take t.count t.after_count), length-take t.count t.after_count, t.counted.below)
+custom_short b name contents rest (mid, t, bs) = grind (arith, length-take)
 
 pub custom_tail : (b name contents rest : List ℕ) → ReadsCustom b name contents rest → IsTail rest b
 custom_tail b name contents rest (mid, t, bs) = tail_trans (bytes_tail bs) (text_tail t)

@@ -1,8 +1,7 @@
 -- Sizes made of the sizes of marks are the sizes made of the sizes of the types, as they are kept.
-use Rattle.std.proofs.Common.{◌≡◌, ℕ, zero, suc, ◌+◌, List, [], ◌∷◌, map, fold, refl, sym, subst, get_or}
+use Rattle.std.proofs.Common.{rules, arith, ◌≡◌, ℕ, zero, suc, ◌+◌, List, [], ◌∷◌, map, fold, refl, sym, subst, get_or}
 use Rattle.std.proofs.Common.{Option, Some, None}
-use Rattle.smith_syntax.specs.Entries.{DefValType, primitive_type, record_type, variant_type, list_type, Signature}
-use Rattle.smith_syntax.specs.Entries.{tuple_type, flags_type, enum_type, option_type, result_type}
+use Rattle.smith_syntax.specs.Entries.{DefValType, Signature, list_type, option_type, record_type, result_type, tuple_type, variant_type}
 use Rattle.smith_syntax.specs.Marks.{sizes}
 use Rattle.smith_syntax.specs.Members.{members, signature_members}
 use Rattle.smith_syntax.specs.Sizes.{capped, defined_size, maybe_size, signature_size, summed, value_size}
@@ -39,22 +38,16 @@ module _ (named : List Id) (ms : List Mark) (fs : List Facts) (t : TiedTypes nam
       (capped_both a b (value_size (sizes ms) v) (value_size (fact_sizes fs) v) e (same_value v))
 
   same_summed : (vs : List ComponentValType) → capped (summed (sizes ms) vs) ≡ capped (summed (fact_sizes fs) vs)
-  same_summed vs =
-      capped_both (fold (λ a x. a + x) 0 (map (value_size (sizes ms)) vs)) (fold (λ a x. a + x) 0 (map (value_size (fact_sizes fs)) vs)) 1 1
-      (same_sum vs 0 0 refl) refl
+  same_summed vs = search (rules, capped_both, fold, map, same_sum)
 
   pub same_defined : (d : DefValType) → capped (defined_size (sizes ms) d) ≡ capped (defined_size (fact_sizes fs) d)
-  same_defined (primitive_type p) = refl
   same_defined (record_type rs) = same_summed (members (record_type rs))
   same_defined (variant_type cs) = same_summed (members (variant_type cs))
   same_defined (list_type v) = same_value v
   same_defined (tuple_type vs) = same_summed vs
-  same_defined (flags_type ns) = refl
-  same_defined (enum_type ns) = refl
   same_defined (option_type v) = same_value v
-  same_defined (result_type ok err) =
-      capped_both (maybe_size (sizes ms) ok) (maybe_size (fact_sizes fs) ok) (maybe_size (sizes ms) err) (maybe_size (fact_sizes fs) err)
-      (same_maybe ok) (same_maybe err)
+  same_defined (result_type ok err) = grind (arith, capped_both, same_maybe)
+  same_defined _ = refl
 
   pub same_signature : (s : Signature) → capped (signature_size (sizes ms) s) ≡ capped (signature_size (fact_sizes fs) s)
   same_signature s = same_summed (signature_members s)

@@ -37,44 +37,16 @@ use Rattle.smith_tree.proofs.ValidEntries.{import_asked, valid_entry}
 -- Nothing is left of a section at its end.
 
 none_left : (c l : Counts) → Fits c (with_type_count l 0) → Fits c l
-none_left c l f = record {
-  types = omega (arith, f.types);
-  functions = omega (arith, f.functions);
-  modules = omega (arith, f.modules);
-  components = omega (arith, f.components);
-  instances = omega (arith, f.instances);
-  exports = omega (arith, f.exports);
-}
+none_left c l f = grind arith
 
 no_canons : (c l : Counts) → Fits c (canons_left [] l) → Fits c l
-no_canons c l f = record {
-  types = omega (arith, f.types);
-  functions = omega (arith, f.functions);
-  modules = omega (arith, f.modules);
-  components = omega (arith, f.components);
-  instances = omega (arith, f.instances);
-  exports = omega (arith, f.exports);
-}
+no_canons c l f = grind arith
 
 no_imports : (c l : Counts) → Fits c (imports_left [] l) → Fits c l
-no_imports c l f = record {
-  types = omega (arith, f.types);
-  functions = omega (arith, f.functions);
-  modules = omega (arith, f.modules);
-  components = omega (arith, f.components);
-  instances = omega (arith, f.instances);
-  exports = omega (arith, f.exports);
-}
+no_imports c l f = grind arith
 
 no_exports : (c l : Counts) → Fits c (exports_left [] l) → Fits c l
-no_exports c l f = record {
-  types = omega (arith, f.types);
-  functions = omega (arith, f.functions);
-  modules = omega (arith, f.modules);
-  components = omega (arith, f.components);
-  instances = omega (arith, f.instances);
-  exports = omega (arith, f.exports);
-}
+no_exports c l f = grind arith
 
 -- exports in a row
 valid_both : (rs qs : List ComponentTypeRef) (outer : List FactScope) (b : Body) → ValidExports everything rs outer b
@@ -105,9 +77,7 @@ module _ (config : Config) where
       → FormedTypes ts plain around → AllByRecursion (EntryLimits config) ts → OfferedTypes ts marked m
       → ValidEntries everything ts outer b
       × Stands config (es ++ ts) fs (fold (with_type_entry marked) m ts) (after_entries ts outer b) l
-  entries [] es fs marked outer plain around m b l s k w h o =
-      let here = stands_left config m b (with_type_count l 0) s l (none_left b.counts l s.counts) in
-      (tt, subst (λ x. Stands config x fs m b l) (sym (append-nil es)) here)
+  entries [] es fs marked outer plain around m b l s k w h o = grind (arith, stands_left, none_left, Stands, append-nil)
   entries (e ∷ ts) es fs marked outer plain around m b l s k w h o =
       let more = with_type_entry marked m e in
       let next = with_facts b (facts e b.own outer ∷ []) in
@@ -158,11 +128,7 @@ module _ (config : Config) where
       → ValidExports everything (map (λ t. to.Func t) (option_to_list f)) outer b
       × Stands config es (fs ++ option_to_list f) (with_exports_entry m (map (λ t. to.Func t) (option_to_list f)))
       (fold (after_export outer) b (map (λ t. to.Func t) (option_to_list f))) (more_exports l n)
-  export_one None n es fs m b l outer h free roomy = (
-    tt,
-    subst (λ x. Stands config es x m b (more_exports l n)) (sym (append-nil fs))
-        (stands_left config m b (more_exports l (suc n)) h (more_exports l n) (fewer_exports config b.counts l n h.counts)),
-  )
+  export_one None n es fs m b l outer h free roomy = grind (arith, Stands, more_exports, append-nil, stands_left, suc, fewer_exports)
   export_one (Some t) n es fs m b l outer h free roomy =
       let here = stands_export config t n es fs m b l outer h free.0 roomy in (
         (free_refers (exported b) b.own.types t free.0, stands_small config _ _ (more_exports l n) here, tt),

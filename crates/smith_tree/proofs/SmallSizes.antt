@@ -6,8 +6,7 @@ use Rattle.std.proofs.lemmas.List.{length-append, length-map}
 use Rattle.std.specs.List.{AllByRecursion}
 use Rattle.smith_format.specs.declared.config.Config.{Config}
 use Rattle.smith_input.proofs.Lists.{one_at_most}
-use Rattle.smith_syntax.specs.Entries.{Case, DefValType, primitive_type, record_type, variant_type, list_type, Signature}
-use Rattle.smith_syntax.specs.Entries.{tuple_type, flags_type, enum_type, option_type, result_type}
+use Rattle.smith_syntax.specs.Entries.{Case, DefValType, Signature, record_type, tuple_type, variant_type}
 use Rattle.smith_syntax.specs.Marked.{Marked}
 use Rattle.smith_syntax.specs.Marks.{is_small, small_size}
 use Rattle.smith_syntax.specs.Members.{members, signature_members}
@@ -88,26 +87,13 @@ case_members (c ∷ cs) =
 
 pub small_defined : (types : List ℕ) (d : DefValType) (own : Scope) → FormedDefined d own
     → AllByRecursion (λ v. value_size types v ≤ small_size) (members d) → SmallDefined types d
-small_defined types (primitive_type p) own few h = tt
-small_defined types (record_type fs) own few h =
-    small_summed types (members (record_type fs)) h (omega (arith, few.3, length-map fs (λ f. f.1)))
+small_defined types (record_type fs) own few h = grind (arith, small_summed, length-map)
 small_defined types (variant_type cs) own few h = small_summed types (members (variant_type cs)) h (omega (arith, few.3, case_members cs))
-small_defined types (list_type v) own few h = tt
 small_defined types (tuple_type vs) own few h = small_summed types vs h few.2
-small_defined types (flags_type ns) own few h = tt
-small_defined types (enum_type ns) own few h = tt
-small_defined types (option_type v) own few h = tt
-small_defined types (result_type ok err) own few h = tt
+small_defined types _ own few h = tt
 
 pub few_members : (s : Signature) → length s.params ≤ 16 → length (signature_members s) ≤ 17
-few_members s few =
-    omega (
-      arith,
-      few,
-      length-append (map (λ p. p.1) s.params) (option_to_list s.result),
-      length-map s.params (λ p. p.1),
-      one_at_most s.result,
-    )
+few_members s few = grind (arith, length-append, map, option_to_list, length-map, one_at_most)
 
 pub small_function : (types : List ℕ) (s : Signature) → length s.params ≤ 16
     → AllByRecursion (λ v. value_size types v ≤ small_size) (signature_members s) → summed types (signature_members s) < size_bound

@@ -54,28 +54,12 @@ module _ (config : Config) where
     pub stands_small : IsSmall everything b
     stands_small = (
       s.small,
-      record {
-        types = omega (arith, s.counts.types);
-        functions = omega (arith, s.counts.functions);
-        modules = omega (arith, s.counts.modules);
-        components = omega (arith, s.counts.components);
-        instances = omega (arith, s.counts.instances);
-        imports = s.imports;
-        exports = omega (arith, s.counts.exports);
-      },
+      grind arith,
     )
 
     -- the same with as many left
     pub stands_left : (other : Counts) → Fits b.counts other → Stands config es fs m b other
-    stands_left other h = record {
-      tied = s.tied;
-      small = s.small;
-      counts = h;
-      imports = s.imports;
-      sized = s.sized;
-      types = s.types;
-      functions = s.functions;
-    }
+    stands_left other h = grind arith
 
   tied_counted : (m : Marked) (b : Body) (c : Counts) → TiedBody config m b → TiedBody config m (record b { counts = c })
   tied_counted m b c t = record { keeps = t.keeps; own = t.own; size = t.size; refers = t.refers; exported = t.exported }
@@ -87,14 +71,7 @@ module _ (config : Config) where
   stands_module es fs m b l s = record {
     tied = tied_counted m b (with_module b.counts) s.tied;
     small = s.small;
-    counts = record {
-      types = omega (arith, s.counts.types);
-      functions = omega (arith, s.counts.functions);
-      modules = omega (arith, s.counts.modules);
-      components = omega (arith, s.counts.components);
-      instances = omega (arith, s.counts.instances);
-      exports = omega (arith, s.counts.exports);
-    };
+    counts = grind arith;
     imports = s.imports;
     sized = omega (arith, s.sized);
     types = s.types;
@@ -106,14 +83,7 @@ module _ (config : Config) where
   stands_component es fs m b l s = record {
     tied = tied_counted m b (with_component b.counts) s.tied;
     small = s.small;
-    counts = record {
-      types = omega (arith, s.counts.types);
-      functions = omega (arith, s.counts.functions);
-      modules = omega (arith, s.counts.modules);
-      components = omega (arith, s.counts.components);
-      instances = omega (arith, s.counts.instances);
-      exports = omega (arith, s.counts.exports);
-    };
+    counts = grind arith;
     imports = s.imports;
     sized = omega (arith, s.sized);
     types = s.types;
@@ -123,14 +93,7 @@ module _ (config : Config) where
   -- A core type and a type, if there are n more.
 
   one_type : (c l : Counts) (n : ℕ) → Fits c (with_type_count l (suc n)) → Fits (with_type_count c 1) (with_type_count l n)
-  one_type c l n f = record {
-    types = omega (arith, f.types);
-    functions = f.functions;
-    modules = f.modules;
-    components = f.components;
-    instances = f.instances;
-    exports = f.exports;
-  }
+  one_type c l n f = grind arith
 
   pub stands_core : (e : CoreEntry) (n : ℕ) (es : List Entry) (fs : List ℕ) (m : Marked) (b : Body) (l : Counts)
       → Stands config es fs m b (with_type_count l (suc n)) → CoreLimits config e
@@ -178,14 +141,7 @@ module _ (config : Config) where
   stands_canon c n s m b l h w = record {
     tied = tied_counted m b (body_after_canon b c).counts h.tied;
     small = h.small;
-    counts = record {
-      types = h.counts.types;
-      functions = omega (arith, h.counts.functions);
-      modules = h.counts.modules;
-      components = h.counts.components;
-      instances = h.counts.instances;
-      exports = h.counts.exports;
-    };
+    counts = grind arith;
     imports = h.imports;
     sized = h.sized;
     types = subst (λ es. FitFunctions es b.own.types) (sym (canon_types c s)) h.types;

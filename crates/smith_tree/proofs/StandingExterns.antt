@@ -48,57 +48,20 @@ module _ (config : Config) where
       → b.counts.imports + 1 ≤ b.size + b.counts.modules + b.counts.components + b.counts.instances
       → (AllByRecursion (IsFreeAt b.own.types) (function_of r))
       × (Added b.counts b.size (fact_reference b.own.core_types (fact_sizes b.own.types) r) (after_import outer b r).counts)
-  import_adds es m b outer plain (to.Module i) t e h w typed o k = (tt, record { imports = refl; sized = omega (arith, k) })
   import_adds es m b outer plain (to.Func i) t e h w typed o k =
       let one = imported_function (names_of b.exports) es m.marks b.own.types i w.0 h t.own.types
       (subst (λ l. slice_get l i ≡ Some w.0) e w.1) w.2 o.0 o.1 in
       ((one.free, tt), record { imports = refl; sized = omega (arith, k, one.size) })
   import_adds es m b outer plain (to.TypeEq i) t e h w typed o k = cc
-  import_adds es m b outer plain (to.Component i) t e h w typed o k = (tt, record { imports = refl; sized = omega (arith, k) })
-  import_adds es m b outer plain (to.Instance i) t e h w typed o k = (tt, record { imports = refl; sized = omega (arith, k) })
+  import_adds es m b outer plain _ t e h w typed o k = (tt, record { imports = refl; sized = omega (arith, k) })
 
   import_fits : (r : ComponentTypeRef) (name : List ℕ) (is : List ImportEntry) (c l : Counts)
       → Fits c (imports_left (record { name = name; to = r } ∷ is) l) → Fits (with_import_count c r) (imports_left is l)
-  import_fits (to.Module i) name is c l f = record {
-    types = f.types;
-    functions = f.functions;
-    modules = omega (arith, f.modules);
-    components = f.components;
-    instances = f.instances;
-    exports = f.exports;
-  }
-  import_fits (to.Func i) name is c l f = record {
-    types = f.types;
-    functions = omega (arith, f.functions);
-    modules = f.modules;
-    components = f.components;
-    instances = f.instances;
-    exports = f.exports;
-  }
-  import_fits (to.TypeEq i) name is c l f = record {
-    types = f.types;
-    functions = f.functions;
-    modules = f.modules;
-    components = f.components;
-    instances = f.instances;
-    exports = f.exports;
-  }
-  import_fits (to.Component i) name is c l f = record {
-    types = f.types;
-    functions = f.functions;
-    modules = f.modules;
-    components = omega (arith, f.components);
-    instances = f.instances;
-    exports = f.exports;
-  }
-  import_fits (to.Instance i) name is c l f = record {
-    types = f.types;
-    functions = f.functions;
-    modules = f.modules;
-    components = f.components;
-    instances = omega (arith, f.instances);
-    exports = f.exports;
-  }
+  import_fits (to.Module i) name is c l f = grind arith
+  import_fits (to.Func i) name is c l f = grind arith
+  import_fits (to.TypeEq i) name is c l f = grind arith
+  import_fits (to.Component i) name is c l f = grind arith
+  import_fits (to.Instance i) name is c l f = grind arith
 
   pub stands_import : (i : ImportEntry) (is : List ImportEntry) (s : Spaces) (m : Marked) (b : Body) (l : Counts) (outer : List FactScope)
       (plain : Scope) → Stands config s.types s.functions m b (imports_left (i ∷ is) l) → plain.types ≡ s.types → FormedImport plain i
@@ -121,24 +84,10 @@ module _ (config : Config) where
   -- An export of a function, if there are n more.
 
   export_fits : (c l : Counts) (t n : ℕ) → Fits c (more_exports l (suc n)) → Fits (with_type_count (with_export_count c (to.Func t)) 0) (more_exports l n)
-  export_fits c l t n f = record {
-    types = omega (arith, f.types);
-    functions = omega (arith, f.functions);
-    modules = f.modules;
-    components = f.components;
-    instances = f.instances;
-    exports = omega (arith, f.exports);
-  }
+  export_fits c l t n f = grind arith
 
   pub fewer_exports : (c l : Counts) (n : ℕ) → Fits c (more_exports l (suc n)) → Fits c (more_exports l n)
-  fewer_exports c l n f = record {
-    types = f.types;
-    functions = omega (arith, f.functions);
-    modules = f.modules;
-    components = f.components;
-    instances = f.instances;
-    exports = omega (arith, f.exports);
-  }
+  fewer_exports c l n f = grind arith
 
   pub stands_export : (t n : ℕ) (es : List Entry) (fs : List ℕ) (m : Marked) (b : Body) (l : Counts) (outer : List FactScope)
       → Stands config es fs m b (more_exports l (suc n)) → IsFreeAt b.own.types t → has_room m false ≡ true

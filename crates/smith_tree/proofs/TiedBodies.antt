@@ -113,13 +113,7 @@ module _ (config : Config) where
       → TiedBody config (with_import m r) (after_import outer b r)
   tied_import m b outer r t = record {
     keeps = t.keeps;
-    own = record {
-      types = t.own.types;
-      entries = t.own.entries;
-      core_types = t.own.core_types;
-      core_sizes = t.own.core_sizes;
-      cores = t.own.cores;
-    };
+    own = grind arith;
     size = same_size m b r t;
     refers = t.refers;
     exported = t.exported;

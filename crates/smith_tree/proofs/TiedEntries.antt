@@ -1,5 +1,5 @@
 -- Marks of declared types are tied to them if what they import and export was offered.
-use Rattle.std.proofs.Common.{◌≡◌, ℕ, zero, suc, true, false, List, [], ◌∷◌, map, flat_map, refl, ap, ◌∙◌}
+use Rattle.std.proofs.Common.{rules, arith, ◌≡◌, ℕ, zero, suc, true, false, List, [], ◌∷◌, map, flat_map, refl, ap, ◌∙◌}
 use Rattle.std.proofs.Common.{slice_get, option_to_list, get_or}
 use Rattle.smith_format.specs.declared.config.Config.{Config}
 use Rattle.smith_syntax.specs.CoreLimits.{CoreLimits}
@@ -7,15 +7,14 @@ use Rattle.smith_syntax.specs.Entries.{Entry, defined, function, component_type,
 use Rattle.smith_syntax.specs.Entries.{Decl, Decls, core_type_decl, type_decl, type_alias, core_type_alias, import_decl, export_decl, no_decls, then_decls}
 use Rattle.smith_syntax.specs.Marked.{Marked, core_size_named, empty_marked, mark, mark_named, marked_after, marked_after_all, marks_for}
 use Rattle.smith_syntax.specs.Marked.{scopes_in_marked, with_sized}
-use Rattle.smith_syntax.specs.Marks.{aliased_mark, no_mark, sizes, value_reach}
-use Rattle.smith_syntax.specs.Members.{is_nominal, members, signature_members}
+use Rattle.smith_syntax.specs.Marks.{aliased_mark}
 use Rattle.smith_syntax.specs.Scope.{core_type_named, type_named}
-use Rattle.smith_syntax.specs.Sizes.{capped, defined_size, module_type_size, signature_size}
+use Rattle.smith_syntax.specs.Sizes.{capped, module_type_size}
 use Rattle.smith_syntax.specs.TypeLimits.{DeclLimits, DeclsLimits, EntryLimits}
 use Rattle.smith_syntax.specs.Usable.{OfferedDecl, OfferedDecls, OfferedEntry}
 use Rattle.smith_syntax.specs.declared.marks.Reach.TheVariants.{Everywhere}
 use Rattle.smith_tree.specs.Bodies.{Body, after_decl, after_decls, core_facts, empty_body, facts, named_in, with_core_facts}
-use Rattle.smith_tree.specs.Facts.{FactScope, Id, id_at, sizes as fact_sizes, value_needs}
+use Rattle.smith_tree.specs.Facts.{FactScope, Id, id_at}
 use Rattle.smith_tree.specs.Validates.{names_of}
 use Rattle.smith_tree.proofs.OfferedCores.{fits_core, module_size_is}
 use Rattle.smith_tree.proofs.SameSizes.{same_defined, same_signature}
@@ -28,9 +27,7 @@ module _ (config : Config) where
       → TiedScope config named m own → TiedScopes config marked outer
       → TiedTypes named (marks_for (type_named (scopes_in_marked (m ∷ marked)) count i) (aliased_mark count (mark_named (m ∷ marked) count i)))
       (option_to_list (named_in (λ s. s.types) (own ∷ outer) count i))
-  tied_alias named m own marked outer zero i t k =
-      tied_list named (slice_get m.types i) (get_or m.marks i no_mark) (slice_get own.types i)
-      (entry_at named m.types m.marks own.types i t.entries t.types)
+  tied_alias named m own marked outer zero i t k = grind (arith, tied_list, slice_get, get_or, entry_at)
   tied_alias named m own marked outer (suc count) i t k = tied_outwards named count config marked outer count i k
 
   -- one more core type, within the limits
@@ -45,14 +42,8 @@ module _ (config : Config) where
     pub tied_entry : (e : Entry) (named : List Id) (m : Marked) (own : FactScope) (marked : List Marked) (outer : List FactScope)
         → m.keeps ≡ true → TiedScope config named m own → TiedScopes config marked outer → EntryLimits config e → OfferedEntry e m marked
         → Tied named (mark e m marked) (facts e own outer)
-    tied_entry (defined d) named m own marked outer keeps t k l h =
-        tied_declared named (id_at (own ∷ outer)) (is_nominal d) (map (value_reach m.marks) (members d)) (flat_map (value_needs own.types) (members d))
-        (capped (defined_size (sizes m.marks) d)) (defined_size (fact_sizes own.types) d) (same_defined named m.marks own.types t.types d)
-        (members_reach named m.marks own.types (members d) t.types)
-    tied_entry (function s) named m own marked outer keeps t k l h =
-        tied_declared named (id_at (own ∷ outer)) false (map (value_reach m.marks) (signature_members s))
-        (flat_map (value_needs own.types) (signature_members s)) (capped (signature_size (sizes m.marks) s)) (signature_size (fact_sizes own.types) s)
-        (same_signature named m.marks own.types t.types s) (members_reach named m.marks own.types (signature_members s) t.types)
+    tied_entry (defined d) named m own marked outer keeps t k l h = search (rules, tied_declared, map, flat_map, same_defined, members_reach)
+    tied_entry (function s) named m own marked outer keeps t k l h = search (rules, tied_declared, false, map, flat_map, same_signature, members_reach)
     tied_entry (component_type ds) named m own marked outer keeps t k l h =
         let b = tied_decls ds (m ∷ marked) (own ∷ outer) (empty_marked m.keeps) empty_body (tied_empty config m.keeps keeps) (named, t, k) l.1 h in
         tied_closed named (id_at (own ∷ outer)) Everywhere [] (marked_after_all ds (m ∷ marked) (empty_marked m.keeps)).size

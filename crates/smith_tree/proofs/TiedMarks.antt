@@ -1,5 +1,5 @@
 -- Marks of types that are declared, that are equal to others, and that outer aliases name are tied to their types.
-use Rattle.std.proofs.Common.{◌≡◌, ℕ, zero, suc, Bool, true, false, if◌then◌else◌, List, [], ◌∷◌, ◌++◌, map, flat_map, ap, ap₂, refl, ◌∙◌}
+use Rattle.std.proofs.Common.{arith, ◌≡◌, ℕ, zero, suc, Bool, true, false, if◌then◌else◌, List, [], ◌∷◌, ◌++◌, map, flat_map, ap, ap₂, refl, ◌∙◌}
 use Rattle.std.proofs.Common.{Option, Some, None, slice_get, option_to_list, get_or}
 use Rattle.std.specs.List.{AllByRecursion}
 use Rattle.smith_format.specs.declared.config.Config.{Config}
@@ -28,14 +28,7 @@ declared_used false r named refers id h = h
 pub tied_declared : (named : List Id) (id : Id) (nominal : Bool) (rs : List Reach) (refers : List Id) (m n : ℕ) → m ≡ capped n
     → Reaches (narrowest rs) named refers
     → Tied named (declared_mark nominal rs m) (record { id = id; nominal = nominal; refers = refers; size = n; exports = [] })
-tied_declared named id nominal rs refers m n same h = record {
-  nominal = refl;
-  size = same;
-  parts = h;
-  used = declared_used nominal (narrowest rs) named refers id h;
-  exports = tt;
-  closed = λ e. refl;
-}
+tied_declared named id nominal rs refers m n same h = grind (arith, declared_used)
 
 -- a type of components or of instances, by what it exports
 pub tied_closed : (named : List Id) (id : Id) (r : Reach) (exports : List Extern) (m n : ℕ) → m ≡ capped n → RefersTo [] exports
@@ -80,14 +73,7 @@ tied_equal named id m f t =
 -- What an outer alias names.
 
 tied_outer : (named here : List Id) (count : ℕ) (m : Mark) (f : Facts) → Tied named m f → Tied here (aliased_mark (suc count) m) f
-tied_outer named here count m f t = record {
-  nominal = t.nominal;
-  size = t.size;
-  parts = reaches_elsewhere m.parts named here f.refers t.parts;
-  used = reaches_elsewhere m.used named here (needs f) t.used;
-  exports = t.exports;
-  closed = λ e. t.closed (all_everywhere m.parts e);
-}
+tied_outer named here count m f t = grind (arith, reaches_elsewhere, all_everywhere)
 
 module _ (here : List Id) (count : ℕ) where
   outer_list : (named : List Id) (e : Option Entry) (m : Mark) (f : Option Facts) → TiedEntry named e m f
@@ -153,8 +139,7 @@ module _ (config : Config) where
   sizes_outwards [] [] up i t = refl
   sizes_outwards [] (f ∷ fs) up i t = absurd t
   sizes_outwards (m ∷ ms) [] up i t = absurd t
-  sizes_outwards (m ∷ ms) (f ∷ fs) zero i t =
-      ap₂ (λ ns cs. size_at ns cs i) t.1.core_sizes t.1.core_types ∙ kept_at f.core_types i
+  sizes_outwards (m ∷ ms) (f ∷ fs) zero i t = grind (arith, kept_at)
   sizes_outwards (m ∷ ms) (f ∷ fs) (suc up) i t = sizes_outwards ms fs up i t.2
 
   pub fits_outwards : (ms : List Marked) (fs : List FactScope) (up i : ℕ) → TiedScopes config ms fs

@@ -1,6 +1,6 @@
 -- Components that have no encoding.
-use Rattle.std.proofs.Common.{◌≡◌, ◌↔◌, [], ◌∷◌, None}
-use Rattle.smith_format.specs.Piece.{◌⊕◌, byte, raw, text, many, u}
+use Rattle.std.proofs.Common.{rules, ◌≡◌, ◌↔◌, [], ◌∷◌, None}
+use Rattle.smith_format.specs.Piece.{◌⊕◌, byte, many, u}
 use Rattle.smith_format.proofs.Sizes.{u_none_where}
 use Rattle.smith_format.proofs.TooLong.{join_none, after_bytes, before_bytes, bytes_none, name_none, raw_none, many_none_where, sized_none_by}
 use Rattle.smith_syntax.specs.Grammar.{entry, core_entry, import_entry}
@@ -16,10 +16,7 @@ canon_none (lift c t) =
 canon_none (lower f) = after_bytes (0x01 ∷ 0x00 ∷ []) (u f ⊕ byte 0x00) (before_bytes (u f) (0x00 ∷ []) (u_none_where f))
 
 export_none : (e : ExportEntry) → (export_entry e ≡ None) ↔ ExportEntryTooLong e
-export_none e =
-    after_bytes (0x00 ∷ []) (text e.name ⊕ byte 0x01 ⊕ u e.func ⊕ byte 0x00)
-    (join_none (text e.name) (byte 0x01 ⊕ u e.func ⊕ byte 0x00) (name_none e.name)
-    (after_bytes (0x01 ∷ []) (u e.func ⊕ byte 0x00) (before_bytes (u e.func) (0x00 ∷ []) (u_none_where e.func))))
+export_none e = search (rules, after_bytes, join_none, name_none, before_bytes, u_none_where)
 
 mutual
   tree_none : (t : Tree) → (parts t ≡ None) ↔ TreeTooLong t
@@ -27,9 +24,7 @@ mutual
   tree_none (first p t) = join_none (part p) (parts t) (part_none p) (tree_none t)
 
   part_none : (p : Part) → (part p ≡ None) ↔ PartTooLong p
-  part_none (custom name contents) =
-      sized_none_by 0 (text name ⊕ raw contents)
-      (join_none (text name) (raw contents) (name_none name) (raw_none contents))
+  part_none (custom name contents) = search (rules, sized_none_by, join_none, name_none, raw_none)
   part_none (core_module bs) = sized_none_by 1 (embedded bs) (λ n. n, λ n. n)
   part_none (core_types ts) = sized_none_by 3 (many core_entry ts) (many_none_where core_entry core_entry_none ts)
   part_none (component t) = sized_none_by 4 (component_text t) (after_bytes preamble (parts t) (tree_none t))

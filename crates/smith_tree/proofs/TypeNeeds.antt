@@ -1,5 +1,5 @@
 -- What types need of fuel and what they take of it, how large they are, and where they may be declared.
-use Rattle.std.proofs.Common.{ℕ, zero, suc, ◌+◌, ◌≤◌, List, [], ◌∷◌, arith}
+use Rattle.std.proofs.Common.{ℕ, zero, suc, ◌+◌, ◌≤◌, [], ◌∷◌, arith}
 use Rattle.std.specs.Prelude.{◌<◌, max}
 use Rattle.smith_format.specs.declared.config.Config.{Config}
 use Rattle.smith_syntax.specs.Entries.{Entry, Decl, Decls, type_alias, core_type_alias, import_decl, export_decl, no_decls, then_decls}
@@ -42,10 +42,7 @@ mutual
   pub decl_costs : (d : Decl) → decl_cost d ≤ max 1 (decl_need d)
   decl_costs (core_type_decl t k) = core_costs t
   decl_costs (type_decl e) = costs e
-  decl_costs (type_alias count i k) = omega arith
-  decl_costs (core_type_alias count i k) = omega arith
-  decl_costs (import_decl name u r) = omega arith
-  decl_costs (export_decl name u r) = omega arith
+  decl_costs _ = omega arith
 
   decls_costs : (ds : Decls) → decls_cost ds ≤ decls_need ds
   decls_costs no_decls = omega arith
@@ -66,12 +63,8 @@ mutual
   sizes (instance_type ds) = omega (arith, decls_sizes ds)
 
   decl_sizes : (d : Decl) → decl_size d ≤ decl_cost d
-  decl_sizes (core_type_decl t k) = omega arith
   decl_sizes (type_decl e) = sizes e
-  decl_sizes (type_alias count i k) = omega arith
-  decl_sizes (core_type_alias count i k) = omega arith
-  decl_sizes (import_decl name u r) = omega arith
-  decl_sizes (export_decl name u r) = omega arith
+  decl_sizes _ = omega arith
 
   decls_sizes : (ds : Decls) → decls_size ds ≤ decls_cost ds
   decls_sizes no_decls = omega arith
@@ -118,12 +111,8 @@ mutual
 
   decl_within : (d : Decl) (config : Config) (scopes : ℕ) → DeclNests d config (suc scopes)
       → scopes + decl_declaring d ≤ max scopes config.max_nesting_depth
-  decl_within (core_type_decl t k) config scopes n = omega arith
   decl_within (type_decl e) config scopes n = omega (arith, n.0, declared_within e config (suc scopes) n.1)
-  decl_within (type_alias count i k) config scopes n = omega arith
-  decl_within (core_type_alias count i k) config scopes n = omega arith
-  decl_within (import_decl name u r) config scopes n = omega arith
-  decl_within (export_decl name u r) config scopes n = omega arith
+  decl_within _ config scopes n = omega arith
 
   decls_within : (ds : Decls) (config : Config) (scopes : ℕ) → DeclsNest ds config (suc scopes)
       → scopes + decls_declaring ds ≤ max scopes config.max_nesting_depth
@@ -139,12 +128,8 @@ mutual
 
   decl_nests : (d : Decl) (config : Config) (scopes : ℕ) → scopes + decl_declaring d ≤ max scopes config.max_nesting_depth
       → DeclNests d config (suc scopes)
-  decl_nests (core_type_decl t k) config scopes h = tt
   decl_nests (type_decl e) config scopes h = (omega (arith, h), nests_within e config (suc scopes) (omega (arith, h)))
-  decl_nests (type_alias count i k) config scopes h = tt
-  decl_nests (core_type_alias count i k) config scopes h = tt
-  decl_nests (import_decl name u r) config scopes h = tt
-  decl_nests (export_decl name u r) config scopes h = tt
+  decl_nests _ config scopes h = tt
 
   decls_nest : (ds : Decls) (config : Config) (scopes : ℕ) → scopes + decls_declaring ds ≤ max scopes config.max_nesting_depth
       → DeclsNest ds config (suc scopes)

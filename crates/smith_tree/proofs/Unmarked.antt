@@ -1,6 +1,6 @@
 -- Scopes of which nothing is kept: the scopes of components that need not validate, and of types in them. Each type of
 -- a kind is offered there.
-use Rattle.std.proofs.Common.{◌≡◌, ℕ, ◌+◌, Bool, true, false, ◌&&◌, cond, if◌then◌else◌, List, [], ◌∷◌, fold, refl, ap, ◌∙◌}
+use Rattle.std.proofs.Common.{arith, ◌≡◌, ℕ, ◌+◌, Bool, true, false, ◌&&◌, cond, if◌then◌else◌, List, [], ◌∷◌, fold, refl, ap, ◌∙◌}
 use Rattle.std.specs.Prelude.{◌||◌, nat_le}
 use Rattle.smith_format.specs.declared.config.Config.{Config}
 use Rattle.smith_syntax.specs.Entries.{Entry, CoreEntry, ImportEntry, Decl, core_type_decl, type_decl, type_alias, core_type_alias}
@@ -16,7 +16,7 @@ use Rattle.smith_syntax.specs.declared.marks.Mark.{Mark}
 use Rattle.smith_tree.specs.Marking.{exported_reference, marked_after_part, marked_after_parts, marked_from, marked_inner, with_core_entry, with_export_entries}
 use Rattle.smith_tree.specs.Marking.{with_exports_entry, with_import_entry, with_type_entry}
 use Rattle.smith_tree.specs.Spaces.{Spaces, after_export, after_part, no_spaces}
-use Rattle.smith_tree.specs.Tree.{ExportEntry, Tree, Part, ends, first, custom, core_module, core_types, component, types, canons, imports, exports}
+use Rattle.smith_tree.specs.Tree.{ExportEntry, Tree, Part, ends, first, core_types, types, imports, exports}
 use Rattle.smith_tree.specs.TypeOffers.{has_room, ref_places}
 use Rattle.smith_tree.specs.declared.choices.RefKind.TheVariants as ref
 use Rattle.smith_tree.specs.Unmarked.{KeepsNothing}
@@ -39,13 +39,8 @@ nothing_after (core_type_decl t k) outer own b = record { keeps = b.keeps; marks
 nothing_after (type_decl e) outer own b = record { keeps = b.keeps; marks = still own.keeps own.marks _ b.keeps b.marks; size = b.size }
 nothing_after (type_alias count i k) outer own b = record { keeps = b.keeps; marks = still own.keeps own.marks _ b.keeps b.marks; size = b.size }
 nothing_after (core_type_alias count i k) outer own b = record { keeps = b.keeps; marks = b.marks; size = b.size }
-nothing_after (import_decl name n r) outer own b =
-    record { keeps = b.keeps; marks = b.marks; size = same_size own.keeps (capped (own.size + reference_size own r)) own.size b.keeps b.size }
-nothing_after (export_decl name n r) outer own b = record {
-  keeps = b.keeps;
-  marks = still own.keeps own.marks _ b.keeps b.marks;
-  size = same_size own.keeps (capped (own.size + reference_size own r)) own.size b.keeps b.size;
-}
+nothing_after (import_decl name n r) outer own b = grind (arith, same_size)
+nothing_after (export_decl name n r) outer own b = grind (arith, still, same_size)
 
 -- after a part
 
@@ -56,12 +51,10 @@ nothing_after_core : (own : Marked) (e : CoreEntry) → KeepsNothing own → Kee
 nothing_after_core own e b = record { keeps = b.keeps; marks = b.marks; size = b.size }
 
 pub nothing_after_import : (own : Marked) (i : ImportEntry) → KeepsNothing own → KeepsNothing (with_import_entry own i)
-nothing_after_import own i b =
-    record { keeps = b.keeps; marks = b.marks; size = same_size own.keeps (capped (own.size + reference_size own i.to)) own.size b.keeps b.size }
+nothing_after_import own i b = grind (arith, same_size)
 
 nothing_after_export : (own : Marked) (r : ComponentTypeRef) → KeepsNothing own → KeepsNothing (with_export own r)
-nothing_after_export own r b =
-    record { keeps = b.keeps; marks = b.marks; size = same_size own.keeps (capped (own.size + reference_size own r)) own.size b.keeps b.size }
+nothing_after_export own r b = grind (arith, same_size)
 
 nothing_after_all : {A : Type 0} (step : Marked → A → Marked) → ((own : Marked) (x : A) → KeepsNothing own → KeepsNothing (step own x)) → (own : Marked)
     (xs : List A) → KeepsNothing own → KeepsNothing (fold step own xs)
@@ -78,14 +71,11 @@ nothing_after_exports (e ∷ es) s own b =
     (nothing_after_reference own (exported_reference s.functions e) b)
 
 pub nothing_after_part : (p : Part) (s : Spaces) (outer : List Marked) (own : Marked) → KeepsNothing own → KeepsNothing (marked_after_part p s outer own)
-nothing_after_part (custom name contents) s outer own b = b
-nothing_after_part (core_module text) s outer own b = b
 nothing_after_part (core_types ts) s outer own b = nothing_after_all with_core_entry nothing_after_core own ts b
-nothing_after_part (component t) s outer own b = b
 nothing_after_part (types ts) s outer own b = nothing_after_all (with_type_entry outer) (nothing_after_type outer) own ts b
-nothing_after_part (canons fs) s outer own b = b
 nothing_after_part (imports is) s outer own b = nothing_after_all with_import_entry nothing_after_import own is b
 nothing_after_part (exports es) s outer own b = nothing_after_exports es s own b
+nothing_after_part _ s outer own b = b
 
 -- in a component
 pub nothing_after_parts : (t : Tree) (s : Spaces) (outer : List Marked) (own : Marked) → KeepsNothing own
@@ -95,8 +85,7 @@ nothing_after_parts (first p t) s outer own b =
     nothing_after_parts t (after_part s p) outer (marked_after_part p s outer own) (nothing_after_part p s outer own b)
 
 pub nothing_in : (config : Config) (outer : List Tree) (inner : Tree) → config.must_validate ≡ false → KeepsNothing (marked_inner config outer inner)
-nothing_in config outer inner off =
-    nothing_after_parts inner no_spaces (marked_from config outer []) (empty_marked config.must_validate) (empty_keeps_nothing config.must_validate off)
+nothing_in config outer inner off = grind (arith, nothing_after_parts, empty_keeps_nothing)
 
 -- what a scope with such marks has after a declaration, apart from them
 pub scope_after : (outer : List Marked) (own : Marked) (d : Decl) → scope_in (marked_after d outer own) ≡ after_decl (scopes_in_marked outer) (scope_in own) d
@@ -128,21 +117,17 @@ module _ (own : Marked) (nothing : KeepsNothing own) where
   values_unmarked = unmarked_places is_value is_defined (λ t. and_true (is_defined t)) own.types own.marks nothing.marks
 
   pub functions_unmarked : (for_import : Bool) → ref_places own for_import ref.Func ≡ places is_func 0 own.types
-  functions_unmarked true =
-      unmarked_places is_importable is_func (λ t. and_true (is_func t && true) ∙ and_true (is_func t)) own.types own.marks nothing.marks
-  functions_unmarked false =
-      unmarked_places is_exportable is_func (λ t. and_true (is_func t && true) ∙ and_true (is_func t)) own.types own.marks nothing.marks
+  functions_unmarked true = grind (arith, unmarked_places, and_true)
+  functions_unmarked false = grind (arith, unmarked_places, and_true)
 
   pub equals_unmarked : (for_import : Bool) → ref_places own for_import ref.TypeEq ≡ places (λ t. true) 0 own.types
   equals_unmarked for_import = unmarked_places is_equatable (λ t. true) (λ t. refl) own.types own.marks nothing.marks
 
   pub components_unmarked : (for_import : Bool) → ref_places own for_import ref.Component ≡ places is_component 0 own.types
-  components_unmarked for_import =
-      unmarked_places is_small_component is_component (λ t. and_true (is_component t)) own.types own.marks nothing.marks
+  components_unmarked for_import = grind (arith, unmarked_places, and_true)
 
   pub instances_unmarked : (for_import : Bool) → ref_places own for_import ref.Instance ≡ places is_instance 0 own.types
-  instances_unmarked for_import =
-      unmarked_places is_small_instance is_instance (λ t. and_true (is_instance t)) own.types own.marks nothing.marks
+  instances_unmarked for_import = grind (arith, unmarked_places, and_true)
 
   pub room_unmarked : (for_type_def : Bool) → has_room own for_type_def ≡ true
   room_unmarked true = refl

@@ -56,8 +56,7 @@ module _ (config : Config) where
     valid_decl : (d : Decl) (asks : Bool) (marked : List Marked) (outer : List FactScope) (m : Marked) (b : Body) (plain : Scope) (around : List Scope)
         → TiedBody config m b → TiedScopes config marked outer → FormedDeclaration d plain around → DeclLimits config d → OfferedDecl d marked m
         → ValidDecl everything asks d outer b
-    valid_decl (core_type_decl e kept) asks marked outer m b plain around t k w l h =
-        valid_core config (entries_of b.own.core_types) e (limits_of config b.own.core_types t.own.cores) l
+    valid_decl (core_type_decl e kept) asks marked outer m b plain around t k w l h = grind (arith, valid_core, entries_of, limits_of)
     valid_decl (type_decl e) asks marked outer m b plain around t k w l h =
         valid_entry e (names_of b.exports) m b.own marked outer plain around t.keeps t.own k w l h
     valid_decl (type_alias count i kept) asks marked outer m b plain around t k w l h = tt

@@ -77,11 +77,8 @@ externs_at own outer (to.Instance i) = flat_map (λ f. f.exports) (option_to_lis
 
 -- the type that an export adds
 abbrev pub exported_facts : FactScope → List FactScope → ComponentTypeRef → List Facts
-exported_facts own outer (to.Module i) = []
-exported_facts own outer (to.Func i) = []
 exported_facts own outer (to.TypeEq i) = map (equal_facts (id_at (own ∷ outer))) (option_to_list (slice_get own.types i))
-exported_facts own outer (to.Component i) = []
-exported_facts own outer (to.Instance i) = []
+exported_facts own outer _ = []
 
 -- after an import or an export
 abbrev pub after_import : List FactScope → Body → ComponentTypeRef → Body

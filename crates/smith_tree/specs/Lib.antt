@@ -22,6 +22,7 @@ pub mod Spaces
 pub mod TooLong
 pub mod Tree
 pub mod TreeCode
+pub mod Turns
 pub mod TypeNeeds
 pub mod TypeOffers
 pub mod TypeScript

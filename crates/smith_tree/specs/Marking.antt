@@ -8,7 +8,7 @@ use Rattle.smith_syntax.specs.Sizes.{capped, module_type_size}
 use Rattle.smith_syntax.specs.declared.deftype.ComponentTypeRef.{ComponentTypeRef}
 use Rattle.smith_syntax.specs.declared.deftype.ComponentTypeRef.TheVariants as to
 use Rattle.smith_tree.specs.Spaces.{Spaces, after_export, after_part, no_spaces}
-use Rattle.smith_tree.specs.Tree.{ExportEntry, Tree, Part, ends, first, custom, core_module, core_types, component, types, canons, imports, exports}
+use Rattle.smith_tree.specs.Tree.{ExportEntry, Tree, Part, ends, first, core_types, types, imports, exports}
 
 -- Entries of sections, one by one.
 
@@ -34,14 +34,11 @@ with_export_entries (e ∷ es) s own = with_export_entries es (after_export s e)
 
 -- after a part, in the scopes around the component
 abbrev pub marked_after_part : Part → Spaces → List Marked → Marked → Marked
-marked_after_part (custom name contents) s outer own = own
-marked_after_part (core_module text) s outer own = own
 marked_after_part (core_types ts) s outer own = fold with_core_entry own ts
-marked_after_part (component t) s outer own = own
 marked_after_part (types ts) s outer own = fold (with_type_entry outer) own ts
-marked_after_part (canons fs) s outer own = own
 marked_after_part (imports is) s outer own = fold with_import_entry own is
 marked_after_part (exports es) s outer own = with_export_entries es s own
+marked_after_part _ s outer own = own
 
 -- after parts
 abbrev pub marked_after_parts : Tree → Spaces → List Marked → Marked → Marked

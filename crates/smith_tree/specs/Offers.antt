@@ -2,7 +2,7 @@
 use Rattle.std.specs.Prelude.{ℕ, Bool, true, false, List, [], ◌∷◌, if◌then◌else◌, length, nat_lt, Some, None, slice_get}
 use Rattle.smith_input.specs.Offers.{offers_of}
 use Rattle.smith_format.specs.declared.config.Config.{Config}
-use Rattle.smith_syntax.specs.Entries.{Entry, defined, function, component_type, instance_type, ImportEntry}
+use Rattle.smith_syntax.specs.Entries.{Entry, function, ImportEntry}
 use Rattle.smith_syntax.specs.Flat.{is_scalar}
 use Rattle.smith_syntax.specs.Places.{places}
 use Rattle.smith_tree.specs.TypeOffers.{has_room, ref_kinds}
@@ -44,10 +44,8 @@ import_kinds config stack is = ref_kinds config (marked_with_imports config stac
 
 -- Is it a function type that flattens?
 abbrev pub is_scalar_entry : Entry → Bool
-is_scalar_entry (defined t) = false
 is_scalar_entry (function s) = is_scalar s
-is_scalar_entry (component_type ds) = false
-is_scalar_entry (instance_type ds) = false
+is_scalar_entry _ = false
 
 -- Is the type of that index one?
 abbrev pub is_scalar_type : List Entry → ℕ → Bool

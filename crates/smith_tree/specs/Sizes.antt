@@ -4,25 +4,19 @@ use Rattle.std.specs.List.{filter, flat_map}
 use Rattle.smith_format.specs.declared.types.ExportKind.{ExportKind}
 use Rattle.smith_format.specs.declared.types.ExportKind.TheVariants as kind
 use Rattle.smith_syntax.specs.Entries.{CoreEntry, core_func, core_module, ModuleDecl}
-use Rattle.smith_syntax.specs.Entries.{DefValType, primitive_type, record_type, variant_type, list_type}
-use Rattle.smith_syntax.specs.Entries.{tuple_type, flags_type, enum_type, option_type, result_type}
+use Rattle.smith_syntax.specs.Entries.{DefValType, record_type, tuple_type, variant_type}
 use Rattle.smith_syntax.specs.ModuleTypes.{is_of_kind, module_import_of}
 pub use Rattle.smith_syntax.specs.Members.{signature_members}
 pub use Rattle.smith_syntax.specs.Sizes.{core_size, defined_size, entity_size, function_size, function_size_at, maybe_size, module_size, signature_size}
 pub use Rattle.smith_syntax.specs.Sizes.{size_bound, summed, value_size}
 use Rattle.smith_tree.specs.Demands.{Demands, Keeps}
 
--- The bound is asked of types with any number of members.
+-- The bound is asked of types with any number of member types.
 abbrev pub SmallDefined : List ℕ → DefValType → Type 0
-SmallDefined types (primitive_type p) = Unit {0}
 SmallDefined types (record_type fs) = defined_size types (record_type fs) < size_bound
 SmallDefined types (variant_type cs) = defined_size types (variant_type cs) < size_bound
-SmallDefined types (list_type v) = Unit {0}
 SmallDefined types (tuple_type vs) = defined_size types (tuple_type vs) < size_bound
-SmallDefined types (flags_type ns) = Unit {0}
-SmallDefined types (enum_type ns) = Unit {0}
-SmallDefined types (option_type v) = Unit {0}
-SmallDefined types (result_type ok err) = Unit {0}
+SmallDefined types _ = Unit {0}
 
 -- how many imports of a module type are of a kind
 abbrev pub imported_of_kind : ExportKind → List ModuleDecl → ℕ

@@ -50,32 +50,20 @@ parts_of (first p t) = p ∷ parts_of t
 -- the function, module, component or instance that an import is of, by the index of its type
 
 abbrev pub function_of : ComponentTypeRef → List ℕ
-function_of (to.Module i) = []
 function_of (to.Func i) = i ∷ []
-function_of (to.TypeEq i) = []
-function_of (to.Component i) = []
-function_of (to.Instance i) = []
+function_of _ = []
 
 abbrev pub module_of : ComponentTypeRef → List ℕ
 module_of (to.Module i) = i ∷ []
-module_of (to.Func i) = []
-module_of (to.TypeEq i) = []
-module_of (to.Component i) = []
-module_of (to.Instance i) = []
+module_of _ = []
 
 abbrev pub component_of : ComponentTypeRef → List ℕ
-component_of (to.Module i) = []
-component_of (to.Func i) = []
-component_of (to.TypeEq i) = []
 component_of (to.Component i) = i ∷ []
-component_of (to.Instance i) = []
+component_of _ = []
 
 abbrev pub instance_of : ComponentTypeRef → List ℕ
-instance_of (to.Module i) = []
-instance_of (to.Func i) = []
-instance_of (to.TypeEq i) = []
-instance_of (to.Component i) = []
 instance_of (to.Instance i) = i ∷ []
+instance_of _ = []
 
 -- What a part holds by itself: the names of custom sections, core modules, components, imports, canonical functions and exports.
 pub record Held : Type 0 where
@@ -186,14 +174,9 @@ abbrev mutual
   depth_by below (first p t) = max (depth_by_in below p) (depth_by below t)
 
   pub depth_by_in : (List Entry → ℕ) → Part → ℕ
-  depth_by_in below (custom name contents) = 1
-  depth_by_in below (core_module text) = 1
-  depth_by_in below (core_types ts) = 1
   depth_by_in below (component t) = depth_by below t + 1
   depth_by_in below (types ts) = below ts + 1
-  depth_by_in below (canons fs) = 1
-  depth_by_in below (imports is) = 1
-  depth_by_in below (exports es) = 1
+  depth_by_in below _ = 1
 
 -- components alone
 abbrev pub no_depth : List Entry → ℕ

@@ -2,7 +2,7 @@
 use Rattle.std.specs.Prelude.{ℕ, suc, zero, ◌+◌, max}
 use Rattle.smith_tree.specs.CoreTypeNeeds.{core_cost, core_need}
 use Rattle.smith_syntax.specs.Entries.{Entry, defined, function, component_type, instance_type}
-use Rattle.smith_syntax.specs.Entries.{Decl, Decls, core_type_decl, type_decl, type_alias, core_type_alias, import_decl, export_decl, no_decls, then_decls}
+use Rattle.smith_syntax.specs.Entries.{Decl, Decls, core_type_decl, type_decl, no_decls, then_decls}
 use Rattle.smith_syntax.specs.WellFormed.{size, defined_size}
 
 -- How much fuel a type takes: one for itself, and one for each turn of its loops. What is in it takes its own.
@@ -16,10 +16,7 @@ abbrev mutual
   pub decl_cost : Decl → ℕ
   decl_cost (core_type_decl t k) = core_cost t
   decl_cost (type_decl e) = cost e
-  decl_cost (type_alias count i k) = 0
-  decl_cost (core_type_alias count i k) = 0
-  decl_cost (import_decl name n r) = 0
-  decl_cost (export_decl name n r) = 0
+  decl_cost _ = 0
 
   pub decls_cost : Decls → ℕ
   decls_cost no_decls = 0
@@ -40,10 +37,7 @@ abbrev mutual
   pub decl_need : Decl → ℕ
   decl_need (core_type_decl t k) = core_need t
   decl_need (type_decl e) = need e
-  decl_need (type_alias count i k) = 0
-  decl_need (core_type_alias count i k) = 0
-  decl_need (import_decl name n r) = 0
-  decl_need (export_decl name n r) = 0
+  decl_need _ = 0
 
   -- A turn needs two, what it declares one less than there is, and the later ones what that leaves.
   pub decls_need : Decls → ℕ
@@ -59,12 +53,8 @@ abbrev mutual
   declaring (instance_type ds) = decls_declaring ds
 
   pub decl_declaring : Decl → ℕ
-  decl_declaring (core_type_decl t k) = 0
   decl_declaring (type_decl e) = max 2 (declaring e + 1)
-  decl_declaring (type_alias count i k) = 0
-  decl_declaring (core_type_alias count i k) = 0
-  decl_declaring (import_decl name n r) = 0
-  decl_declaring (export_decl name n r) = 0
+  decl_declaring _ = 0
 
   pub decls_declaring : Decls → ℕ
   decls_declaring no_decls = 0

@@ -176,7 +176,7 @@ pub fn defined_kinds() -> &'static [DefinedKind]
 }
 
 /// What a turn of the builder may do if input is left, in the order of its choice.
-pub fn item_choices(
+pub(crate) fn item_choices(
     with_finish: bool,
     with_module: bool,
     with_component: bool,

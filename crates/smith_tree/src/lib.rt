@@ -10,12 +10,14 @@ mod entries;
 mod flat;
 pub mod laws;
 mod totals;
+mod turns;
 
 pub use choices::{
     CanonItem, DeclarationItem, DefinedKind, Item, ModuleItem, RefKind, TypeKind, canon_offers,
-    declaration_offers, defined_kinds, item_choices, kind_offers, module_item_offers, primitives,
-    ref_offers, type_kinds,
+    declaration_offers, defined_kinds, kind_offers, module_item_offers, primitives, ref_offers,
+    type_kinds,
 };
 pub use entries::{CustomSection, Export, Func};
 pub use flat::{flat_primitive, lifted};
 pub use totals::RefTotals;
+pub use turns::{Turn, turn_items};

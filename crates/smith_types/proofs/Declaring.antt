@@ -1,21 +1,19 @@
 -- The scopes as declarations are made: what is in one of them, and how the last one grows.
-use Rattle.std.proofs.Common.{◌≡◌, ℕ, ◌+◌, ◌<◌, ◌≤◌, Bool, true, false, cond, inl, inr, append_assoc, List, [], ◌∷◌, ◌++◌, length, map, reverse}
+use Rattle.std.proofs.Common.{◌≡◌, ℕ, ◌+◌, ◌<◌, ◌≤◌, Bool, true, List, [], ◌∷◌, ◌++◌, length, map, reverse}
 use Rattle.std.proofs.Common.{refl, sym, ap, ◌∙◌, subst, arith}
 use Rattle.std.proofs.Math.ListN.{drop}
 use Rattle.std.proofs.lemmas.List.{reverse-append, reverse-reverse, length-append, length-map}
 use Rattle.std.proofs.lemmas.Option.{slice_get-map, slice_get_within}
 use Rattle.std.proofs.lemmas.Bool.Decides.{nat_tests}
 use Rattle.std.specs.Option.{option_to_list}
-use Rattle.std.specs.Prelude.{get_or, nat_lt, Option, Some, option_map, slice_get}
+use Rattle.std.specs.Prelude.{get_or, Option, Some, option_map, slice_get}
 use Rattle.smith_input.specs.Choices.{ReadsAmong}
 use Rattle.smith_input.specs.Reading.{Reads}
-use Rattle.smith_input.proofs.Rests.{drop_past}
 use Rattle.smith_syntax.specs.Entries.{CoreEntry, Entry, FullDecl, Kept, core_type_decl, import_decl, keeps_type, keeps_core_type, type_alias, core_type_alias}
 use Rattle.smith_syntax.specs.Entries.{type_decl}
 use Rattle.smith_syntax.specs.Marked.{Marked, core_size_named, empty_marked, exported_mark, first_marked, mark, mark_named, marks_for, more_kept, scope_in}
 use Rattle.smith_syntax.specs.Marked.{scopes_in_marked, with_export, with_exported, with_import, with_marked, with_sized}
 use Rattle.smith_syntax.specs.Marks.{aliased_mark, equal_mark, no_mark}
-use Rattle.smith_syntax.specs.Places.{places}
 use Rattle.smith_syntax.specs.Scope.{core_type_named, exported_type, type_named}
 use Rattle.smith_syntax.specs.Shown.{full_type, shown_type, shown_core}
 use Rattle.smith_syntax.specs.ShownDecls.{full_alias}
@@ -33,73 +31,55 @@ use Rattle.std.specs.declared.alloc.Global.{Global}
 use Rattle.std.specs.declared.rc.Rc.{Rc}
 use Rattle.smith_scopes.specs.Scopes.{AddsMarked, AddsSized, Changes, Contents, inward_marked, last_of, outer_marked, own_marked, scope_at, shown_marked}
 use Rattle.smith_scopes.proofs.Marking.{core_size_found, grown_export, grown_import, length-changed, mark_found, marked_alike, sized_alike}
-use Rattle.smith_scopes.proofs.Places.{place_stands, get_either, get_left, get_right}
-use Rattle.smith_scopes.proofs.Plain.{rest_from}
+use Rattle.smith_scopes.proofs.Places.{place_stands}
 use Rattle.smith_scopes.proofs.Stack.{GrownMarked, grown_marked, grown_sized, keeps_last, length-inward_marked, marked_at, opened_outer, own_marked_last}
 use Rattle.smith_scopes.proofs.Stack.{split_marked}
-use Rattle.smith_tree.specs.TypeOffers.{is_occupied, occupied, numbered, aliases_of}
-use Rattle.smith_tree.proofs.Aliases.{length-numbered, numbered_here, numbered_stands}
+use Rattle.smith_tree.specs.TypeOffers.{is_occupied, occupied, aliases_of}
+use Rattle.smith_tree.proofs.Aliases.{length-aliases}
+use Rattle.smith_types.proofs.ReadsDeclarations.{alias_core_type_at, alias_type_at}
 use Rattle.smith_types.specs.Declarations.{ReadsAlias}
-use Rattle.smith_types.proofs.ReadsDeclarations.{named_in}
 use Rattle.smith_types.specs.MakingTypes.{Declares, IsAliased, IsMarkOf, SameOuter}
 
 -- what an outer alias may name is counted, and is where the choice says
 module _ (scopes : List Contents) (b mid rest : List ℕ) (count place : ℕ) (choice : ReadsAmong (occupied (inward_marked scopes)) b count mid)
     (within : count < length scopes)
     (reads : Reads (length (scope_at scopes count).types + length (scope_at scopes count).core_types) mid place rest) where
-  abbrev as_types : List FullDecl
-  as_types = numbered (λ i e. type_alias count i (keeps_type e)) 0 (map shown_type (scope_at scopes count).types)
-
-  abbrev as_core_types : List FullDecl
-  as_core_types = numbered (λ i e. core_type_alias count i (keeps_core_type e)) 0 (map shown_core (scope_at scopes count).core_types)
-
-  types_counted : length as_types ≡ length (scope_at scopes count).types
-  types_counted = length-numbered {B = FullDecl} (λ i e. type_alias count i (keeps_type e)) 0 (map shown_type (scope_at scopes count).types)
-      ∙ length-map (scope_at scopes count).types shown_type
-
-  core_types_counted : length as_core_types ≡ length (scope_at scopes count).core_types
-  core_types_counted =
-      length-numbered {B = FullDecl} (λ i e. core_type_alias count i (keeps_core_type e)) 0 (map shown_core (scope_at scopes count).core_types)
-      ∙ length-map (scope_at scopes count).core_types shown_core
-
-  alias_total : length (scope_at scopes count).types + length (scope_at scopes count).core_types ≡ length
-      (aliases_of count (shown_marked (scope_at scopes count)))
-  alias_total = omega (arith, types_counted, core_types_counted, length-append as_types as_core_types)
-
   alias_at : (d : FullDecl) → slice_get (aliases_of count (shown_marked (scope_at scopes count))) place ≡ Some d → ReadsAlias (inward_marked scopes) b d rest
-  alias_at d at = record {
-    count = count;
-    mid = mid;
-    scope = shown_marked (scope_at scopes count);
-    choice = choice;
-    stands = marked_at scopes count within;
-    names = record { place = place; reads = subst (λ n. Reads n mid place rest) alias_total reads; named = at };
-  }
+  alias_at d at =
+      let s = scope_at scopes count in
+      let total : length s.types + length s.core_types ≡ length (aliases_of count (shown_marked s)) =
+      omega (arith, length-aliases count (shown_marked s), length-map s.types shown_type, length-map s.core_types shown_core) in
+      record {
+        count = count;
+        mid = mid;
+        scope = shown_marked s;
+        choice = choice;
+        stands = marked_at scopes count within;
+        names = record { place = place; reads = subst (λ n. Reads n mid place rest) total reads; named = at };
+      }
 
   pub type_alias_read : (ty : DefType) → slice_get (scope_at scopes count).types place ≡ Some ty
       → ReadsAlias (inward_marked scopes) b (type_alias count place (keeps_type (shown_type ty))) rest
   type_alias_read ty at =
       let s = scope_at scopes count in
-      let here = numbered_here {B = FullDecl} (λ i e. type_alias count i (keeps_type e)) (map shown_type s.types) place (shown_type ty)
-      (slice_get-map shown_type s.types place ∙ ap (option_map shown_type) at) in
-      alias_at (type_alias count place (keeps_type (shown_type ty))) (get_left as_types as_core_types place (slice_get_within as_types place _ here) ∙ here)
+      alias_at (type_alias count place (keeps_type (shown_type ty)))
+      (alias_type_at count (shown_marked s) place (shown_type ty) (slice_get-map shown_type s.types place ∙ ap (option_map shown_type) at))
 
   pub core_type_alias_read : (i : ℕ) (ty : CoreType) → place ≡ length (scope_at scopes count).types + i
       → slice_get (scope_at scopes count).core_types i ≡ Some ty
       → ReadsAlias (inward_marked scopes) b (core_type_alias count i (keeps_core_type (shown_core ty))) rest
   core_type_alias_read i ty past at =
       let s = scope_at scopes count in
-      alias_at (core_type_alias count i (keeps_core_type (shown_core ty)))
-      (get_right as_types as_core_types place i (omega (arith, past, types_counted))
-      ∙ numbered_here {B = FullDecl} (λ j e. core_type_alias count j (keeps_core_type e)) (map shown_core s.core_types) i (shown_core ty)
-      (slice_get-map shown_core s.core_types i ∙ ap (option_map shown_core) at))
+      let place_is : place ≡ length (map shown_type s.types) + i = omega (arith, past, length-map s.types shown_type) in
+      alias_at (core_type_alias count i (keeps_core_type (shown_core ty))) (ap (slice_get (aliases_of count (shown_marked s))) place_is
+      ∙ alias_core_type_at count (shown_marked s) i (shown_core ty) (slice_get-map shown_core s.core_types i ∙ ap (option_map shown_core) at))
 
 -- a scope that an alias may be chosen from is there, and is not empty
 pub record IsAmong (scopes : List Contents) (count : ℕ) : Type 0 where
   pub within : count < length scopes
   pub some : 0 < length (scope_at scopes count).types + length (scope_at scopes count).core_types
 
-pub among_occupied : (scopes : List Contents) (count k : ℕ) → slice_get (occupied (inward_marked scopes)) k ≡ Some count → IsAmong scopes count
+among_occupied : (scopes : List Contents) (count k : ℕ) → slice_get (occupied (inward_marked scopes)) k ≡ Some count → IsAmong scopes count
 among_occupied scopes count k h =
     let p = place_stands is_occupied (inward_marked scopes) k count h in
     let w : count < length scopes = omega (arith, slice_get_within (inward_marked scopes) count p.0 p.1, length-inward_marked scopes) in
@@ -110,51 +90,20 @@ among_occupied scopes count k h =
     let lt : 0 < length (map shown_type s.types) + length (map shown_core s.core_types) = grind (arith, nat_tests) in
     record { within = w; some = omega (arith, lt, length-map s.types shown_type, length-map s.core_types shown_core) }
 
--- one scope after another
-module _ (scopes : List Contents) (i : ℕ) (h : i < length scopes) (so_far whole : List ℕ)
-    (here : so_far ++ places is_occupied i (drop i (inward_marked scopes)) ≡ whole) where
-  abbrev scope : Contents
-  scope = scope_at scopes i
-
-  abbrev later : List ℕ
-  later = places is_occupied (i + 1) (drop (i + 1) (inward_marked scopes))
-
-  from_here : (b : Bool) → is_occupied (shown_marked scope) ≡ b → so_far ++ cond b (i ∷ later) later ≡ whole
-  from_here b e = ap (λ c. so_far ++ cond c (i ∷ later) later) (sym e)
-      ∙ (ap (λ ss. so_far ++ places is_occupied i ss) (sym (rest_from (inward_marked scopes) i (shown_marked scope) (marked_at scopes i h))) ∙ here)
-
-  pub occupied_here : 0 < length scope.types + length scope.core_types → (next : List ℕ) → next ≡ so_far ++ i ∷ [] → next ++ later ≡ whole
-  occupied_here some next e =
-      let lt : 0 < length (map shown_type scope.types) + length (map shown_core scope.core_types) =
-      omega (arith, some, length-map scope.types shown_type, length-map scope.core_types shown_core) in
-      let t : is_occupied (shown_marked scope) ≡ true = grind (arith, nat_tests) in
-      ap (λ xs. xs ++ later) e ∙ (append_assoc so_far (i ∷ []) later ∙ from_here true t)
-
-  pub empty_here : length scope.types + length scope.core_types ≡ 0 → so_far ++ later ≡ whole
-  empty_here none =
-      let lt : length (map shown_type scope.types) + length (map shown_core scope.core_types) ≡ 0 =
-      omega (arith, none, length-map scope.types shown_type, length-map scope.core_types shown_core) in
-      let f : is_occupied (shown_marked scope) ≡ false = ap (nat_lt 0) lt in
-      from_here false f
-
-pub occupied_past : (scopes : List Contents) (i : ℕ) → length scopes ≤ i
-    → [] ++ places is_occupied i (drop i (inward_marked scopes)) ≡ occupied (inward_marked scopes)
-    → occupied (inward_marked scopes) ≡ []
-occupied_past scopes i h e = sym e ∙ ap (places is_occupied i) (drop_past (inward_marked scopes) i (omega (arith, h, length-inward_marked scopes)))
-
 -- a choice among the counts of the scopes that have an entry
 pub scope_chosen : (scopes : List Contents) (counts b mid : List ℕ) (count : ℕ) → counts ≡ occupied (inward_marked scopes)
     → (k : ℕ) × Reads (length counts) b k mid × (slice_get counts k ≡ Some count) → ReadsAmong (occupied (inward_marked scopes)) b count mid
 scope_chosen scopes counts b mid count e (k, r, at) = record
     { place = k; reads = subst (λ cs. Reads (length cs) b k mid) e r; named = ap (λ cs. slice_get cs k) (sym e) ∙ at }
 
+pub chosen_among : (scopes : List Contents) {counts b mid : List ℕ} {count : ℕ} → counts ≡ occupied (inward_marked scopes)
+    → (k : ℕ) × Reads (length counts) b k mid × (slice_get counts k ≡ Some count) → IsAmong scopes count
+chosen_among scopes e h = let r = scope_chosen scopes _ _ _ _ e h in among_occupied scopes _ r.place r.named
+
 -- the same, also if there is none
 pub occupied_count : (scopes : List Marked) → length (occupied (first_marked scopes ∷ drop 1 scopes)) ≡ length (occupied scopes)
 occupied_count [] = refl
 occupied_count (s ∷ ss) = refl
-
-pub scopes_count : (scopes : List Contents) → 1 ≤ length scopes → length (own_marked scopes ∷ outer_marked scopes) ≡ length scopes
-scopes_count scopes h = sym (ap length (split_marked scopes (omega (arith, h)))) ∙ length-inward_marked scopes
 
 pub length-last_types : (scopes : List Contents) → length (last_of scopes).types ≡ length (own_marked scopes).types
 length-last_types scopes = sym (ap (λ s. length s.types) (own_marked_last scopes) ∙ length-map (last_of scopes).types shown_type)
@@ -218,19 +167,7 @@ module _ (old new : List Contents) where
       → Declares old new (import_decl name url r)
   import_declared name url r c = let g = grown_import old new r c in record { own = g.own; outer = g.outer }
 
--- An outer alias keeps what it names.
-
-pub alias_kept : (scopes : List Marked) (b : List ℕ) (d : FullDecl) (rest : List ℕ) → ReadsAlias scopes b d rest → IsAliased scopes d
-alias_kept scopes b d rest r =
-    elim (get_either (numbered (λ i e. type_alias r.count i (keeps_type e)) 0 r.scope.types)
-    (numbered (λ i e. core_type_alias r.count i (keeps_core_type e)) 0 r.scope.core_types) r.names.place d r.names.named) [
-      | inl p ↦ (let t = numbered_stands (λ i e. type_alias r.count i (keeps_type e)) r.scope.types p.0 d p.1 in
-          subst (λ z. IsAliased scopes z) (sym t.2)
-          (t.0, refl, named_in (λ s. s.types) scopes r.count p.0 r.scope t.0 r.stands t.1))
-      | inr p ↦ (let t = numbered_stands (λ i e. core_type_alias r.count i (keeps_core_type e)) r.scope.core_types p.0 d p.1 in
-          subst (λ z. IsAliased scopes z) (sym t.2)
-          (t.0, refl, named_in (λ s. s.core_types) scopes r.count p.0 r.scope t.0 r.stands t.1))
-    ]
+-- An outer alias adds what it names.
 
 module _ (old new : List Contents) (a : Alias) (within : a.count < length old) (kept : IsAliased (inward_marked old) (full_alias a)) where
   abbrev own : Marked

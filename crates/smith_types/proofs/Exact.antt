@@ -5,43 +5,33 @@ use Rattle.std.specs.Prelude.{max, ◌↔◌}
 use Rattle.smith_input.specs.Script.{AreBytes}
 use Rattle.smith_input.proofs.Utf8Bytes.{joined_bytes}
 use Rattle.smith_format.specs.declared.config.Config.{Config}
-use Rattle.smith_syntax.specs.Entries.{DefValType, primitive_type, record_type, variant_type, list_type, tuple_type, flags_type, enum_type, option_type}
-use Rattle.smith_syntax.specs.Entries.{result_type}
-use Rattle.smith_syntax.specs.Entries.{Entry, defined, function, component_type, instance_type, plain}
-use Rattle.smith_syntax.specs.Entries.{Decl, Decls, core_type_decl, type_decl, type_alias, core_type_alias, import_decl, export_decl, no_decls, then_decls}
+use Rattle.smith_syntax.specs.Entries.{DefValType, record_type, variant_type, tuple_type, flags_type, enum_type, Entry, defined, function, component_type}
+use Rattle.smith_syntax.specs.Entries.{instance_type, plain, Decl, Decls, core_type_decl, type_decl, no_decls, then_decls}
 use Rattle.smith_syntax.specs.Marked.{Marked, scope_in, scopes_in_marked}
 use Rattle.smith_syntax.specs.Scope.{Scope, empty_scope, after_decl}
 use Rattle.smith_syntax.specs.Usable.{OfferedEntry}
 use Rattle.smith_syntax.specs.TypeLimits.{EntryLimits}
 use Rattle.smith_syntax.specs.WellFormed.{FormedDefined, FormedEntry, FormedDeclaration, FormedDeclarations}
 use Rattle.smith_types.specs.Made.{MadeWith}
-use Rattle.smith_tree.specs.TypeNeeds.{need_of, need, decl_need, decls_need, declaring}
+use Rattle.smith_tree.specs.TypeNeeds.{need_of, need, decl_need, decls_need, declaring, decl_cost}
 use Rattle.smith_tree.proofs.TypeNeeds.{Nests, DeclNests, DeclsNest, declared_within, nests_within}
-use Rattle.smith_tree.specs.TypeNeeds.{decl_cost}
 use Rattle.smith_tree.specs.ReadableTypes.{IsReadableType}
 use Rattle.smith_types.specs.Sayable.{Fit, IsSayable, Lasts, LastsDecl, LastsDecls, LastsDefined}
 use Rattle.smith_tree.specs.TypeScript.{script_type}
-use Rattle.smith_types.proofs.MadeFormed.{made_formed, made_offered}
-use Rattle.smith_types.proofs.MadeReadable.{made_readable}
-use Rattle.smith_types.proofs.MadeTypes.{made_limits}
-use Rattle.smith_types.proofs.Needs.{made_needs}
-use Rattle.smith_types.proofs.ScopedScript.{type_read}
-use Rattle.smith_types.proofs.ScriptBytes.{type_bytes}
+use Rattle.smith_types.proofs.MadeFits.{made_fits}
+use Rattle.smith_types.proofs.ScopedScript.{type_bytes, type_read}
 
 at_least : (n fuel : ℕ) → 1 ≤ n → need_of n ≤ fuel → n + 2 ≤ fuel
 at_least zero fuel h l = absurd (omega arith)
 at_least (suc n) fuel h l = l
 
 defined_lasts : (t : DefValType) (own : Scope) (fuel : ℕ) → FormedDefined t own → need (defined t) ≤ fuel → LastsDefined fuel t
-defined_lasts (primitive_type p) own fuel f n = tt
 defined_lasts (record_type fs) own fuel f n = at_least (length fs) fuel f.2 n
 defined_lasts (variant_type cs) own fuel f n = at_least (length cs) fuel f.2 n
-defined_lasts (list_type v) own fuel f n = tt
 defined_lasts (tuple_type vs) own fuel f n = at_least (length vs) fuel f.1 n
 defined_lasts (flags_type ns) own fuel f n = at_least (length ns) fuel f.1 n
 defined_lasts (enum_type ns) own fuel f n = at_least (length ns) fuel f.1 n
-defined_lasts (option_type v) own fuel f n = tt
-defined_lasts (result_type ok err) own fuel f n = tt
+defined_lasts t own fuel f n = tt
 
 turn : (a b c fuel : ℕ) → max 2 (max (a + 1) (b + c + 1)) ≤ fuel → (2 ≤ fuel) × (a ≤ fuel - 1) × (b ≤ fuel - 1 - c)
 turn a b c fuel h = (omega (arith, h), omega (arith, h), omega (arith, h))
@@ -63,10 +53,7 @@ mutual
       → DeclNests d config scopes → decl_need d ≤ fuel → LastsDecl d config scopes fuel
   decl_lasts (core_type_decl t k) config own outer scopes fuel f x n = n
   decl_lasts (type_decl e) config own outer scopes fuel f x n = (x.0, lasts e config own outer scopes fuel f x.1 n)
-  decl_lasts (type_alias count i k) config own outer scopes fuel f x n = tt
-  decl_lasts (core_type_alias count i k) config own outer scopes fuel f x n = tt
-  decl_lasts (import_decl name u r) config own outer scopes fuel f x n = tt
-  decl_lasts (export_decl name u r) config own outer scopes fuel f x n = tt
+  decl_lasts d config own outer scopes fuel f x n = tt
 
   decls_last : (ds : Decls) (config : Config) (own : Scope) (outer : List Scope) (scopes fuel : ℕ) → FormedDeclarations ds own outer
       → DeclsNest ds config scopes → decls_need ds ≤ fuel → LastsDecls ds config scopes fuel
@@ -89,16 +76,9 @@ pub exact : (config : Config) (own : Marked) (outer : List Marked) (fuel : ℕ) 
     → ((bytes rest : List ℕ) × AreBytes bytes × MadeWith config own outer fuel bytes e rest) ↔ Asked config own outer fuel e
 exact config own outer fuel e deep fit few = (
   λ (bytes, rest, all, made).
-      let m = made.made in
-      let r = made_needs config own outer bytes fuel made.full rest made.left m in
-      subst (Asked config own outer fuel) (sym made.shown) (
-        made_formed config own outer bytes fuel made.full rest made.left m,
-        made_offered config own outer bytes fuel made.full rest made.left m,
-        made_limits config own outer bytes fuel made.full rest made.left m,
-        made_readable config own outer bytes fuel made.full rest made.left m,
-        r.enough,
-        declared_within (plain made.full) config (length (own ∷ outer)) r.nests,
-      ),
+      let f = made_fits made.made in
+      subst (Asked config own outer fuel) (sym made.shown)
+      (f.is.0, f.is.1, f.limits, f.readable, f.takes.enough, declared_within (plain made.full) config (length (own ∷ outer)) f.nests),
   λ (f, o, m, names, n, x).
       let sayable : IsSayable config own outer fuel e = record {
         formed = f;

@@ -1,6 +1,6 @@
 -- Signatures that are read so that they flatten to a core function type.
-use Rattle.std.proofs.Common.{◌≡◌, ℕ, ◌+◌, ◌<◌, ◌≤◌, List, [], ◌∷◌, ◌++◌, map, length, drop, get_or, refl, sym, ap, ◌∙◌, subst, arith}
-use Rattle.std.proofs.Common.{append_assoc, append-nil, lit<, Some}
+use Rattle.std.proofs.Common.{◌≡◌, ℕ, ◌+◌, ◌<◌, ◌≤◌, List, [], ◌∷◌, ◌++◌, map, length, drop, get_or, refl, sym, ap, ◌∙◌, subst, arith, append_assoc, append-nil}
+use Rattle.std.proofs.Common.{lit<, Some}
 use Rattle.std.proofs.lemmas.List.{map-append, drop_all, drop_more}
 use Rattle.std.specs.List.{AllByRecursion}
 use Rattle.std.specs.Option.{option_to_list}
@@ -12,9 +12,9 @@ use Rattle.smith_input.specs.Kebab.{Kebab}
 use Rattle.smith_input.specs.NameScript.{AreReachable}
 use Rattle.smith_input.specs.Names.{ReadsNew}
 use Rattle.smith_input.specs.Reading.{IsTail}
-use Rattle.smith_input.proofs.Choices.{among_tail}
+use Rattle.smith_input.proofs.Choices.{among_tail, among_same}
 use Rattle.smith_input.proofs.NameScript.{new_reachable}
-use Rattle.smith_input.proofs.NewNames.{new_tail, new_kebab}
+use Rattle.smith_input.proofs.NewNames.{new_tail, new_kebab, new_unique}
 use Rattle.smith_input.proofs.Reading.{tail_same, tail_trans}
 use Rattle.smith_syntax.specs.Entries.{Field, Signature, function}
 use Rattle.smith_syntax.specs.Flat.{flat_primitive, flat_value, Flattens}
@@ -49,19 +49,12 @@ lifts : (w v : ValType) → IsLiftable w → Some w ≡ Some v → IsLiftable v
 lifts w v h e = let z : w ≡ v = cc in subst IsLiftable z h
 
 flat_lifts : (p : PrimitiveValType) (v : ValType) → flat_primitive p ≡ Some v → IsLiftable v
-flat_lifts prim.Bool v e = lifts I32 v (lit< tt) e
-flat_lifts prim.S8 v e = lifts I32 v (lit< tt) e
-flat_lifts prim.U8 v e = lifts I32 v (lit< tt) e
-flat_lifts prim.S16 v e = lifts I32 v (lit< tt) e
-flat_lifts prim.U16 v e = lifts I32 v (lit< tt) e
-flat_lifts prim.S32 v e = lifts I32 v (lit< tt) e
-flat_lifts prim.U32 v e = lifts I32 v (lit< tt) e
 flat_lifts prim.S64 v e = lifts I64 v (lit< tt) e
 flat_lifts prim.U64 v e = lifts I64 v (lit< tt) e
 flat_lifts prim.F32 v e = lifts F32 v (lit< tt) e
 flat_lifts prim.F64 v e = lifts F64 v (lit< tt) e
-flat_lifts prim.Char v e = lifts I32 v (lit< tt) e
 flat_lifts prim.String v e = absurd (cc)
+flat_lifts _ v e = lifts I32 v (lit< tt) e
 
 value_lifts : (c : ComponentValType) (v : ValType) → flat_value c ≡ Some v → IsLiftable v
 value_lifts (Primitive p) v e = flat_lifts p v e
@@ -168,6 +161,32 @@ module _ {f : Function} {b : List ℕ} {s : Signature} {rest : List ℕ} (r : Re
       let result : AllByRecursion (OfferedValue own) (option_to_list s.result) =
       subst (λ v. AllByRecursion (OfferedValue own) (option_to_list v)) (sym r.is) (tt, tt) in
       all_both (OfferedValue own) (map (λ p. p.1) s.params) (option_to_list s.result) (params_offered own r.params) result
+
+-- The bytes decide a signature, and what it leaves.
+
+params_same : {names : List (List ℕ)} {vs : List ValType} {b r q : List ℕ} {fs gs : List Field} → ReadsParams names vs b fs r → ReadsParams names vs b gs q
+    → (fs ≡ gs) × (r ≡ q)
+params_same no_params no_params = (refl, refl)
+params_same {names = names} {r = r} (a_param {v = v} {vs = vs} {mid = mid} {low = low} {name = a} {p = p} {fs = fs} n c more)
+    (a_param {name = d} {p = o} m e rest) =
+    let s = new_unique n m in
+    let t = among_same (subst (λ z. ReadsAmong (lifted v) z p low) s.1 c) e in
+    let M : List (List ℕ) → Type 0 = λ z. ReadsParams z vs low fs r in
+    let L : List ℕ → Type 0 = λ z. ReadsParams (names ++ d ∷ []) vs z fs r in
+    let u = params_same (subst L t.1 (subst M (ap (λ z. names ++ z ∷ []) s.0) more)) rest in
+    ((λ i. (s.0 i, Primitive (t.0 i)) ∷ u.0 i), u.1)
+
+-- a signature that flattens to a core function type
+pub lifted_same : {f : Function} {b r q : List ℕ} {s t : Signature} → ReadsLiftedType f b s r → ReadsLiftedType f b t q → (s ≡ t) × (r ≡ q)
+lifted_same {f} {b} {r} {q} {s} {t} x y =
+    let p = params_same x.params y.params in
+    let only : x.core_result ∷ [] ≡ y.core_result ∷ [] = sym x.only ∙ y.only in
+    let result : x.core_result ≡ y.core_result = cc in
+    let V : ValType → Type 0 = λ z. ReadsAmong (lifted z) x.mid x.primitive r in
+    let M : List ℕ → Type 0 = λ z. ReadsAmong (lifted y.core_result) z x.primitive r in
+    let c = among_same (subst M p.1 (subst V result x.result)) y.result in
+    let same : s.result ≡ t.result = x.is ∙ (ap (λ z. Some (Primitive z)) c.0 ∙ sym y.is) in
+    ((λ i. record { params = p.0 i; result = same i }), c.1)
 
 -- The same parameter by parameter, as the program reads them: whatever is read from here, all is read with the parameters so far.
 

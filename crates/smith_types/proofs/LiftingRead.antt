@@ -1,7 +1,6 @@
 -- The script of the signature of a lift is read as it.
 use Rattle.std.proofs.Common.{◌≡◌, ℕ, ◌+◌, ◌≤◌, List, [], ◌∷◌, ◌++◌, map, length, arith, refl, sym, ap, ◌∙◌, subst, append_assoc, length-append, Option, None}
-use Rattle.std.proofs.Common.{Some}
-use Rattle.std.proofs.Common.{lit≤}
+use Rattle.std.proofs.Common.{Some, lit≤}
 use Rattle.std.specs.List.{AllByRecursion}
 use Rattle.std.specs.Option.{option_to_list}
 use Rattle.std.specs.Prelude.{slice_get}
@@ -24,7 +23,7 @@ use Rattle.smith_syntax.specs.declared.types.PrimitiveValType.{PrimitiveValType}
 use Rattle.smith_syntax.specs.declared.types.PrimitiveValType.TheVariants as prim
 use Rattle.smith_types.specs.Lifting.{ReadsParams, no_params, a_param, ReadsLiftedType}
 use Rattle.smith_tree.specs.TypeOffers.{lifted}
-use Rattle.smith_types.proofs.LiftingSame.{lifted_same}
+use Rattle.smith_types.proofs.Lifting.{lifted_same}
 use Rattle.smith_tree.specs.ReadableTypes.{AreReadableNames}
 use Rattle.smith_tree.specs.TypeScript.{script_label, script_scalar, script_params, script_result, script_lifted}
 use Rattle.smith_syntax.specs.SameSignature.{primitive_Decides}

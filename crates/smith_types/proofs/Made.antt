@@ -1,35 +1,38 @@
--- Defined types and function types that are made: they leave a tail of the bytes, are well formed and of what was offered, no larger than
--- their fuel, and determined.
-use Rattle.std.proofs.Common.{◌≡◌, ℕ, ◌+◌, ◌<◌, ◌≤◌, true, false, List, [], ◌∷◌, map, length, refl, sym, ap, ◌∙◌, subst, arith}
+-- Defined types and function types that are made: they leave a tail of the bytes, are well formed and of what was offered, their names can
+-- be read, they are no larger than their fuel, and determined.
+use Rattle.std.proofs.Common.{◌≡◌, ℕ, zero, suc, ◌+◌, ◌<◌, ◌≤◌, true, false, List, [], ◌∷◌, map, length, refl, sym, ap, ◌∙◌, subst, arith}
 use Rattle.std.proofs.lemmas.Bool.{and_parts}
 use Rattle.std.specs.Option.{option_to_list}
-use Rattle.std.specs.Prelude.{Option, Some, None, slice_get}
+use Rattle.std.specs.Prelude.{Option, Some, None}
 use Rattle.smith_input.specs.Choices.{ReadsAmong}
+use Rattle.smith_input.specs.Names.{ReadsNew}
 use Rattle.smith_input.specs.Reading.{IsTail}
-use Rattle.smith_input.proofs.Choices.{among_tail, among_same}
+use Rattle.smith_input.proofs.Choices.{among_none, among_tail, among_same}
 use Rattle.smith_input.proofs.Lists.{all_both}
 use Rattle.smith_input.proofs.NewNames.{new_tail, new_unique}
 use Rattle.smith_input.proofs.Reading.{tail_trans, reads_tail, reads_unique, flips_unique}
 use Rattle.smith_syntax.specs.Entries.{DefValType, primitive_type, record_type, variant_type, list_type, tuple_type, flags_type, enum_type, option_type}
 use Rattle.smith_syntax.specs.Entries.{result_type, Signature, function}
+use Rattle.smith_tree.specs.ReadableTypes.{AreReadableNames, IsReadableDefined}
 use Rattle.smith_tree.specs.TypeOffers.{primitives}
 use Rattle.smith_types.specs.Made.{ReadsVal, only_primitive, either_primitive, either_index, ReadsMaybe, absent, present, or_bool, MadeMembers, MadeAs}
-use Rattle.smith_types.specs.Made.{MadeDefined, ReadsResult, MadeFunction}
+use Rattle.smith_types.specs.Made.{MadeDefined, ReadsMembers, ReadsResult, MadeFunction}
 use Rattle.smith_syntax.specs.Marked.{Marked}
 use Rattle.smith_syntax.specs.Marks.{is_small}
 use Rattle.smith_syntax.specs.Scope.{is_defined}
 use Rattle.smith_syntax.specs.Usable.{OfferedValue, is_value, mark_at, value_places}
-use Rattle.smith_syntax.specs.WellFormed.{defined_size, size}
+use Rattle.smith_syntax.specs.WellFormed.{Named, defined_size, size}
 use Rattle.smith_tree.specs.declared.choices.DefinedKind.{DefinedKind}
 use Rattle.smith_tree.specs.declared.choices.DefinedKind.TheVariants as kind
 use Rattle.smith_syntax.specs.declared.types.ComponentValType.{ComponentValType}
 use Rattle.smith_syntax.specs.declared.types.ComponentValType.TheVariants.{Primitive, Indexed}
 use Rattle.smith_core_types.proofs.MadeCoreSame.{Same}
+use Rattle.smith_core_types.proofs.Takes.{used}
 use Rattle.smith_types.proofs.Judged.{IsDefined, IsMaybe, IsType, IsValue, cases_formed, cases_offered, fields_formed, fields_offered, one_formed}
 use Rattle.smith_types.proofs.Judged.{values_formed, values_offered}
 use Rattle.smith_types.proofs.MarkedPlaces.{marked_stands}
-use Rattle.smith_types.proofs.Members.{members_tail, named_tail, members_few, members_size, members_all, members_named, named_name, labels_named, members_same}
-use Rattle.smith_types.proofs.Members.{named_same}
+use Rattle.smith_types.proofs.Members.{labels_named, members_all, members_few, members_named, members_same, members_tail, members_take, named_name, named_same}
+use Rattle.smith_types.proofs.Members.{named_tail}
 
 -- tails
 
@@ -41,25 +44,6 @@ val_tail own b v rest (either_index c r) = tail_trans (among_tail r) (reads_tail
 maybe_tail : (own : Marked) (b : List ℕ) (v : Option ComponentValType) (rest : List ℕ) → ReadsMaybe own b v rest → IsTail rest b
 maybe_tail own b v rest (absent f) = (1, f.left)
 maybe_tail own b v rest (present {mid = mid} {v = w} f r) = tail_trans (val_tail own mid w rest r) (1, f.left)
-
-as_tail : (own : Marked) (k : DefinedKind) (b : List ℕ) (fuel : ℕ) (t : DefValType) (rest : List ℕ) (left : ℕ) → MadeAs own k b fuel t rest left → IsTail rest b
-as_tail own kind.Primitive b fuel t rest left (p, r, _, _) = among_tail r
-as_tail own kind.Record b fuel t rest left (xs, r, _) = members_tail (named_tail (val_tail own)) b fuel xs rest left r
-as_tail own kind.Variant b fuel t rest left (xs, r, _) = members_tail (named_tail (maybe_tail own)) b fuel xs rest left r
-as_tail own kind.List b fuel t rest left (v, r, _, _) = val_tail own b v rest r
-as_tail own kind.Tuple b fuel t rest left (xs, r, _) = members_tail (λ so_far. val_tail own) b fuel xs rest left r
-as_tail own kind.Flags b fuel t rest left (xs, r, _) = members_tail (λ so_far c x d h. new_tail h) b fuel xs rest left r
-as_tail own kind.Enum b fuel t rest left (xs, r, _) = members_tail (λ so_far c x d h. new_tail h) b fuel xs rest left r
-as_tail own kind.Option b fuel t rest left (v, r, _, _) = val_tail own b v rest r
-as_tail own kind.Result b fuel t rest left (ok, mid, r, err, s, _, _) = tail_trans (maybe_tail own mid err rest s) (maybe_tail own b ok mid r)
-
-pub defined_tail : (own : Marked) (b : List ℕ) (fuel : ℕ) (t : DefValType) (rest : List ℕ) (left : ℕ) → MadeDefined own b fuel t rest left → IsTail rest b
-defined_tail own b fuel t rest left d = tail_trans (as_tail own d.kind d.mid fuel t rest left d.made) (among_tail d.choice)
-
-pub function_tail : (own : Marked) (b : List ℕ) (fuel : ℕ) (s : Signature) (rest : List ℕ) (left : ℕ) → MadeFunction own b fuel s rest left → IsTail rest b
-function_tail own b fuel s rest left f =
-    tail_trans (members_tail (λ so_far. val_tail own) f.mid f.held (option_to_list s.result) rest left f.gives)
-    (members_tail (named_tail (val_tail own)) b fuel s.params f.mid f.held f.takes)
 
 -- well formed, and all that they name was offered
 
@@ -75,116 +59,135 @@ maybe_is : (own : Marked) (b : List ℕ) (v : Option ComponentValType) (rest : L
 maybe_is own b v rest (absent f) = (tt, tt)
 maybe_is own b v rest (present {mid = mid} {v = w} f r) = let p = val_is own mid w rest r in (p.0, (p.1, tt))
 
--- a type with members, or bool
-or_bool_is : {A : Type 0} (of : List A → DefValType) (own : Marked) (t : DefValType) (xs : List A) → t ≡ or_bool of xs
-    → (1 ≤ length xs → IsDefined own (of xs)) → IsDefined own t
-or_bool_is of own t [] i f = subst (IsDefined own) (sym i) (tt, tt)
-or_bool_is of own t (x ∷ xs) i f = subst (IsDefined own) (sym i) (f (omega arith))
+-- What holds of a defined type that is made.
+pub record DefinedFits (own : Marked) (b : List ℕ) (fuel : ℕ) (t : DefValType) (rest : List ℕ) (left : ℕ) : Type 0 where
+  pub tail : IsTail rest b
+  pub is : IsDefined own t
+  pub readable : IsReadableDefined t
+  pub within : defined_size t + left ≤ fuel
+  pub uses : used (defined_size t) ≤ fuel
 
-as_is : (own : Marked) (k : DefinedKind) (b : List ℕ) (fuel : ℕ) (t : DefValType) (rest : List ℕ) (left : ℕ) → MadeAs own k b fuel t rest left
-    → IsDefined own t
-as_is own kind.Primitive b fuel t rest left (p, r, i, _) = subst (IsDefined own) (sym i) (tt, tt)
-as_is own kind.Record b fuel t rest left (xs, r, i) =
-    or_bool_is record_type own t xs i
-    (λ some.
-    let all = members_all b fuel xs rest left r (λ f. IsValue own f.1) (λ so_far c x d h. val_is own h.mid x.1 d h.after) in
-    ((members_named (λ f. f.0) named_name b fuel xs rest left r, fields_formed own xs all, some, members_few b fuel xs rest left r), fields_offered own xs all))
-as_is own kind.Variant b fuel t rest left (xs, r, i) =
-    or_bool_is variant_type own t xs i
-    (λ some.
-    let all = members_all b fuel xs rest left r (λ c. IsMaybe own c.1) (λ so_far c x d h. maybe_is own h.mid x.1 d h.after) in
-    ((members_named (λ c. c.0) named_name b fuel xs rest left r, cases_formed own xs all, some, members_few b fuel xs rest left r), cases_offered own xs all))
-as_is own kind.List b fuel t rest left (v, r, i, _) =
-    let p = val_is own b v rest r in
-    subst (IsDefined own) (sym i) (p.0, (p.1, tt))
-as_is own kind.Tuple b fuel t rest left (xs, r, i) =
-    or_bool_is tuple_type own t xs i
-    (λ some.
-    let all = members_all b fuel xs rest left r (IsValue own) (λ so_far c x d h. val_is own c x d h) in
-    ((values_formed own xs all, some, members_few b fuel xs rest left r), values_offered own xs all))
-as_is own kind.Flags b fuel t rest left (xs, r, i) = or_bool_is flags_type own t xs i
-    (λ some. ((labels_named b fuel xs rest left r, some, members_few b fuel xs rest left r), tt))
-as_is own kind.Enum b fuel t rest left (xs, r, i) = or_bool_is enum_type own t xs i
-    (λ some. ((labels_named b fuel xs rest left r, some, members_few b fuel xs rest left r), tt))
-as_is own kind.Option b fuel t rest left (v, r, i, _) =
-    let p = val_is own b v rest r in
-    subst (IsDefined own) (sym i) (p.0, (p.1, tt))
-as_is own kind.Result b fuel t rest left (ok, mid, r, err, s, i, _) =
-    let p = maybe_is own b ok mid r in
-    let q = maybe_is own mid err rest s in
-    subst (IsDefined own) (sym i) ((p.0, q.0), all_both (OfferedValue own) (option_to_list ok) (option_to_list err) p.1 q.1)
+module _ {own : Marked} {b : List ℕ} {fuel : ℕ} {t : DefValType} {rest : List ℕ} {left : ℕ} where
+  -- a type without members
+  plain_fits : (u : DefValType) → t ≡ u → IsTail rest b → IsDefined own u → IsReadableDefined u → defined_size u ≡ 0 → left ≡ fuel
+      → DefinedFits own b fuel t rest left
+  plain_fits u same tail is readable none l = subst (λ z. DefinedFits own b fuel z rest left) (sym same) (record {
+    tail = tail;
+    is = is;
+    readable = readable;
+    within = omega (arith, none, l);
+    uses = subst (λ n. used n ≤ fuel) (sym none) (omega arith);
+  })
 
-pub defined_is : (own : Marked) (b : List ℕ) (fuel : ℕ) (t : DefValType) (rest : List ℕ) (left : ℕ) → MadeDefined own b fuel t rest left
-    → IsDefined own t
-defined_is own b fuel t rest left d = as_is own d.kind d.mid fuel t rest left d.made
+  -- a type with members, or bool
+  members_fit : {A : Type 0} {Member : List A → List ℕ → A → List ℕ → Type 0} {max : ℕ} (of : List A → DefValType)
+      → ((xs : List A) → defined_size (of xs) ≡ length xs) → ((so_far : List A) (c : List ℕ) (x : A) (r : List ℕ) → Member so_far c x r → IsTail r c)
+      → ((xs : List A) → ReadsMembers Member 1 max b fuel xs rest left → 1 ≤ length xs → IsDefined own (of xs) × IsReadableDefined (of xs))
+      → MadeMembers Member max of b fuel t rest left → DefinedFits own b fuel t rest left
+  members_fit {A} {Member} {max} of size one is (xs, r, same) = subst (λ z. DefinedFits own b fuel z rest left) (sym same) (by xs r)
+    where
+      by : (xs : List A) → ReadsMembers Member 1 max b fuel xs rest left → DefinedFits own b fuel (or_bool of xs) rest left
+      by [] r = record { tail = members_tail r one; is = (tt, tt); readable = tt; within = (members_take r).0; uses = omega arith }
+      by (x ∷ xs) r =
+          let here = is (x ∷ xs) r (omega arith) in
+          let long = size (x ∷ xs) in
+          let takes = members_take r in
+          record {
+            tail = members_tail r one;
+            is = here.0;
+            readable = here.1;
+            within = omega (arith, long, takes.0);
+            uses = subst (λ n. used n ≤ fuel) (sym long) takes.1;
+          }
 
-pub function_is : (own : Marked) (outer : List Marked) (b : List ℕ) (fuel : ℕ) (s : Signature) (rest : List ℕ) (left : ℕ)
-    → MadeFunction own b fuel s rest left → IsType (function s) own outer
-function_is own outer b fuel s rest left f =
-    let params = members_all b fuel s.params f.mid f.held f.takes (λ p. IsValue own p.1) (λ so_far c x d h. val_is own h.mid x.1 d h.after) in
-    let result = members_all f.mid f.held (option_to_list s.result) rest left f.gives (IsValue own) (λ so_far c x d h. val_is own c x d h) in (
-      (
-        members_named (λ p. p.0) named_name b fuel s.params f.mid f.held f.takes,
-        fields_formed own s.params params,
-        members_few b fuel s.params f.mid f.held f.takes,
-        one_formed own s.result (values_formed own (option_to_list s.result) result),
-      ),
-      all_both (OfferedValue own) (map (λ p. p.1) s.params) (option_to_list s.result) (fields_offered own s.params params)
-          (values_offered own (option_to_list s.result) result),
-    )
+  labels_fit : {max : ℕ} (of : List (List ℕ) → DefValType) → ((xs : List (List ℕ)) → defined_size (of xs) ≡ length xs)
+      → ((xs : List (List ℕ)) → Named xs × AreReadableNames xs → 1 ≤ length xs → length xs ≤ max → IsDefined own (of xs) × IsReadableDefined (of xs))
+      → MadeMembers (ReadsNew 100) max of b fuel t rest left → DefinedFits own b fuel t rest left
+  labels_fit of size is m = members_fit of size (λ so_far c x r h. new_tail h) (λ xs r some. is xs (labels_named r) some (members_few r)) m
 
--- no larger than the fuel
+  as_fits : (k : DefinedKind) → MadeAs own k b fuel t rest left → DefinedFits own b fuel t rest left
+  as_fits kind.Primitive (p, r, i, j) = plain_fits (primitive_type p) i (among_tail r) (tt, tt) tt refl j
+  as_fits kind.Record m = members_fit record_type (λ xs. refl) (named_tail (val_tail own)) (λ xs r some.
+      let all = members_all r (λ f. IsValue own f.1) (λ so_far c x d h. val_is own h.mid x.1 d h.after) in
+      let names = members_named r (λ f. f.0) named_name in
+      (((names.0, fields_formed own xs all, some, members_few r), fields_offered own xs all), names.1)) m
+  as_fits kind.Variant m = members_fit variant_type (λ xs. refl) (named_tail (maybe_tail own)) (λ xs r some.
+      let all = members_all r (λ c. IsMaybe own c.1) (λ so_far c x d h. maybe_is own h.mid x.1 d h.after) in
+      let names = members_named r (λ c. c.0) named_name in
+      (((names.0, cases_formed own xs all, some, members_few r), cases_offered own xs all), names.1)) m
+  as_fits kind.List (v, r, i, j) = let p = val_is own b v rest r in plain_fits (list_type v) i (val_tail own b v rest r) (p.0, (p.1, tt)) tt refl j
+  as_fits kind.Tuple m = members_fit tuple_type (λ xs. refl) (λ so_far. val_tail own) (λ xs r some.
+      let all = members_all r (IsValue own) (λ so_far c x d h. val_is own c x d h) in
+      (((values_formed own xs all, some, members_few r), values_offered own xs all), tt)) m
+  as_fits kind.Flags m = labels_fit flags_type (λ xs. refl) (λ xs names some few. (((names.0, some, few), tt), names.1)) m
+  as_fits kind.Enum m = labels_fit enum_type (λ xs. refl) (λ xs names some few. (((names.0, some, few), tt), names.1)) m
+  as_fits kind.Option (v, r, i, j) = let p = val_is own b v rest r in plain_fits (option_type v) i (val_tail own b v rest r) (p.0, (p.1, tt)) tt refl j
+  as_fits kind.Result (ok, mid, r, err, s, i, j) =
+      let p = maybe_is own b ok mid r in
+      let q = maybe_is own mid err rest s in
+      plain_fits (result_type ok err) i (tail_trans (maybe_tail own mid err rest s) (maybe_tail own b ok mid r))
+      ((p.0, q.0), all_both (OfferedValue own) (option_to_list ok) (option_to_list err) p.1 q.1) tt refl j
 
-or_bool_size : {A : Type 0} (of : List A → DefValType) → ((xs : List A) → defined_size (of xs) ≡ length xs) → (xs : List A)
-    → defined_size (or_bool of xs) ≡ length xs
-or_bool_size of is [] = refl
-or_bool_size of is (x ∷ xs) = is (x ∷ xs)
+pub defined_fits : {own : Marked} {b : List ℕ} {fuel : ℕ} {t : DefValType} {rest : List ℕ} {left : ℕ} → MadeDefined own b fuel t rest left
+    → DefinedFits own b fuel t rest left
+defined_fits d =
+    let f = as_fits d.kind d.made in
+    record { tail = tail_trans f.tail (among_tail d.choice); is = f.is; readable = f.readable; within = f.within; uses = f.uses }
 
-made_members_size : {A : Type 0} {Member : List A → List ℕ → A → List ℕ → Type 0} {max : ℕ} (of : List A → DefValType)
-    → ((xs : List A) → defined_size (of xs) ≡ length xs) → (b : List ℕ) (fuel : ℕ) (t : DefValType) (rest : List ℕ) (left : ℕ)
-    → MadeMembers Member max of b fuel t rest left → defined_size t + left ≤ fuel
-made_members_size of is b fuel t rest left (xs, r, i) = omega (arith, ap defined_size i, or_bool_size of is xs, members_size b fuel xs rest left r)
+-- What holds of a function type that is made.
+pub record FunctionFits (own : Marked) (b : List ℕ) (fuel : ℕ) (s : Signature) (rest : List ℕ) (left : ℕ) : Type 0 where
+  pub tail : IsTail rest b
+  pub is : (outer : List Marked) → IsType (function s) own outer
+  pub readable : AreReadableNames (map (λ p. p.0) s.params)
+  pub within : size (function s) + left ≤ fuel
+  pub uses : 0 < fuel → size (function s) + 1 ≤ fuel
 
-as_size : (own : Marked) (k : DefinedKind) (b : List ℕ) (fuel : ℕ) (t : DefValType) (rest : List ℕ) (left : ℕ) → MadeAs own k b fuel t rest left
-    → defined_size t + left ≤ fuel
-as_size own kind.Primitive b fuel t rest left (p, r, i, j) = omega (arith, ap defined_size i, j)
-as_size own kind.Record b fuel t rest left m = made_members_size record_type (λ xs. refl) b fuel t rest left m
-as_size own kind.Variant b fuel t rest left m = made_members_size variant_type (λ xs. refl) b fuel t rest left m
-as_size own kind.List b fuel t rest left (v, r, i, j) = omega (arith, ap defined_size i, j)
-as_size own kind.Tuple b fuel t rest left m = made_members_size tuple_type (λ xs. refl) b fuel t rest left m
-as_size own kind.Flags b fuel t rest left m = made_members_size flags_type (λ xs. refl) b fuel t rest left m
-as_size own kind.Enum b fuel t rest left m = made_members_size enum_type (λ xs. refl) b fuel t rest left m
-as_size own kind.Option b fuel t rest left (v, r, i, j) = omega (arith, ap defined_size i, j)
-as_size own kind.Result b fuel t rest left (ok, mid, r, err, s, i, j) = omega (arith, ap defined_size i, j)
+both_used : (n r fuel held : ℕ) → 0 < fuel → used n ≤ fuel → n + held ≤ fuel → used r ≤ held → n + r + 1 ≤ fuel
+both_used zero zero fuel held some h k l = omega arith
+both_used (suc n) zero fuel held some h k l = omega (arith, h)
+both_used n (suc r) fuel held some h k l = omega (arith, k, l)
 
-pub defined_within : (own : Marked) (b : List ℕ) (fuel : ℕ) (t : DefValType) (rest : List ℕ) (left : ℕ) → MadeDefined own b fuel t rest left
-    → defined_size t + left ≤ fuel
-defined_within own b fuel t rest left d = as_size own d.kind d.mid fuel t rest left d.made
-
-pub function_within : (own : Marked) (b : List ℕ) (fuel : ℕ) (s : Signature) (rest : List ℕ) (left : ℕ) → MadeFunction own b fuel s rest left
-    → size (function s) + left ≤ fuel
-function_within own b fuel s rest left f =
-    omega (arith, members_size b fuel s.params f.mid f.held f.takes, members_size f.mid f.held (option_to_list s.result) rest left f.gives)
+pub function_fits : {own : Marked} {b : List ℕ} {fuel : ℕ} {s : Signature} {rest : List ℕ} {left : ℕ} → MadeFunction own b fuel s rest left
+    → FunctionFits own b fuel s rest left
+function_fits {own} {fuel = fuel} {s = s} f =
+    let params = members_all f.takes (λ p. IsValue own p.1) (λ so_far c x d h. val_is own h.mid x.1 d h.after) in
+    let result = members_all f.gives (IsValue own) (λ so_far c x d h. val_is own c x d h) in
+    let names = members_named f.takes (λ p. p.0) named_name in
+    let first = members_take f.takes in
+    let second = members_take f.gives in
+    record {
+      tail = tail_trans (members_tail f.gives (λ so_far. val_tail own)) (members_tail f.takes (named_tail (val_tail own)));
+      is = λ outer. (
+        (
+          names.0,
+          fields_formed own s.params params,
+          members_few f.takes,
+          one_formed own s.result (values_formed own (option_to_list s.result) result),
+        ),
+        all_both (OfferedValue own) (map (λ p. p.1) s.params) (option_to_list s.result) (fields_offered own s.params params)
+            (values_offered own (option_to_list s.result) result),
+      );
+      readable = names.1;
+      within = omega (arith, first.0, second.0);
+      uses = λ some. both_used (length s.params) (length (option_to_list s.result)) fuel f.held some first.1 first.0 second.1;
+    }
 
 -- determined
 
 none_below : (xs : List ℕ) → xs ≡ [] → 0 < length xs → ⊥
 none_below xs e h = omega (arith, ap length e)
 
-none_at : (xs : List ℕ) (k i : ℕ) → xs ≡ [] → slice_get xs k ≡ Some i → ⊥
-none_at xs k i e h = let z : None ≡ Some i = sym (ap (λ ys. slice_get ys k) e) ∙ h in cc
-
 val_same : (own : Marked) (b : List ℕ) (v w : ComponentValType) (r s : List ℕ) → ReadsVal own b v r → ReadsVal own b w s → (v ≡ w) × (r ≡ s)
 val_same own b v w r s (only_primitive n x) (only_primitive m y) = let u = among_same x y in (ap Primitive u.0, u.1)
 val_same own b v w r s (only_primitive n x) (either_primitive m c y) = absurd (none_below _ n m)
-val_same own b v w r s (only_primitive n x) (either_index {i = i} c d) = absurd (none_at _ d.place i n d.named)
+val_same own b v w r s (only_primitive n x) (either_index c d) = absurd (among_none n d)
 val_same own b v w r s (either_primitive m c y) (only_primitive n x) = absurd (none_below _ n m)
 val_same own b v w r s (either_primitive {mid = l} {p = p} m c x) (either_primitive {mid = k} {p = q} n d y) =
     let P : List ℕ → Type 0 = λ z. ReadsAmong primitives z p r in
     let z = among_same (subst P (reads_unique c d).1 x) y in
     (ap Primitive z.0, z.1)
 val_same own b v w r s (either_primitive m c x) (either_index d y) = absurd (let u = (reads_unique c d).0 in omega arith)
-val_same own b v w r s (either_index {i = i} c d) (only_primitive n x) = absurd (none_at _ d.place i n d.named)
+val_same own b v w r s (either_index c d) (only_primitive n x) = absurd (among_none n d)
 val_same own b v w r s (either_index d y) (either_primitive m c x) = absurd (let u = (reads_unique c d).0 in omega arith)
 val_same own b v w r s (either_index {mid = l} {i = i} c x) (either_index {mid = m} {i = n} d y) =
     let P : List ℕ → Type 0 = λ z. ReadsAmong (value_places own) z i r in
@@ -206,7 +209,7 @@ made_members_same : {A : Type 0} {Member : List A → List ℕ → A → List �
     (b : List ℕ) (fuel : ℕ) (d e : DefValType) (r s : List ℕ) (f g : ℕ)
     → MadeMembers Member max of b fuel d r f → MadeMembers Member max of b fuel e s g → Same d e r s f g
 made_members_same one of b fuel d e r s f g (xs, x, i) (ys, y, k) =
-    let u = members_same one b fuel xs ys r s f g x y in
+    let u = members_same one x y in
     record { value = i ∙ (ap (or_bool of) u.value ∙ sym k); rest = u.rest; left = u.left }
 
 as_same : (own : Marked) (k : DefinedKind) (b : List ℕ) (fuel : ℕ) (d e : DefValType) (r s : List ℕ) (f g : ℕ) → MadeAs own k b fuel d r f
@@ -228,9 +231,9 @@ as_same own kind.Result b fuel d e r s f g (ok, mid, x, err, z, i, j) (ko, low, 
     let w = maybe_same own low err rre r s (subst P u.1 z) t in
     record { value = i ∙ (ap (λ o. result_type o err) u.0 ∙ ap (result_type ko) w.0) ∙ sym k; rest = w.1; left = j ∙ sym l }
 
-pub defined_same : (own : Marked) (b : List ℕ) (fuel : ℕ) (t u : DefValType) (r s : List ℕ) (f g : ℕ) → MadeDefined own b fuel t r f
+pub defined_same : {own : Marked} {b : List ℕ} {fuel : ℕ} {t u : DefValType} {r s : List ℕ} {f g : ℕ} → MadeDefined own b fuel t r f
     → MadeDefined own b fuel u s g → Same t u r s f g
-defined_same own b fuel t u r s f g x y =
+defined_same {own} {b} {fuel} {t} {u} {r} {s} {f} {g} x y =
     let c = among_same x.choice y.choice in
     let P : DefinedKind → Type 0 = λ z. MadeAs own z x.mid fuel t r f in
     let Q : List ℕ → Type 0 = λ z. MadeAs own y.kind z fuel t r f in
@@ -242,13 +245,12 @@ one_same None (Some y) e = absurd (omega (arith, ap length e))
 one_same (Some x) None e = absurd (omega (arith, ap length e))
 one_same (Some x) (Some y) e = let z : x ≡ y = cc in ap Some z
 
-pub function_same : (own : Marked) (b : List ℕ) (fuel : ℕ) (c d : Signature) (r s : List ℕ) (f g : ℕ) → MadeFunction own b fuel c r f
+pub function_same : {own : Marked} {b : List ℕ} {fuel : ℕ} {c d : Signature} {r s : List ℕ} {f g : ℕ} → MadeFunction own b fuel c r f
     → MadeFunction own b fuel d s g → Same c d r s f g
-function_same own b fuel c d r s f g x y =
-    let u = members_same (named_same (val_same own)) b fuel c.params d.params x.mid y.mid x.held y.held x.takes y.takes in
+function_same {own} {c = c} {d = d} {r = r} {f = f} x y =
+    let u = members_same (named_same (val_same own)) x.takes y.takes in
     let P : List ℕ → Type 0 = λ z. ReadsResult own z x.held c.result r f in
     let Q : ℕ → Type 0 = λ z. ReadsResult own y.mid z c.result r f in
-    let w = members_same (λ so_far. val_same own) y.mid y.held (option_to_list c.result) (option_to_list d.result) r s f g
-    (subst Q u.left (subst P u.rest x.gives)) y.gives in
+    let w = members_same (λ so_far. val_same own) (subst Q u.left (subst P u.rest x.gives)) y.gives in
     let v = one_same c.result d.result w.value in
     record { value = λ i. record { params = u.value i; result = v i }; rest = w.rest; left = w.left }

@@ -21,104 +21,64 @@ use Rattle.smith_tree.specs.TypeScript.{script_members, script_label}
 use Rattle.smith_syntax.specs.Signature.{named}
 use Rattle.smith_syntax.specs.WellFormed.{Named}
 use Rattle.smith_core_types.proofs.MadeCoreSame.{Same}
+use Rattle.smith_core_types.proofs.Takes.{one_used, used}
 use Rattle.smith_input.proofs.DistinctNames.{AreNew, new_distinct}
 
 -- tails
-
-pub members_tail : {A : Type 0} {Member : List A → List ℕ → A → List ℕ → Type 0} {min max : ℕ}
-    → ((so_far : List A) (b : List ℕ) (x : A) (rest : List ℕ) → Member so_far b x rest → IsTail rest b)
-    → (b : List ℕ) (fuel : ℕ) (xs : List A) (rest : List ℕ) (left : ℕ) → ReadsMembers Member min max b fuel xs rest left → IsTail rest b
-members_tail one b fuel xs rest left l = loop_tail (λ s c r t e. tail_is e.stays) (λ s c x r t i. one s.0 c x r i.member) 0 ([], fuel) b xs rest (xs, left) l
 
 pub named_tail : {B : Type 0} {After : List ℕ → B → List ℕ → Type 0} → ((b : List ℕ) (y : B) (rest : List ℕ) → After b y rest → IsTail rest b)
     → (so_far : List (List ℕ × B)) (b : List ℕ) (x : List ℕ × B) (rest : List ℕ) → ReadsNamed After so_far b x rest → IsTail rest b
 named_tail one so_far b x rest r = tail_trans (one r.mid x.1 rest r.after) (new_tail r.name)
 
--- how many there are, and how much fuel they take
-
-module _ {A : Type 0} {Member : List A → List ℕ → A → List ℕ → Type 0} {min max : ℕ} (b : List ℕ) (fuel : ℕ) (xs : List A) (rest : List ℕ) (left : ℕ)
+module _ {A : Type 0} {Member : List A → List ℕ → A → List ℕ → Type 0} {min max : ℕ} {b : List ℕ} {fuel : ℕ} {xs : List A} {rest : List ℕ} {left : ℕ}
     (l : ReadsMembers Member min max b fuel xs rest left) where
-  pub members_few : length xs ≤ max
-  members_few = let few = loop_few 0 ([], fuel) b xs rest (xs, left) (omega arith) l in omega (arith, few)
-
-  pub members_size : length xs + left ≤ fuel
-  members_size =
-      loop_gives
-      (λ s ys t. length ys + t.1 ≤ s.1)
-      (λ s. omega arith)
-      (λ s c r t e. let none = ap (λ z. z.1) e.state in omega (arith, none))
-      (λ s t u c x r ys i le. let less = ap (λ z. z.1) i.state in let lasts = i.lasts in omega (arith, less, lasts, le))
-      0
-      ([], fuel)
-      b
-      xs
-      rest
-      (xs, left)
-      l
+  pub members_tail : ((so_far : List A) (c : List ℕ) (x : A) (r : List ℕ) → Member so_far c x r → IsTail r c) → IsTail rest b
+  members_tail one = loop_tail (λ s c r t e. tail_is e.stays) (λ s c x r t i. one s.0 c x r i.member) 0 ([], fuel) b xs rest (xs, left) l
 
   -- each is as it should be
   pub members_all : (P : A → Type 0) → ((so_far : List A) (c : List ℕ) (x : A) (r : List ℕ) → Member so_far c x r → P x) → AllByRecursion P xs
   members_all P one = loop_all P (λ s c x r t i. one s.0 c x r i.member) 0 ([], fuel) b xs rest (xs, left) l
 
--- members with names, none of which is the name of a member before it
-module _ {A : Type 0} {Member : List A → List ℕ → A → List ℕ → Type 0} {min max : ℕ} (name : A → List ℕ)
-    (one : (so_far : List A) (b : List ℕ) (x : A) (rest : List ℕ) → Member so_far b x rest
-    → (mid : List ℕ) × ReadsNew 100 (map name so_far) b (name x) mid) where
-  members_new : (b : List ℕ) (fuel : ℕ) (xs : List A) (rest : List ℕ) (left : ℕ) → ReadsMembers Member min max b fuel xs rest left → AreNew [] (map name xs)
-  members_new b fuel xs rest left l =
-      loop_gives
-      (λ s ys t. AreNew (map name s.0) (map name ys))
-      (λ s. tt)
-      (λ s c r t e. tt)
-      (λ s t u c x r ys i later.
-      let more : map name t.0 ≡ map name s.0 ++ name x ∷ [] = ap (λ z. map name z.0) i.state ∙ map-append name s.0 (x ∷ []) in
-      ((one s.0 c x r i.member).1.unique.is_new, subst (λ ns. AreNew ns (map name ys)) more later))
-      0
-      ([], fuel)
-      b
-      xs
-      rest
-      (xs, left)
-      l
+  -- how many there are, and how much fuel they take
 
-  members_kebab : (b : List ℕ) (fuel : ℕ) (xs : List A) (rest : List ℕ) (left : ℕ) → ReadsMembers Member min max b fuel xs rest left
-      → AllByRecursion Kebab (map name xs)
-  members_kebab b fuel xs rest left l =
-      loop_gives
-      (λ s ys t. AllByRecursion Kebab (map name ys))
-      (λ s. tt)
-      (λ s c r t e. tt)
-      (λ s t u c x r ys i later. (new_kebab (one s.0 c x r i.member).1, later))
-      0
-      ([], fuel)
-      b
-      xs
-      rest
-      (xs, left)
-      l
+  pub members_few : length xs ≤ max
+  members_few = let few = loop_few 0 ([], fuel) b xs rest (xs, left) (omega arith) l in omega (arith, few)
 
-  pub members_named : (b : List ℕ) (fuel : ℕ) (xs : List A) (rest : List ℕ) (left : ℕ) → ReadsMembers Member min max b fuel xs rest left
-      → Named (map name xs)
-  members_named b fuel xs rest left l = (members_kebab b fuel xs rest left l, new_distinct [] (map name xs) (members_new b fuel xs rest left l))
+  -- what holds of a loop, by what holds of its end and of its turns
+  gives : (R : List A × ℕ → List A → List A × ℕ → Type 0) → ((s : List A × ℕ) → R s [] s) → ((s t : List A × ℕ) → t.1 ≡ 0 → R s [] t)
+      → ((s t u : List A × ℕ) (c : List ℕ) (x : A) (r : List ℕ) (ys : List A) → ReadsMember Member s c x r t → R t ys u → R s (x ∷ ys) u)
+      → R ([], fuel) xs (xs, left)
+  gives R none spent turn = loop_gives R none (λ s c r t e. spent s t (ap (λ z. z.1) e.state)) turn 0 ([], fuel) b xs rest (xs, left) l
 
-  -- the names of members can be read, each after those before it
-  pub members_readable : (b : List ℕ) (fuel : ℕ) (xs : List A) (rest : List ℕ) (left : ℕ) → ReadsMembers Member min max b fuel xs rest left
-      → AreReadableNames (map name xs)
-  members_readable b fuel xs rest left l =
-      loop_gives
-      (λ s ys t. AreReachable 100 (map name s.0) (map name ys))
-      (λ s. tt)
-      (λ s c r t e. tt)
-      (λ s t u c x r ys i later.
-      let more : map name t.0 ≡ map name s.0 ++ name x ∷ [] = ap (λ z. map name z.0) i.state ∙ map-append name s.0 (x ∷ []) in
-      (new_reachable (one s.0 c x r i.member).1, subst (λ ns. AreReachable 100 ns (map name ys)) more later))
-      0
-      ([], fuel)
-      b
-      xs
-      rest
-      (xs, left)
-      l
+  abbrev Takes : List A × ℕ → List A → List A × ℕ → Type 0
+  Takes s ys t = (length ys + t.1 ≤ s.1) × (used (length ys) ≤ s.1)
+
+  takes_one : (s t u : List A × ℕ) (c : List ℕ) (x : A) (r : List ℕ) (ys : List A) → ReadsMember Member s c x r t → Takes t ys u → Takes s (x ∷ ys) u
+  takes_one s t u c x r ys i later =
+      let less = ap (λ z. z.1) i.state in
+      let lasts = i.lasts in
+      (omega (arith, less, lasts, later.0), one_used ys t.1 s.1 later.1 (omega (arith, less, lasts)) (omega (arith, less, lasts)))
+
+  pub members_take : (length xs + left ≤ fuel) × (used (length xs) ≤ fuel)
+  members_take = gives Takes (λ s. (omega arith, omega arith)) (λ s t none. (omega (arith, none), omega arith)) takes_one
+
+  -- members with names, none of which is the name of a member before it: all can be read
+  module _ (name : A → List ℕ)
+      (one : (so_far : List A) (c : List ℕ) (x : A) (r : List ℕ) → Member so_far c x r → (mid : List ℕ) × ReadsNew 100 (map name so_far) c (name x) mid) where
+    abbrev Names : List A → List A → Type 0
+    Names so_far ys = AreNew (map name so_far) (map name ys) × AllByRecursion Kebab (map name ys) × AreReachable 100 (map name so_far) (map name ys)
+
+    names_one : (s t u : List A × ℕ) (c : List ℕ) (x : A) (r : List ℕ) (ys : List A) → ReadsMember Member s c x r t → Names t.0 ys → Names s.0 (x ∷ ys)
+    names_one s t u c x r ys i later =
+        let new = (one s.0 c x r i.member).1 in
+        let more : map name t.0 ≡ map name s.0 ++ name x ∷ [] = ap (λ z. map name z.0) i.state ∙ map-append name s.0 (x ∷ []) in
+        let behind = subst (λ ns. AreNew ns (map name ys) × AreReachable 100 ns (map name ys)) more (later.0, later.2) in
+        ((new.unique.is_new, behind.0), (new_kebab new, later.1), (new_reachable new, behind.1))
+
+    pub members_named : Named (map name xs) × AreReadableNames (map name xs)
+    members_named =
+        let all : Names [] xs = gives (λ s ys t. Names s.0 ys) (λ s. (tt, tt, tt)) (λ s t none. (tt, tt, tt)) names_one in
+        ((all.1, new_distinct [] (map name xs) all.0), all.2)
 
 pub named_name : {B : Type 0} {After : List ℕ → B → List ℕ → Type 0} → (so_far : List (List ℕ × B)) (b : List ℕ) (x : List ℕ × B) (rest : List ℕ)
     → ReadsNamed After so_far b x rest → (mid : List ℕ) × ReadsNew 100 (map (λ y. y.0) so_far) b x.0 mid
@@ -127,39 +87,26 @@ named_name so_far b x rest r = (r.mid, r.name)
 label_name : (so_far : List (List ℕ)) (b x rest : List ℕ) → ReadsNew 100 so_far b x rest → (mid : List ℕ) × ReadsNew 100 (map (λ y. y) so_far) b x mid
 label_name so_far b x rest r = (rest, subst (λ ns. ReadsNew 100 ns b x rest) (sym (map-id so_far)) r)
 
-pub labels_named : {min max : ℕ} (b : List ℕ) (fuel : ℕ) (xs : List (List ℕ)) (rest : List ℕ) (left : ℕ)
-    → ReadsMembers (ReadsNew 100) min max b fuel xs rest left → Named xs
-labels_named b fuel xs rest left l = subst Named (map-id xs) (members_named (λ x. x) label_name b fuel xs rest left l)
+pub labels_named : {min max : ℕ} {b : List ℕ} {fuel : ℕ} {xs : List (List ℕ)} {rest : List ℕ} {left : ℕ}
+    → ReadsMembers (ReadsNew 100) min max b fuel xs rest left → Named xs × AreReadableNames xs
+labels_named {xs = xs} l = subst (λ ns. Named ns × AreReadableNames ns) (map-id xs) (members_named l (λ x. x) label_name)
 
-pub labels_readable : {min max : ℕ} (b : List ℕ) (fuel : ℕ) (xs : List (List ℕ)) (rest : List ℕ) (left : ℕ)
-    → ReadsMembers (ReadsNew 100) min max b fuel xs rest left → AreReadableNames xs
-labels_readable b fuel xs rest left l = subst AreReadableNames (map-id xs) (members_readable (λ x. x) label_name b fuel xs rest left l)
-
-pub members_same : {A : Type 0} {Member : List A → List ℕ → A → List ℕ → Type 0} {min max : ℕ}
+pub members_same : {A : Type 0} {Member : List A → List ℕ → A → List ℕ → Type 0} {min max : ℕ} {b : List ℕ} {fuel : ℕ} {xs ys : List A} {r s : List ℕ}
+    {f g : ℕ}
     → ((so_far : List A) (b : List ℕ) (x y : A) (r s : List ℕ) → Member so_far b x r → Member so_far b y s → (x ≡ y) × (r ≡ s))
-    → (b : List ℕ) (fuel : ℕ) (xs ys : List A) (r s : List ℕ) (f g : ℕ) → ReadsMembers Member min max b fuel xs r f → ReadsMembers Member min max b fuel ys s g
-    → Same xs ys r s f g
-members_same one b fuel xs ys r s f g l m =
-    let d =
-    loop_same
-    (λ w c p q t u e h. (e.stays ∙ sym h.stays, e.state ∙ sym h.state))
-    (λ w c x p q t u e i. let none = e.spent in let some = i.lasts in omega (arith, none, some))
-    (λ w c x y p q t u i j.
-    let v = one w.0 c x y p q i.member j.member in
-    (v.0, v.1, i.state ∙ (ap (λ z. (w.0 ++ z ∷ [], w.1 - 1)) v.0 ∙ sym j.state)))
-    0
-    ([], fuel)
-    b
-    xs
-    ys
-    r
-    s
-    (xs, f)
-    (ys, g)
-    l
-    m
-    in
+    → ReadsMembers Member min max b fuel xs r f → ReadsMembers Member min max b fuel ys s g → Same xs ys r s f g
+members_same {A} {Member} {b = b} {fuel = fuel} {xs = xs} {ys = ys} {r = r} {s = s} {f = f} {g = g} one l m =
+    let d = loop_same (λ w c p q t u e h. (e.stays ∙ sym h.stays, e.state ∙ sym h.state)) apart items 0 ([], fuel) b xs ys r s (xs, f) (ys, g) l m in
     record { value = d.0; rest = d.1; left = ap (λ z. z.1) d.2 }
+  where
+    apart : (w : List A × ℕ) (c : List ℕ) (x : A) (p q : List ℕ) (t u : List A × ℕ) → IsSpent w c p t → ReadsMember Member w c x q u → ⊥
+    apart w c x p q t u e i = let none = e.spent in let some = i.lasts in omega (arith, none, some)
+
+    items : (w : List A × ℕ) (c : List ℕ) (x y : A) (p q : List ℕ) (t u : List A × ℕ) → ReadsMember Member w c x p t → ReadsMember Member w c y q u
+        → (x ≡ y) × (p ≡ q) × (t ≡ u)
+    items w c x y p q t u i j =
+        let v = one w.0 c x y p q i.member j.member in
+        (v.0, v.1, i.state ∙ (ap (λ z. (w.0 ++ z ∷ [], w.1 - 1)) v.0 ∙ sym j.state))
 
 pub named_same : {B : Type 0} {After : List ℕ → B → List ℕ → Type 0} → ((b : List ℕ) (x y : B) (r s : List ℕ) → After b x r → After b y s → (x ≡ y) × (r ≡ s))
     → (so_far : List (List ℕ × B)) (b : List ℕ) (x y : List ℕ × B) (r s : List ℕ) → ReadsNamed After so_far b x r → ReadsNamed After so_far b y s

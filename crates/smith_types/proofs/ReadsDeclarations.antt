@@ -1,16 +1,18 @@
 -- Imports, exports and outer aliases that are read: they leave a tail of the bytes, name what is there, and are determined.
-use Rattle.std.proofs.Common.{◌≡◌, inl, inr, ℕ, zero, suc, Bool, true, false, List, [], ◌∷◌, ◌++◌, codes, length, refl, sym, ap, ◌∙◌, subst, arith}
+use Rattle.std.proofs.Common.{◌≡◌, inl, inr, ℕ, ◌+◌, Bool, true, false, List, ◌∷◌, ◌++◌, codes, length, refl, sym, ap, ◌∙◌, subst, arith}
 use Rattle.std.proofs.lemmas.Bool.{false≢true, ltb-true}
-use Rattle.std.specs.Prelude.{Option, Some, None, map, slice_get}
+use Rattle.std.proofs.lemmas.Option.{slice_get_within, slice_get-map}
+use Rattle.std.specs.Prelude.{Option, Some, None, option_map, slice_get}
 use Rattle.smith_input.specs.Choices.{ReadsAmong}
 use Rattle.smith_input.specs.Names.{ReadsNew}
 use Rattle.smith_input.specs.Reading.{IsTail}
-use Rattle.smith_input.proofs.Choices.{among_tail, among_same}
+use Rattle.smith_input.proofs.Choices.{among_none, among_tail, among_same}
 use Rattle.smith_input.proofs.NewNames.{new_tail, new_unique}
 use Rattle.smith_input.proofs.Offered.{offer_holds}
 use Rattle.smith_input.proofs.Reading.{tail_same, tail_trans, reads_tail, reads_unique, flips_unique}
 use Rattle.smith_format.specs.declared.config.Config.{Config}
-use Rattle.smith_syntax.specs.Entries.{Kept, FullDecl, plain_decl, type_alias, core_type_alias, import_decl, export_decl, keeps_type, keeps_core_type}
+use Rattle.smith_syntax.specs.Entries.{CoreEntry, Entry, Kept, FullDecl, plain_decl, type_alias, core_type_alias, import_decl, export_decl}
+use Rattle.smith_syntax.specs.Entries.{keeps_type, keeps_core_type}
 use Rattle.smith_syntax.specs.Marked.{Marked, scope_in, scopes_in_marked}
 use Rattle.smith_syntax.specs.Scope.{Scope, in_scope}
 use Rattle.smith_syntax.specs.Usable.{OfferedDecl}
@@ -19,14 +21,13 @@ use Rattle.smith_syntax.specs.declared.deftype.ComponentTypeRef.{ComponentTypeRe
 use Rattle.smith_types.specs.Declarations.{NamedExtern, ReadsMaybeUrl, no_url, a_url, url_names, ReadsNamedExtern, ReadsAlias, NoImportDecl, in_instance}
 use Rattle.smith_types.specs.Declarations.{nothing_there, not_asked, none_fits, ReadsImportDecl, ReadsExportDecl}
 use Rattle.smith_tree.specs.TypeOffers.{numbered, occupied, aliases_of, declaration_offers, declaration_items, ref_places}
-use Rattle.smith_types.specs.MakingTypes.{HasTarget}
+use Rattle.smith_types.specs.MakingTypes.{HasTarget, IsAliased}
 use Rattle.smith_types.specs.References.{ref_to, ReadsRef}
 use Rattle.smith_tree.specs.declared.choices.DeclarationItem.{DeclarationItem}
 use Rattle.smith_tree.specs.declared.choices.RefKind.{RefKind}
 use Rattle.smith_tree.specs.declared.totals.RefTotals.{RefTotals}
-use Rattle.smith_core_types.proofs.MadeCore.{no_choice}
-use Rattle.smith_scopes.proofs.Places.{get_either}
-use Rattle.smith_tree.proofs.Aliases.{numbered_stands}
+use Rattle.smith_scopes.proofs.Places.{get_either, get_left, get_right}
+use Rattle.smith_tree.proofs.Aliases.{length-numbered, numbered_here, numbered_stands}
 use Rattle.smith_types.proofs.References.{import_not_equal, ref_is}
 
 -- tails
@@ -79,33 +80,58 @@ item_offered config outer own k i e =
 
 -- well formed
 
-get_map : {A B : Type 0} (f : A → B) (xs : List A) (k : ℕ) (x : A) → slice_get xs k ≡ Some x → slice_get (map f xs) k ≡ Some (f x)
-get_map f [] k x e = absurd (cc)
-get_map f (y ∷ ys) zero x e = let same : y ≡ x = cc in ap (λ z. Some (f z)) same
-get_map f (y ∷ ys) (suc k) x e = get_map f ys k x e
-
 -- what is in a scope of that count
 pub named_in : {A : Type 0} (of : Scope → List A) (scopes : List Marked) (count i : ℕ) (s : Marked) (x : A) → slice_get scopes count ≡ Some s
     → slice_get (of (scope_in s)) i ≡ Some x
     → in_scope of (scopes_in_marked scopes) count i ≡ Some x
-named_in of scopes count i s x e f = ap (λ o. elim o [ None ↦ None | Some t ↦ slice_get (of t) i ]) (get_map scope_in scopes count s e) ∙ f
+named_in of scopes count i s x e f =
+    let there = slice_get-map scope_in scopes count ∙ ap (option_map scope_in) e in
+    ap (λ o. elim o [ None ↦ None | Some t ↦ slice_get (of t) i ]) there ∙ f
+
+-- what an outer alias is of, by where it is
+
+pub alias_type_at : (count : ℕ) (s : Marked) (i : ℕ) (e : Entry) → slice_get s.types i ≡ Some e
+    → slice_get (aliases_of count s) i ≡ Some (type_alias count i (keeps_type e))
+alias_type_at count s i e h =
+    let f : ℕ → Entry → FullDecl = λ j x. type_alias count j (keeps_type x) in
+    let g : ℕ → CoreEntry → FullDecl = λ j x. core_type_alias count j (keeps_core_type x) in
+    let front : List FullDecl = numbered f 0 s.types in
+    let here : slice_get front i ≡ Some (f i e) = numbered_here f s.types i e h in
+    get_left front (numbered g 0 s.core_types) i (slice_get_within front i (f i e) here) ∙ here
+
+pub alias_core_type_at : (count : ℕ) (s : Marked) (i : ℕ) (e : CoreEntry) → slice_get s.core_types i ≡ Some e
+    → slice_get (aliases_of count s) (length s.types + i) ≡ Some (core_type_alias count i (keeps_core_type e))
+alias_core_type_at count s i e h =
+    let f : ℕ → Entry → FullDecl = λ j x. type_alias count j (keeps_type x) in
+    let g : ℕ → CoreEntry → FullDecl = λ j x. core_type_alias count j (keeps_core_type x) in
+    let front : List FullDecl = numbered f 0 s.types in
+    get_right front (numbered g 0 s.core_types) (length s.types + i) i (omega (arith, length-numbered f 0 s.types)) ∙ numbered_here g s.core_types i e h
 
 -- A declaration as it is judged: it is well formed, and what it names was offered.
 abbrev pub IsDeclaration : FullDecl → Marked → List Marked → Type 0
 IsDeclaration d own outer = FormedDeclaration (plain_decl d) (scope_in own) (scopes_in_marked outer) × OfferedDecl (plain_decl d) outer own
 
-pub alias_is : (own : Marked) (outer : List Marked) (b : List ℕ) (d : FullDecl) (rest : List ℕ) → ReadsAlias (own ∷ outer) b d rest
-    → IsDeclaration d own outer
-alias_is own outer b d rest r =
+-- An outer alias keeps what it names.
+pub alias_kept : (scopes : List Marked) (b : List ℕ) (d : FullDecl) (rest : List ℕ) → ReadsAlias scopes b d rest → IsAliased scopes d
+alias_kept scopes b d rest r =
     elim (get_either (numbered (λ i e. type_alias r.count i (keeps_type e)) 0 r.scope.types)
     (numbered (λ i e. core_type_alias r.count i (keeps_core_type e)) 0 r.scope.core_types) r.names.place d r.names.named) [
       | inl p ↦ (let t = numbered_stands (λ i e. type_alias r.count i (keeps_type e)) r.scope.types p.0 d p.1 in
-          subst (λ z. IsDeclaration z own outer) (sym t.2)
-          ((t.0, named_in (λ s. s.types) (own ∷ outer) r.count p.0 r.scope t.0 r.stands t.1), tt))
+          subst (λ z. IsAliased scopes z) (sym t.2)
+          (t.0, refl, named_in (λ s. s.types) scopes r.count p.0 r.scope t.0 r.stands t.1))
       | inr p ↦ (let t = numbered_stands (λ i e. core_type_alias r.count i (keeps_core_type e)) r.scope.core_types p.0 d p.1 in
-          subst (λ z. IsDeclaration z own outer) (sym t.2)
-          ((t.0, named_in (λ s. s.core_types) (own ∷ outer) r.count p.0 r.scope t.0 r.stands t.1), tt))
+          subst (λ z. IsAliased scopes z) (sym t.2)
+          (t.0, refl, named_in (λ s. s.core_types) scopes r.count p.0 r.scope t.0 r.stands t.1))
     ]
+
+aliased_is : (own : Marked) (outer : List Marked) (d : FullDecl) → IsAliased (own ∷ outer) d → IsDeclaration d own outer
+aliased_is own outer (type_alias count i k) (e, is, named) = ((e, named), tt)
+aliased_is own outer (core_type_alias count i k) (e, is, named) = ((e, named), tt)
+aliased_is own outer d kept = absurd kept
+
+pub alias_is : (own : Marked) (outer : List Marked) (b : List ℕ) (d : FullDecl) (rest : List ℕ) → ReadsAlias (own ∷ outer) b d rest
+    → IsDeclaration d own outer
+alias_is own outer b d rest r = aliased_is own outer d (alias_kept (own ∷ outer) b d rest r)
 
 module _ (config : Config) (own : Marked) (outer : List Marked) where
   pub import_is : (imports : List NamedExtern) (b : List ℕ) (d : FullDecl) (rest : List ℕ) → ReadsImportDecl config own imports b d rest
@@ -121,14 +147,12 @@ module _ (config : Config) (own : Marked) (outer : List Marked) where
 -- what holds of all outer aliases
 pub alias_holds : (P : FullDecl → Type 0) → ((count i : ℕ) (k : Kept) → P (type_alias count i k)) → ((count i : ℕ) (k : Kept) → P (core_type_alias count i k))
     → (scopes : List Marked) (b : List ℕ) (d : FullDecl) (rest : List ℕ) → ReadsAlias scopes b d rest → P d
-alias_holds P types core_types scopes b d rest r =
-    elim (get_either (numbered (λ i e. type_alias r.count i (keeps_type e)) 0 r.scope.types)
-    (numbered (λ i e. core_type_alias r.count i (keeps_core_type e)) 0 r.scope.core_types) r.names.place d r.names.named) [
-      | inl p ↦ (let t = numbered_stands (λ i e. type_alias r.count i (keeps_type e)) r.scope.types p.0 d p.1 in
-          subst P (sym t.2) (types r.count p.0 (keeps_type t.0)))
-      | inr p ↦ (let t = numbered_stands (λ i e. core_type_alias r.count i (keeps_core_type e)) r.scope.core_types p.0 d p.1 in
-          subst P (sym t.2) (core_types r.count p.0 (keeps_core_type t.0)))
-    ]
+alias_holds P types core_types scopes b d rest r = by d (alias_kept scopes b d rest r)
+  where
+    by : (d : FullDecl) → IsAliased scopes d → P d
+    by (type_alias count i k) kept = types count i k
+    by (core_type_alias count i k) kept = core_types count i k
+    by d kept = absurd kept
 
 -- determined
 
@@ -208,4 +232,4 @@ module _ (config : Config) (own : Marked) where
   import_or_none importing imports b r s d e p (in_instance f) = false≢true (sym f ∙ e)
   import_or_none importing imports b r s d e p (nothing_there f t) = false≢true (sym t ∙ p.there)
   import_or_none importing imports b r s d e p (not_asked f t c k) = omega (arith, k, (reads_unique c p.asked).0)
-  import_or_none importing imports b r s d e p (none_fits f t c n) = no_choice _ n p.of.choice
+  import_or_none importing imports b r s d e p (none_fits f t c n) = among_none n p.of.choice

@@ -1,7 +1,7 @@
 -- What an import or an export is of.
 use Rattle.std.proofs.Common.{◌≡◌, ℕ, Bool, true, false, List, [], refl, sym, subst}
 use Rattle.std.proofs.lemmas.Bool.{false≢true, and_parts}
-use Rattle.std.specs.Prelude.{Some, if◌then◌else◌, slice_get}
+use Rattle.std.specs.Prelude.{Some, if◌then◌else◌, slice_get, Option, None}
 use Rattle.smith_input.proofs.Offered.{offer_holds}
 use Rattle.smith_format.specs.declared.config.Config.{Config}
 use Rattle.smith_syntax.specs.Marked.{Marked, scope_in}
@@ -10,13 +10,16 @@ use Rattle.smith_syntax.specs.Scope.{is_component, is_core_module, is_func, is_i
 use Rattle.smith_syntax.specs.Usable.{OfferedRef, is_equatable, is_exportable, is_importable, is_small_component, is_small_instance, mark_at}
 use Rattle.smith_syntax.specs.WellFormed.{FormedRef, is_type_eq}
 use Rattle.smith_syntax.specs.declared.deftype.ComponentTypeRef.{ComponentTypeRef}
-use Rattle.smith_types.specs.References.{ref_to, ReadsRef}
+use Rattle.smith_types.specs.References.{ref_to, ReadsRef, offer_of}
 use Rattle.smith_tree.specs.TypeOffers.{ref_places, has_place, has_room, kinds_offered, ref_offers}
 use Rattle.smith_tree.specs.declared.choices.RefKind.{RefKind}
 use Rattle.smith_tree.specs.declared.choices.RefKind.TheVariants as kind
 use Rattle.smith_tree.specs.declared.totals.RefTotals.{RefTotals}
 use Rattle.smith_scopes.proofs.Places.{place_stands}
 use Rattle.smith_types.proofs.MarkedPlaces.{marked_stands, three_parts}
+use Rattle.smith_syntax.specs.Places.{places}
+use Rattle.smith_scopes.specs.Kept.{offered_places}
+use Rattle.smith_scopes.specs.declared.offers.Offer.{Offer}
 
 -- It names what is in the scope and is of its kind, and it was offered.
 abbrev pub IsRef : Marked → Bool → ComponentTypeRef → Type 0
@@ -94,3 +97,25 @@ import_not_equal config own totals for_type_def b r rest h =
       ),
     ) h.choice.place h.kind named in
     subst (λ z. is_type_eq z ≡ false) (sym h.is) (never h.index)
+
+-- the places that it may name
+
+abbrev Places : Marked → List ℕ → Option Offer → Type 0
+Places own row None = row ≡ places is_core_module 0 own.core_types
+Places own row (Some o) = row ≡ offered_places o own
+
+places_by : (k : RefKind) (for_import : Bool) (own : Marked) → Places own (ref_places own for_import k) (offer_of k for_import)
+places_by kind.Module for_import own = refl
+places_by kind.TypeEq for_import own = refl
+places_by kind.Func true own = refl
+places_by kind.Func false own = refl
+places_by kind.Component for_import own = refl
+places_by kind.Instance for_import own = refl
+
+pub places_offered : (k : RefKind) (for_import : Bool) (o : Offer) (own : Marked) → offer_of k for_import ≡ Some o
+    → ref_places own for_import k ≡ offered_places o own
+places_offered k for_import o own e = subst (Places own (ref_places own for_import k)) e (places_by k for_import own)
+
+pub places_of_modules : (k : RefKind) (for_import : Bool) (own : Marked) → offer_of k for_import ≡ None
+    → ref_places own for_import k ≡ places is_core_module 0 own.core_types
+places_of_modules k for_import own e = subst (Places own (ref_places own for_import k)) e (places_by k for_import own)

@@ -1,10 +1,9 @@
 -- What the scripts of references, names and outer aliases say is read as them.
-use Rattle.std.proofs.Common.{◌≡◌, ℕ, zero, suc, ◌+◌, ◌<◌, ◌≤◌, ◌^◌, ◌&&◌, ◌||◌, Bool, true, false, List, [], ◌∷◌, ◌++◌, length, refl, sym, ap, ◌∙◌, subst}
+use Rattle.std.proofs.Common.{◌≡◌, ℕ, ◌+◌, ◌<◌, ◌≤◌, ◌^◌, ◌&&◌, ◌||◌, Bool, true, false, List, [], ◌∷◌, ◌++◌, length, refl, sym, ap, ◌∙◌, subst}
 use Rattle.std.proofs.Common.{arith, append_assoc, nat_eq, nat_lt, None, Some, Decides}
 use Rattle.std.proofs.lemmas.Bool.Decides.{Decides-eqb}
 use Rattle.std.proofs.lemmas.List.{length-map}
 use Rattle.std.proofs.lemmas.Option.{slice_get_within}
-use Rattle.std.specs.List.{AllByRecursion}
 use Rattle.std.specs.Prelude.{Option, slice_get, if◌then◌else◌}
 use denote.Enum.Bare.{same_true, true_same}
 use Rattle.smith_input.specs.Choices.{ReadsAmong}
@@ -26,17 +25,17 @@ use Rattle.smith_syntax.specs.Usable.{OfferedRef, is_equatable, is_exportable, i
 use Rattle.smith_syntax.specs.WellFormed.{FormedRef, names}
 use Rattle.smith_syntax.specs.declared.deftype.ComponentTypeRef.{ComponentTypeRef}
 use Rattle.smith_syntax.specs.declared.deftype.ComponentTypeRef.TheVariants as to
-use Rattle.smith_scopes.proofs.Places.{get_left, get_mapped, get_right, place_found}
+use Rattle.smith_scopes.proofs.Places.{get_mapped, place_found}
 use Rattle.smith_scopes.proofs.Offered.{length-marked_places}
 use Rattle.smith_scopes.proofs.Stack.{length-places}
-use Rattle.smith_tree.proofs.Aliases.{length-aliases, length-numbered, numbered_here}
+use Rattle.smith_tree.proofs.Aliases.{length-aliases}
 use Rattle.smith_types.specs.Declarations.{NamedExtern, ReadsNamedExtern, no_url, ReadsAlias, NoImportDecl, in_instance, nothing_there, not_asked}
-use Rattle.smith_tree.specs.TypeOffers.{IsAllowed, has_reference, is_occupied, occupied, numbered, aliases_of, declaration_offers, declaration_items}
-use Rattle.smith_tree.specs.TypeOffers.{ref_offers}
-use Rattle.smith_tree.specs.TypeOffers.{ref_kinds, ref_places, has_export, has_place, has_room, kinds_offered, allows_one}
+use Rattle.smith_tree.specs.TypeOffers.{IsAllowed, has_reference, is_occupied, occupied, aliases_of, declaration_offers, declaration_items}
+use Rattle.smith_tree.specs.TypeOffers.{ref_offers, ref_kinds, ref_places, has_export, has_place, has_room, kinds_offered, allows_one}
 use Rattle.smith_types.specs.References.{ref_to, ReadsRef}
 use Rattle.smith_types.specs.Sayable.{Fit}
 use Rattle.smith_types.proofs.MarkedPlaces.{marked_found, three_from}
+use Rattle.smith_types.proofs.ReadsDeclarations.{alias_core_type_at, alias_type_at}
 use Rattle.smith_tree.specs.TypeScript.{kind_in, index_in, script_ref, script_label, script_extern, script_entry, script_alias, script_no_import}
 use Rattle.smith_tree.specs.TypeScript.{script_declaration_item}
 use Rattle.smith_tree.specs.contracts.choices.DeclarationItem.{the_type as item_type}
@@ -48,7 +47,7 @@ use Rattle.smith_tree.specs.declared.choices.RefKind.{RefKind}
 use Rattle.smith_tree.specs.declared.choices.RefKind.TheVariants as kind
 use Rattle.smith_tree.specs.declared.totals.RefTotals.{RefTotals}
 use Rattle.std.proofs.lemmas.Bool.{and_from, or_left, or_right, lt-ltb}
-use Rattle.smith_input.proofs.Lists.{some_there}
+use Rattle.smith_input.proofs.Lists.{all_at, some_there}
 use Rattle.std.proofs.Math.Bool.{and-false}
 
 pub ref_kind_Decides : (a b : RefKind) → Decides (refs.eq a b) (a ≡ b)
@@ -263,11 +262,6 @@ scope_there of scopes count i x h =
 abbrev pub IsFew : Marked → Type 0
 IsFew s = length s.types + length s.core_types ≤ 2 ^ 64
 
-pub few_at : (scopes : List Marked) (count : ℕ) (s : Marked) → AllByRecursion IsFew scopes → slice_get scopes count ≡ Some s → IsFew s
-few_at [] count s all h = absurd (cc)
-few_at (x ∷ xs) zero s all h = let same : x ≡ s = cc in subst IsFew same all.0
-few_at (x ∷ xs) (suc k) s all h = few_at xs k s all.1 h
-
 module _ (scopes : List Marked) (fit : Fit scopes) where
   -- what is at a place of a scope
   alias_read : (count : ℕ) (place : Marked → ℕ) (s : Marked) (d : FullDecl) (rest : List ℕ) → slice_get scopes count ≡ Some s
@@ -280,7 +274,7 @@ module _ (scopes : List Marked) (fit : Fit scopes) where
       let at = place_found is_occupied scopes count s stands some in
       let choice : List ℕ = script_among nat_eq os count in
       let said : List ℕ = pick (length (aliases_of count s)) (place s) in
-      let few : IsFew s = few_at scopes count s fit.each stands in
+      let few : IsFew s = all_at IsFew scopes count s fit.each stands in
       let made : ReadsAlias scopes (choice ++ (said ++ rest)) d rest = record {
         count = count;
         mid = said ++ rest;
@@ -302,23 +296,13 @@ module _ (scopes : List Marked) (fit : Fit scopes) where
       → ReadsAlias scopes (script_alias scopes count (λ s. i) ++ rest) (type_alias count i (keeps_type e)) rest
   type_alias_read count i e rest h =
       let at = scope_there (λ s. s.types) scopes count i e h in
-      let f : ℕ → Entry → FullDecl = λ j x. type_alias count j (keeps_type x) in
-      let g : ℕ → CoreEntry → FullDecl = λ j x. core_type_alias count j (keeps_core_type x) in
-      let front : List FullDecl = numbered f 0 at.0.types in
-      let here : slice_get front i ≡ Some (f i e) = numbered_here f at.0.types i e at.2 in
-      alias_read count (λ s. i) at.0 (f i e) rest at.1 (get_left front (numbered g 0 at.0.core_types) i (slice_get_within front i (f i e) here) ∙ here)
+      alias_read count (λ s. i) at.0 (type_alias count i (keeps_type e)) rest at.1 (alias_type_at count at.0 i e at.2)
 
   pub core_alias_read : (count i : ℕ) (e : CoreEntry) (rest : List ℕ) → core_type_named (scopes_in_marked scopes) count i ≡ Some e
       → ReadsAlias scopes (script_alias scopes count (λ s. length s.types + i) ++ rest) (core_type_alias count i (keeps_core_type e)) rest
   core_alias_read count i e rest h =
       let at = scope_there (λ s. s.core_types) scopes count i e h in
-      let f : ℕ → Entry → FullDecl = λ j x. type_alias count j (keeps_type x) in
-      let g : ℕ → CoreEntry → FullDecl = λ j x. core_type_alias count j (keeps_core_type x) in
-      let front : List FullDecl = numbered f 0 at.0.types in
-      let back : List FullDecl = numbered g 0 at.0.core_types in
-      let here : slice_get back i ≡ Some (g i e) = numbered_here g at.0.core_types i e at.2 in
-      alias_read count (λ s. length s.types + i) at.0 (g i e) rest at.1
-      (get_right front back (length at.0.types + i) i (omega (arith, length-numbered f 0 at.0.types)) ∙ here)
+      alias_read count (λ s. length s.types + i) at.0 (core_type_alias count i (keeps_core_type e)) rest at.1 (alias_core_type_at count at.0 i e at.2)
 
   -- what an outer alias names is in a scope
   pub alias_there : {A : Type 0} (of : Scope → List A) → ((s : Scope) → length (of s) ≤ length s.types + length s.core_types) → (count i : ℕ) (x : A)

@@ -1,6 +1,6 @@
--- What the script of a type with declarations says is made of it.
+-- What the script of a type says is made of it, and the script is bytes.
 use Rattle.std.proofs.Common.{◌≡◌, ℕ, ◌+◌, ◌-◌, ◌^◌, ◌≤◌, Bool, true, false, List, [], ◌∷◌, ◌++◌, length, refl, sym, ap, ◌∙◌, subst, arith, append_assoc}
-use Rattle.std.proofs.Common.{length-append, nat_lt, None}
+use Rattle.std.proofs.Common.{length-append, nat_le, nat_lt, None}
 use Rattle.std.proofs.lemmas.List.{length-map, map-append}
 use Rattle.std.specs.List.{AllByRecursion}
 use Rattle.std.specs.Option.{option_to_list}
@@ -9,11 +9,12 @@ use Rattle.smith_input.specs.NameScript.{IsReachable}
 use Rattle.smith_input.proofs.Loops.{end_read}
 use Rattle.smith_input.proofs.Picks.{reads-pick}
 use Rattle.smith_input.proofs.Reading.{more_one}
-use Rattle.smith_input.specs.Script.{pick}
+use Rattle.smith_input.specs.Script.{AreBytes, pick}
+use Rattle.smith_input.proofs.ScriptBytes.{Small, small_byte, small_end, small_if, small_join, small_more, small_none}
 use Rattle.smith_format.specs.declared.config.Config.{Config}
-use Rattle.smith_syntax.specs.Entries.{Entry, Decl, Decls, FullEntry, FullDecl, FullDecls, defined, function, component_type, instance_type}
-use Rattle.smith_syntax.specs.Entries.{decl_count, plain, plain_decl, plain_decls, core_type_decl, type_decl, type_alias}
-use Rattle.smith_syntax.specs.Entries.{core_type_alias, import_decl, export_decl, no_decls, then_decls, keeps_functions, keeps_type, keeps_core_type}
+use Rattle.smith_syntax.specs.Entries.{Entry, Decl, Decls, FullEntry, FullDecl, FullDecls, defined, function, component_type, instance_type, decl_count, plain}
+use Rattle.smith_syntax.specs.Entries.{plain_decl, plain_decls, core_type_decl, type_decl, type_alias, core_type_alias, import_decl, export_decl, no_decls}
+use Rattle.smith_syntax.specs.Entries.{then_decls, keeps_functions, keeps_type, keeps_core_type}
 use Rattle.smith_syntax.specs.Marked.{Marked, marked_after, scope_in, scopes_in_marked}
 use Rattle.smith_syntax.specs.Scope.{Scope, exported_type, type_named, core_type_named}
 use Rattle.smith_syntax.specs.Usable.{OfferedDecl, OfferedDecls, OfferedEntry, OfferedRef}
@@ -26,6 +27,7 @@ use Rattle.smith_core_types.specs.MadeCore.{named_by_core}
 use Rattle.smith_tree.specs.CoreTypeNeeds.{core_cost}
 use Rattle.smith_tree.specs.CoreTypeScript.{script_core}
 use Rattle.smith_core_types.proofs.CoreScript.{core_read}
+use Rattle.smith_core_types.proofs.ScriptBytes.{small_core}
 use Rattle.smith_types.specs.Declarations.{NamedExtern, SoFar, nothing_so_far, after_one, ReadsImportDecl, ReadsExportDecl}
 use Rattle.smith_tree.specs.TypeOffers.{uncounted, IsAllowed}
 use Rattle.smith_types.specs.Made.{Made, made_component, made_instance, MadeWith, MadeDeclaration, made_import, made_export, made_alias, made_core_type}
@@ -33,11 +35,9 @@ use Rattle.smith_types.specs.Made.{made_type, MadeDeclarations, no_more_decls, o
 use Rattle.smith_tree.specs.TypeNeeds.{cost, decl_cost, decls_cost}
 use Rattle.smith_tree.specs.ReadableTypes.{IsReadableType, IsReadableDecl, AreReadableDecls}
 use Rattle.smith_types.specs.Sayable.{Fit, IsSayable, Lasts, LastsDecl, LastsDecls}
-use Rattle.smith_tree.specs.TypeScript.{Taken, none_taken, after_taken, script_alias}
-use Rattle.smith_tree.specs.TypeScript.{script_decl, script_decls, script_declares, script_extern, script_declaration_item, script_no_import, script_ref}
-use Rattle.smith_tree.specs.TypeScript.{script_type}
-use Rattle.smith_tree.specs.TypeScript.{script_type_kind}
-use Rattle.smith_tree.specs.declared.choices.TypeKind.TheVariants.{Component, Instance}
+use Rattle.smith_tree.specs.TypeScript.{Taken, none_taken, after_taken, script_alias, script_decl, script_decls, script_declares, script_extern}
+use Rattle.smith_tree.specs.TypeScript.{script_declaration_item, script_no_import, script_ref, script_type, script_type_kind}
+use Rattle.smith_tree.specs.declared.choices.TypeKind.TheVariants.{Defined, Function, Component, Instance}
 use Rattle.smith_tree.specs.declared.choices.DeclarationItem.{DeclarationItem}
 use Rattle.smith_tree.specs.declared.choices.DeclarationItem.TheVariants as item
 use Rattle.smith_types.proofs.Externs.{names_behind}
@@ -46,6 +46,7 @@ use Rattle.smith_types.proofs.MadeSame.{made_same}
 use Rattle.smith_types.proofs.ReferencesRead.{type_alias_read, core_alias_read, alias_there, item_read, no_import_read, extern_read, export_there, ref_read}
 use Rattle.smith_types.proofs.ReferencesRead.{ref_there}
 use Rattle.smith_types.proofs.Script.{type_function, type_values, type_kind_read}
+use Rattle.smith_types.proofs.ScriptBytes.{small_alias, small_declares, small_defined, small_extern, small_ref, small_signature, small_type_kind}
 use Rattle.smith_input.proofs.Lists.{all_front, all_back, one_at_most}
 use Rattle.std.proofs.lemmas.Bool.{lt-ltb}
 
@@ -103,18 +104,12 @@ after_holding outer n own (export_decl name u r) h =
 
 -- an import of no type that is equal to another, and an export, are always allowed within a type
 import_allowed : (config : Config) (own : Marked) (r : ComponentTypeRef) → is_type_eq r ≡ false → IsAllowed config own uncounted true true r
-import_allowed config own (to.Module i) e = refl
 import_allowed config own (to.TypeEq i) e = absurd (cc)
-import_allowed config own (to.Func i) e = refl
-import_allowed config own (to.Component i) e = refl
-import_allowed config own (to.Instance i) e = refl
+import_allowed config own r e = refl
 
 export_allowed : (config : Config) (own : Marked) (r : ComponentTypeRef) → IsAllowed config own uncounted false true r
-export_allowed config own (to.Module i) = refl
 export_allowed config own (to.TypeEq i) = refl
-export_allowed config own (to.Func i) = refl
-export_allowed config own (to.Component i) = refl
-export_allowed config own (to.Instance i) = refl
+export_allowed config own r = refl
 
 module _ (config : Config) where
   -- what follows the choice of what is declared
@@ -169,10 +164,21 @@ module _ (config : Config) where
           → OfferedEntry e own outer → EntryLimits config e
           → IsReadableType e → Lasts e config (length (own ∷ outer)) fuel → Fit (own ∷ outer) → length (own ∷ outer) ≤ 1000
           → (full : FullEntry) × (e ≡ plain full) × Made config own outer (script_type e config fuel own outer ++ rest) fuel full rest (fuel - cost e)
+          × Small (script_type e config fuel own outer)
       full_read (defined t) own outer fuel rest f o m n l fit few =
-          (defined t, refl, type_values own (let z = fit.each.0 in omega (arith, z)) config outer fuel t rest (f, o) n l)
+          let types : length own.types ≤ 2 ^ 64 = (let z = fit.each.0 in omega (arith, z)) in (
+            defined t,
+            refl,
+            type_values own types config outer fuel t rest (f, o) n l,
+            small_join (small_if (nat_le 2 fuel) (small_type_kind Defined) small_none) (small_defined own types t (f, o)),
+          )
       full_read (function s) own outer fuel rest f o m n l fit few =
-          (function s, refl, type_function own (let z = fit.each.0 in omega (arith, z)) config outer fuel s rest (f, o) n l)
+          let types : length own.types ≤ 2 ^ 64 = (let z = fit.each.0 in omega (arith, z)) in (
+            function s,
+            refl,
+            type_function own types config outer fuel s rest (f, o) n l,
+            small_join (small_type_kind Function) (small_signature own types outer s (f, o)),
+          )
       full_read (component_type ds) own outer fuel rest f o m n l fit few =
           let around : Fit ((nothing_so_far (own ∷ outer)).own ∷ (own ∷ outer)) = record { many = omega (arith, few); each = (omega arith, fit.each) } in
           let said : Sayable true (decl_imports ds) (decl_exports ds) = record { imports = f.1.0; exports = f.2.0; own = λ h. absurd (cc) } in
@@ -186,6 +192,7 @@ module _ (config : Config) where
             ap component_type r.1,
             subst P (sym (append_assoc (script_type_kind Component) script rest))
                 (made_component (omega (arith, l.0)) (type_kind_read Component 2 (script ++ rest) refl) (subst Q left r.2) refl),
+            small_join (small_type_kind Component) r.3,
           )
       full_read (instance_type ds) own outer fuel rest f o m n l fit few =
           let around : Fit ((nothing_so_far (own ∷ outer)).own ∷ (own ∷ outer)) = record { many = omega (arith, few); each = (omega arith, fit.each) } in
@@ -205,6 +212,7 @@ module _ (config : Config) where
             ap instance_type r.1,
             subst P (sym (append_assoc (script_type_kind Instance) script rest))
                 (made_instance (omega (arith, l.0)) (type_kind_read Instance 3 (script ++ rest) refl) (subst Q left r.2) refl),
+            small_join (small_type_kind Instance) r.3,
           )
 
       -- A declaration: it imports and exports what its plain tree does.
@@ -215,7 +223,7 @@ module _ (config : Config) where
           → Sayable importing (import_of d) (export_of d) → Holding 100 s.own → Fit (s.own ∷ outer)
           → (full : FullDecl) × (d ≡ plain_decl full) × (names (import_of d) ≡ names (import_of full)) × (names (export_of d) ≡ names (export_of full))
           × MadeDeclaration config importing outer s (script_decl d config importing fuel (taken_by s) s.own outer ++ rest) fuel full rest
-          (fuel - decl_cost d)
+          (fuel - decl_cost d) × Small (script_decl d config importing fuel (taken_by s) s.own outer)
       decl_read (core_type_decl t k) importing outer s fuel rest f o m n l said held fit =
           let full : FullDecl = core_type_decl t (keeps_functions (named_by_core s.own.core_types t)) in
           let P : List ℕ → Type 0 = λ b. MadeDeclaration config importing outer s b fuel full rest (fuel - core_cost t) in (
@@ -226,6 +234,7 @@ module _ (config : Config) where
             declares_read importing outer s.own item.CoreType (script_core config (scope_in s.own) fuel t) rest P
                 (made_core_type (no_import_read config s.own importing _) (item_read config outer s.own item.CoreType 2 true _ refl refl)
                 (core_read config (scope_in s.own) fuel t rest f m n l (omega (arith, held))) refl),
+            small_join (small_declares config importing s.own outer item.CoreType) (small_core config (scope_in s.own) fuel t f m n l (omega (arith, held))),
           )
       decl_read (type_decl e) importing outer s fuel rest f o m n l said held fit =
           let room : nat_lt (length (s.own ∷ outer)) config.max_nesting_depth ≡ true = lt-ltb (length (s.own ∷ outer)) config.max_nesting_depth l.0 in
@@ -237,6 +246,7 @@ module _ (config : Config) where
             refl,
             declares_read importing outer s.own item.«Type» (script_type e config fuel s.own outer) rest P
                 (made_type (no_import_read config s.own importing _) (item_read config outer s.own item.«Type» 3 _ _ refl room) r.2 refl),
+            small_join (small_declares config importing s.own outer item.«Type») r.3,
           )
       decl_read (type_alias count i k) importing outer s fuel rest f o m n l said held fit =
           let full : FullDecl = type_alias count i (keeps_type f.0) in
@@ -250,6 +260,8 @@ module _ (config : Config) where
             declares_read importing outer s.own item.Alias (script_alias (s.own ∷ outer) count (λ z. i)) rest P
                 (made_alias (no_import_read config s.own importing _) (item_read config outer s.own item.Alias 1 _ _ refl there)
                 (type_alias_read (s.own ∷ outer) fit count i f.0 rest f.1) left),
+            small_join (small_declares config importing s.own outer item.Alias)
+                (small_alias (λ z. z.types) (λ z. i) (s.own ∷ outer) fit count i f.0 f.1 (λ z h. omega arith)),
           )
       decl_read (core_type_alias count i k) importing outer s fuel rest f o m n l said held fit =
           let full : FullDecl = core_type_alias count i (keeps_core_type f.0) in
@@ -263,6 +275,8 @@ module _ (config : Config) where
             declares_read importing outer s.own item.Alias (script_alias (s.own ∷ outer) count (λ z. length z.types + i)) rest P
                 (made_alias (no_import_read config s.own importing _) (item_read config outer s.own item.Alias 1 _ _ refl there)
                 (core_alias_read (s.own ∷ outer) fit count i f.0 rest f.1) left),
+            small_join (small_declares config importing s.own outer item.Alias)
+                (small_alias (λ z. z.core_types) (λ z. length z.types + i) (s.own ∷ outer) fit count i f.0 f.1 (λ z h. omega arith)),
           )
       decl_read (import_decl name u r) true outer s fuel rest f o m n l said held fit =
           let left : fuel - 0 ≡ fuel = omega arith in (
@@ -271,6 +285,8 @@ module _ (config : Config) where
             refl,
             refl,
             made_import refl (import_read s name rest r fit.each.0 said.imports.0 n f.0 f.1 o) left,
+            small_join (small_byte 4 0 (omega arith) (omega arith))
+                (small_join (small_ref config s.own uncounted true true fit.each.0 r f.0 o) (small_extern (length s.imports) name said.imports.0)),
           )
       decl_read (import_decl name u r) false outer s fuel rest f o m n l said held fit = absurd (no_import (said.own refl))
         where
@@ -287,6 +303,8 @@ module _ (config : Config) where
             declares_read importing outer s.own item.Export (script_ref config s.own uncounted false true r ++ script_extern (length s.exports) name) rest P
                 (made_export (no_import_read config s.own importing _) (item_read config outer s.own item.Export 0 _ _ refl (export_there s.own r f o))
                 (export_read s name rest r fit.each.0 said.exports.0 n f o) left),
+            small_join (small_declares config importing s.own outer item.Export)
+                (small_join (small_ref config s.own uncounted false true fit.each.0 r f o) (small_extern (length s.exports) name said.exports.0)),
           )
 
       decls_read : (ds : Decls) (importing : Bool) (outer : List Marked) (s : SoFar) (fuel done : ℕ) (rest : List ℕ)
@@ -296,8 +314,9 @@ module _ (config : Config) where
           → Sayable importing (decl_imports ds) (decl_exports ds) → done + decl_count ds ≤ 100 → Holding done s.own → Fit (s.own ∷ outer)
           → (full : FullDecls) × (ds ≡ plain_decls full) × MadeDeclarations config importing outer done s
           (script_decls ds config importing fuel done (taken_by s) s.own outer ++ rest) fuel full rest (fuel - decls_cost ds)
+          × Small (script_decls ds config importing fuel done (taken_by s) s.own outer)
       decls_read no_decls importing outer s fuel done rest f o m n l said few held fit =
-          (no_decls, refl, no_more_decls (end_read 0 100 done rest (omega arith) (omega (arith, few))) (omega arith))
+          (no_decls, refl, no_more_decls (end_read 0 100 done rest (omega arith) (omega (arith, few))) (omega arith), small_end done 100)
       decls_read (then_decls d ds) importing outer s fuel done rest f o m n l said few held fit =
           let imported = kebabs_split (import_of d) (decl_imports ds) said.imports in
           let exported = kebabs_split (export_of d) (decl_exports ds) said.exports in
@@ -346,6 +365,7 @@ module _ (config : Config) where
             λ i. then_decls (one.1 i) (more.1 i),
             subst P (sym (append_assoc said_one later rest))
                 (one_decl (more_one (said_one ++ (later ++ rest)) (omega (arith, few)) (omega arith)) (omega (arith, l.0)) one.4 made),
+            small_more 1 (omega arith) (small_join one.5 (subst Small whole more.3)),
           )
 
     -- What the script of a type says is made of it, and the rest is left.
@@ -362,5 +382,11 @@ module _ (config : Config) where
     type_scripted own outer fuel left e full bytes rest remains said begins made =
         let read = type_read own outer fuel e rest said in
         let P : List ℕ → Type 0 = λ z. Made config own outer z fuel full remains left in
-        let d = made_same config own outer _ fuel full read.full remains rest left read.left (subst P begins made) read.made in
+        let d = made_same (subst P begins made) read.made in
         (ap plain d.value ∙ sym read.shown, d.rest)
+
+-- The script of a type that can be said is bytes.
+pub type_bytes : (config : Config) (own : Marked) (outer : List Marked) (fuel : ℕ) (e : Entry) → config.max_nesting_depth ≤ 1000
+    → IsSayable config own outer fuel e → AreBytes (script_type e config fuel own outer)
+type_bytes config own outer fuel e deep said =
+    (full_read config deep e own outer fuel [] said.formed said.offered said.limits said.readable said.lasts said.fit said.shallow).3.are

@@ -2,7 +2,7 @@
 use Rattle.std.proofs.Common.{◌≡◌, ℕ, ◌+◌, ◌-◌, ◌^◌, ◌<◌, ◌≤◌, Bool, true, false, List, [], ◌∷◌, ◌++◌, map, length, refl, sym, subst, arith, append_assoc}
 use Rattle.std.proofs.Common.{nat_le, nat_eq, Decides, lit≤}
 use Rattle.std.proofs.lemmas.Bool.Decides.{nat_tests, Decides-eqb}
-use Rattle.std.proofs.lemmas.List.{map-id}
+use Rattle.std.proofs.lemmas.List.{map-id, nil_from_length}
 use Rattle.std.specs.List.{AllByRecursion}
 use Rattle.std.specs.Option.{option_to_list}
 use Rattle.std.specs.Prelude.{Option, Some, None, slice_get, if◌then◌else◌}
@@ -11,7 +11,7 @@ use Rattle.smith_input.specs.Choices.{ReadsAmong}
 use Rattle.smith_input.specs.Script.{script_among, pick}
 use Rattle.smith_input.specs.Names.{ReadsNew}
 use Rattle.smith_input.proofs.Choices.{among_read}
-use Rattle.smith_input.proofs.Lists.{all_back, all_front}
+use Rattle.smith_input.proofs.Lists.{all_back, all_front, one_at_most}
 use Rattle.smith_input.proofs.Picks.{reads-pick}
 use Rattle.smith_input.proofs.Reading.{flips_one, flips_zero}
 use Rattle.smith_format.specs.declared.config.Config.{Config}
@@ -23,10 +23,10 @@ use Rattle.smith_types.specs.Made.{MadeAs, MadeDefined, MadeFunction, Made, spen
 use Rattle.smith_syntax.specs.Marked.{Marked}
 use Rattle.smith_syntax.specs.Usable.{OfferedValue, is_value, value_places}
 use Rattle.smith_tree.specs.TypeScript.{script_primitive, script_val, script_maybe, script_label, script_field, script_case, script_members, script_kind}
+use Rattle.smith_tree.specs.TypeScript.{script_defined, script_signature, script_type_kind, script_type}
 use Rattle.smith_tree.specs.TypeNeeds.{cost}
 use Rattle.smith_tree.specs.ReadableTypes.{AreReadableNames, IsReadableDefined}
 use Rattle.smith_types.specs.Sayable.{LastsDefined}
-use Rattle.smith_tree.specs.TypeScript.{script_defined, script_signature, script_type_kind, script_type}
 use Rattle.smith_syntax.specs.WellFormed.{Named, size, defined_size}
 use Rattle.smith_tree.specs.contracts.choices.TypeKind.{the_type as type_kind_type}
 use Rattle.smith_tree.specs.contracts.choices.TypeKindPartialEq.TheImpl.{ghosts as types}
@@ -46,7 +46,6 @@ use Rattle.smith_scopes.proofs.Offered.{length-marked_places}
 use Rattle.smith_types.proofs.Judged.{IsDefined, IsMaybe, IsType, IsValue, cases_are, fields_are, one_are, values_are}
 use Rattle.smith_types.proofs.MarkedPlaces.{marked_found}
 use Rattle.std.proofs.lemmas.Bool.{and_from}
-use Rattle.smith_input.proofs.Lists.{one_at_most}
 use Rattle.smith_syntax.specs.SameSignature.{primitive_Decides}
 
 -- choices
@@ -106,14 +105,10 @@ type_kind_read k at rest named = among_read types.eq type_kind_Decides type_kind
 
 val_primitive : (own : Marked) (p : PrimitiveValType) (rest : List ℕ) (b : Bool) → nat_eq (length (value_places own)) 0 ≡ b
     → ReadsVal own ((if b then [] else pick 2 0) ++ (script_primitive p ++ rest)) (Primitive p) rest
-val_primitive own p rest true e = only_primitive (none (value_places own) e) (primitive_read p rest)
+val_primitive own p rest true e = only_primitive (nil_from_length (value_places own) (none (length (value_places own)) e)) (primitive_read p rest)
   where
-    none : (xs : List ℕ) → nat_eq (length xs) 0 ≡ true → xs ≡ []
-    none [] h = refl
-    none (x ∷ xs) h = absurd (clash (length (x ∷ xs)) (omega arith) h)
-      where
-        clash : (n : ℕ) → 0 < n → nat_eq n 0 ≡ true → ⊥
-        clash n p h = grind (arith, nat_tests)
+    none : (n : ℕ) → nat_eq n 0 ≡ true → n ≡ 0
+    none n h = grind (arith, nat_tests)
 val_primitive own p rest false e = either_primitive (some (length (value_places own)) e)
     (reads-pick 2 0 (script_primitive p ++ rest) (omega arith) (omega arith)) (primitive_read p rest)
   where
@@ -247,15 +242,12 @@ module _ (own : Marked) (few : length own.types ≤ 2 ^ 64) where
       spent_type (omega arith) (subst (λ k. MadeDefined own (script_defined own t ++ rest) 0 t rest k) left r.2) refl
     where
       lasts_less : (fuel : ℕ) (t : DefValType) → fuel < 2 → LastsDefined fuel t → LastsDefined 1 t
-      lasts_less fuel (primitive_type p) less l = tt
       lasts_less fuel (record_type fs) less l = absurd (omega arith)
       lasts_less fuel (variant_type cs) less l = absurd (omega arith)
-      lasts_less fuel (list_type v) less l = tt
       lasts_less fuel (tuple_type vs) less l = absurd (omega arith)
       lasts_less fuel (flags_type ns) less l = absurd (omega arith)
       lasts_less fuel (enum_type ns) less l = absurd (omega arith)
-      lasts_less fuel (option_type v) less l = tt
-      lasts_less fuel (result_type ok err) less l = tt
+      lasts_less fuel t less l = tt
 
   -- What the script of a type of values or of functions says is made of it, and the rest is left.
   pub type_values : (config : Config) (outer : List Marked) (fuel : ℕ) (t : DefValType) (rest : List ℕ) → IsDefined own t → IsReadableDefined t

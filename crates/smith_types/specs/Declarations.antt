@@ -10,8 +10,7 @@ use Rattle.smith_syntax.specs.Marked.{Marked, empty_marked, first_marked, marked
 use Rattle.smith_syntax.specs.declared.deftype.ComponentTypeRef.{ComponentTypeRef}
 use Rattle.smith_syntax.specs.WellFormed.{import_of, export_of, names}
 use Rattle.smith_types.specs.References.{ReadsRef}
-use Rattle.smith_tree.specs.TypeOffers.{ref_kinds, uncounted}
-use Rattle.smith_tree.specs.TypeOffers.{has_reference, occupied, aliases_of}
+use Rattle.smith_tree.specs.TypeOffers.{ref_kinds, uncounted, has_reference, occupied, aliases_of}
 
 -- a name, and a URL or none
 abbrev pub NamedExtern : Type 0

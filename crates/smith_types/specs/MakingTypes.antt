@@ -7,7 +7,7 @@ use Rattle.smith_format.specs.declared.config.Config.{Config}
 use Rattle.smith_format.specs.declared.types.ValType.{ValType}
 use Rattle.smith_input.specs.Names.{Holds}
 use Rattle.smith_input.specs.declared.error.Error.{Error}
-use Rattle.smith_syntax.specs.Entries.{Entry, keeps_type, keeps_core_type, import_decl, export_decl, type_alias, core_type_alias, Signature, CoreEntry}
+use Rattle.smith_syntax.specs.Entries.{Entry, keeps_type, keeps_core_type, import_decl, type_alias, core_type_alias, Signature, CoreEntry}
 use Rattle.smith_syntax.specs.Entries.{DefValType, FullEntry, FullDecl, FullDecls, defined, function, component_type, instance_type, core_type_decl, type_decl}
 use Rattle.smith_syntax.specs.Entries.{in_order, plain, then_decls, keeps_functions}
 use Rattle.smith_syntax.specs.Marked.{Marked, empty_marked, mark, marked_after, marked_after_all, scope_in, scopes_in_marked}
@@ -111,12 +111,9 @@ pub record DeclaresInLast {A : Type 0} (result : Result A Error) (shown : A → 
 
 -- An outer alias keeps what it names.
 abbrev pub IsAliased : List Marked → FullDecl → Type 0
-IsAliased scopes (core_type_decl t k) = ⊥
-IsAliased scopes (type_decl e) = ⊥
 IsAliased scopes (type_alias count i k) = (e : Entry) × (k ≡ keeps_type e) × (type_named (scopes_in_marked scopes) count i ≡ Some e)
 IsAliased scopes (core_type_alias count i k) = (e : CoreEntry) × (k ≡ keeps_core_type e) × (core_type_named (scopes_in_marked scopes) count i ≡ Some e)
-IsAliased scopes (import_decl name n r) = ⊥
-IsAliased scopes (export_decl name n r) = ⊥
+IsAliased scopes d = ⊥
 
 -- The mark is the type's mark in these scopes, if marks are kept.
 abbrev pub IsMarkOf : List Contents → FullEntry → Mark → Type 0

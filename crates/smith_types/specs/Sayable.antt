@@ -3,9 +3,9 @@ use Rattle.std.specs.Prelude.{ℕ, suc, ◌+◌, ◌-◌, ◌<◌, ◌≤◌, �
 use Rattle.std.specs.List.{AllByRecursion}
 use Rattle.smith_tree.specs.CoreTypeNeeds.{core_need}
 use Rattle.smith_format.specs.declared.config.Config.{Config}
-use Rattle.smith_syntax.specs.Entries.{DefValType, primitive_type, record_type, variant_type, list_type, tuple_type, flags_type, enum_type, option_type}
-use Rattle.smith_syntax.specs.Entries.{result_type, Entry, defined, function, component_type, instance_type}
-use Rattle.smith_syntax.specs.Entries.{Decl, Decls, core_type_decl, type_decl, type_alias, core_type_alias, import_decl, export_decl, no_decls, then_decls}
+use Rattle.smith_syntax.specs.Entries.{DefValType, record_type, variant_type, tuple_type, flags_type, enum_type}
+use Rattle.smith_syntax.specs.Entries.{Entry, defined, function, component_type, instance_type}
+use Rattle.smith_syntax.specs.Entries.{Decl, Decls, core_type_decl, type_decl, no_decls, then_decls}
 use Rattle.smith_syntax.specs.Marked.{Marked, scope_in, scopes_in_marked}
 use Rattle.smith_syntax.specs.Usable.{OfferedEntry}
 use Rattle.smith_syntax.specs.TypeLimits.{EntryLimits}
@@ -15,15 +15,12 @@ use Rattle.smith_tree.specs.ReadableTypes.{IsReadableType}
 
 -- The fuel lasts for each member.
 abbrev pub LastsDefined : ℕ → DefValType → Type 0
-LastsDefined fuel (primitive_type p) = Unit {0}
 LastsDefined fuel (record_type fs) = length fs + 2 ≤ fuel
 LastsDefined fuel (variant_type cs) = length cs + 2 ≤ fuel
-LastsDefined fuel (list_type v) = Unit {0}
 LastsDefined fuel (tuple_type vs) = length vs + 2 ≤ fuel
 LastsDefined fuel (flags_type ns) = length ns + 2 ≤ fuel
 LastsDefined fuel (enum_type ns) = length ns + 2 ≤ fuel
-LastsDefined fuel (option_type v) = Unit {0}
-LastsDefined fuel (result_type ok err) = Unit {0}
+LastsDefined fuel t = Unit {0}
 
 -- The same if that many scopes are on the stack: fewer may be than the nesting allows when a type is declared in a
 -- type.
@@ -37,10 +34,7 @@ abbrev mutual
   pub LastsDecl : Decl → Config → ℕ → ℕ → Type 0
   LastsDecl (core_type_decl t k) config scopes fuel = core_need t ≤ fuel
   LastsDecl (type_decl e) config scopes fuel = (scopes < config.max_nesting_depth) × Lasts e config scopes fuel
-  LastsDecl (type_alias count i k) config scopes fuel = Unit {0}
-  LastsDecl (core_type_alias count i k) config scopes fuel = Unit {0}
-  LastsDecl (import_decl name n r) config scopes fuel = Unit {0}
-  LastsDecl (export_decl name n r) config scopes fuel = Unit {0}
+  LastsDecl d config scopes fuel = Unit {0}
 
   pub LastsDecls : Decls → Config → ℕ → ℕ → Type 0
   LastsDecls no_decls config scopes fuel = Unit {0}

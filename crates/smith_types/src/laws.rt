@@ -28,6 +28,7 @@ pub use smith_tree::laws::sizes_are_needed;
 
 /// The limits, the scopes, the bytes and the fuel alone decide which type is made, with its URLs and what its aliases
 /// keep, and the rest of the bytes and of the fuel.
+#[tactic(auto, using(crate::proofs::MadeSame::made_same))]
 pub fn types_are_decided()
     ensures { (config : Config) (own : Marked) (outer : List Marked) (fuel : ℕ)
         → IsDecided (λ bytes (made : FullEntry × ℕ) rest. Made config own outer bytes fuel made.0 rest made.1) }
@@ -35,6 +36,7 @@ pub fn types_are_decided()
 
 /// The script of a type that is well formed in its scopes and within the limits, whose names can be read, and for which
 /// the fuel lasts, is read as that type.
+#[tactic(auto, using(crate::proofs::ScopedScript::type_read))]
 pub fn scripts_are_read()
     ensures { (config : Config) (own : Marked) (outer : List Marked) (fuel : ℕ) (e : Entry)
         → config.max_nesting_depth ≤ 1000 → IsSayable config own outer fuel e
@@ -42,6 +44,7 @@ pub fn scripts_are_read()
 {}
 
 /// The script of such a type is bytes.
+#[tactic(auto, using(crate::proofs::ScopedScript::type_bytes))]
 pub fn type_scripts_are_bytes()
     ensures { (config : Config) (own : Marked) (outer : List Marked) (fuel : ℕ) (e : Entry)
         → config.max_nesting_depth ≤ 1000 → IsSayable config own outer fuel e
@@ -60,6 +63,7 @@ pub fn function_imports_choose_no_kind()
 
 /// A type that is read, on any input, needs no more fuel than there was, and declares types only if one more scope may
 /// nest. All names within it can be read.
+#[tactic(auto, using(smith_tree::proofs::TypeNeeds::declared_within, crate::proofs::MadeFits::made_fits))]
 pub fn answers_need_no_more()
     ensures { (config : Config) (own : Marked) (outer : List Marked) (bytes : List ℕ) (fuel : ℕ) (made : FullEntry)
         (rest : List ℕ) (left : ℕ)
@@ -70,6 +74,7 @@ pub fn answers_need_no_more()
 {}
 
 /// Everything that a type read on any input names was offered.
+#[tactic(auto, using(crate::proofs::MadeFits::made_fits))]
 pub fn answers_are_offered()
     ensures { (config : Config) (own : Marked) (outer : List Marked) (bytes : List ℕ) (fuel : ℕ) (made : FullEntry)
         (rest : List ℕ) (left : ℕ)

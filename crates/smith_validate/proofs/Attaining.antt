@@ -109,12 +109,7 @@ module _ (place : Id) (named : List Id) where
 module _ (inner count : ℕ) (scope : Id) (named more : List Id) (n : Sub more named) (depth : ℕ) (d : depth ≡ length scope) where
   outer_closed : (ids : List Id) (o : Outermost) → AttainsOuter (inner ∷ count ∷ scope) named ids o
       → AttainsOuter ((count + 1) ∷ scope) more ids (outer_outside o depth)
-  outer_closed ids Unnamed a = (
-    a.0,
-    a.1,
-    before_leave inner count scope 0 0 a.0 (omega arith) (omega arith) a.2,
-    is_false (is_among more a.0) (λ h. not_both (is_among named a.0) (n a.0 h) a.3),
-  )
+  outer_closed ids Unnamed a = grind (arith, before_leave, is_false, not_both)
   outer_closed ids (Scope level) a = by_level (ltb depth level) refl
     where
       by_level : (t : Bool) → ltb depth level ≡ t → AttainsOuter ((count + 1) ∷ scope) more ids (outer_outside (Scope level) depth)
@@ -131,7 +126,4 @@ module _ (inner count : ℕ) (scope : Id) (named more : List Id) (n : Sub more n
 
   pub attains_closed : (needs : Needs) (ids : List Id) → Attains (inner ∷ count ∷ scope) named needs ids
       → Attains ((count + 1) ∷ scope) more (closed_needs needs depth) ids
-  attains_closed needs ids a = record {
-    outer = outer_closed ids needs.outermost a.outer;
-    inner = inner_closed ids needs.innermost a.inner;
-  }
+  attains_closed needs ids a = grind (arith, outer_closed, inner_closed)

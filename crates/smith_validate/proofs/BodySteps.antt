@@ -9,10 +9,9 @@ use Rattle.smith_syntax.specs.Scope.{with_types}
 use Rattle.smith_tree.specs.Bodies.{Body, with_facts}
 use Rattle.smith_tree.specs.Facts.{Extern, FactScope, Facts, Id, id_at}
 use Rattle.smith_tree.specs.Validates.{exported, imported, names_of}
-use Rattle.smith_validate.specs.Exact.{AreExportsExactly, AreKnown, IsBodyExactly, IsBodyExactlyNow, IsExposed, IsKeptExactly, IsOpening}
+use Rattle.smith_validate.specs.Exact.{AreExportsExactly, IsBodyExactly, IsBodyExactlyNow, IsExposed, IsKeptExactly, IsOpening}
 use Rattle.smith_validate.specs.Exact.{IsRoleExactly, is_exposed}
 use Rattle.smith_validate.specs.Instances.{Surface, externs_in, place_of}
-use Rattle.smith_validate.specs.Kept.{types_in}
 use Rattle.smith_validate.specs.Places.{IsBefore, IsInside, IsOpen}
 use Rattle.smith_validate.specs.Tables.{AreAdded, AreExact, Fits, IsGrown, IsLive, names_in}
 use Rattle.smith_validate.specs.declared.body.Body.{Body as KeptBody}
@@ -27,7 +26,7 @@ use Rattle.smith_validate.proofs.Attaining.{Names, attains_moves}
 use Rattle.smith_validate.proofs.Closing.{externs_fit, fit_more, fit_wider}
 use Rattle.smith_validate.proofs.Ids.{Moves, closed_before, inside_under, moves_next, not_under, under_then}
 use Rattle.smith_validate.proofs.Knowing.{grown_externs, grown_live, grown_long, grown_names, grown_place, grown_same}
-use Rattle.smith_validate.proofs.Knowing.{known_push, names_grown, next_at, next_is}
+use Rattle.smith_validate.proofs.Knowing.{known_as, known_push, names_grown, next_at, next_is}
 use Rattle.smith_validate.proofs.Names.{among_cases, sub_left}
 
 pub exposed_grown : (place : Id) (table new : List Surface) (s : Exposed) (ids : List Id) → IsGrown place table new
@@ -124,10 +123,8 @@ module _ (asks : Bool) (k : Known) (o : KeptBody) (b : Body) (outer : List FactS
           new = table2;
           grown = g;
           is = record {
-            known = subst (λ ts. AreKnown (ts ∷ reverse (map (λ (s : Scope). s.types.items) new.scopes.outer.items)) new.instances.items
-                (with_types b.own (f ∷ []) ∷ outer) N table2) (sym types)
-                (subst (λ (os : List Scope). AreKnown ((k.scopes.own.types.items ++ kept ∷ []) ∷ reverse (map (λ s. s.types.items) os)) new.instances.items
-                (with_types b.own (f ∷ []) ∷ outer) N table2) (sym outers) pushed);
+            known = known_as k new (k.scopes.own.types.items ++ kept ∷ []) new.instances.items (with_types b.own (f ∷ []) ∷ outer) N table2 types outers refl
+                pushed;
             depth_is = h.depth_is ∙ ap (λ (os : List Scope). length os) (sym outers);
             exports_are = λ id a.
                 elim (h.exports_are id a) [
@@ -147,11 +144,8 @@ module _ (asks : Bool) (k : Known) (o : KeptBody) (b : Body) (outer : List FactS
         let P : List Facts → List Extern → List Extern → Type 0 = λ ts is es. IsBodyExactly asks new p
         (record { own = record { types = ts; core_types = c.own.core_types }; imports = is; exports = es; size = c.size; counts = c.counts })
         outer named table in
-        let known = subst (λ is. AreKnown (types_in new) is (b.own ∷ outer) (names_of b.exports ++ named) table) (sym instances)
-        (subst (λ ts. AreKnown (ts ∷ reverse (map (λ (s : Scope). s.types.items) new.scopes.outer.items)) k.instances.items (b.own ∷ outer)
-        (names_of b.exports ++ named) table) (sym types)
-        (subst (λ (os : List Scope). AreKnown (k.scopes.own.types.items ∷ reverse (map (λ s. s.types.items) os)) k.instances.items (b.own ∷ outer)
-        (names_of b.exports ++ named) table) (sym outers) h.known)) in
+        let known = known_as k new k.scopes.own.types.items k.instances.items (b.own ∷ outer) (names_of b.exports ++ named) table types outers instances
+        h.known in
         let it : P b.own.types b.imports b.exports = record {
           known = record {
             types_are = known.types_are;

@@ -22,20 +22,18 @@ use Rattle.smith_validate.specs.declared.instances.InstanceType.{InstanceType}
 use Rattle.smith_validate.specs.declared.instances.Use.{Use}
 use Rattle.smith_validate.specs.declared.known.Known.{Known}
 use Rattle.smith_validate.proofs.Attaining.{attains_closed}
-use Rattle.smith_validate.proofs.Ids.{added_open, before_leave, not_around, not_under, open_before}
-use Rattle.smith_validate.proofs.Ids.{under_both, under_long, under_same, under_up}
+use Rattle.smith_validate.proofs.Ids.{added_open, before_leave, child_inside, inside_under, not_around, not_under, open_before, open_out, open_short}
+use Rattle.smith_validate.proofs.Ids.{under_same, under_then}
 use Rattle.smith_validate.proofs.Knowing.{added_leave, grown_then, names_in_append, next_at}
 use Rattle.smith_validate.proofs.Names.{Sub, among_cases, sub_left, sub_right}
 use Rattle.smith_validate.proofs.Opened.{live_known}
+use Rattle.smith_validate.proofs.Zips.{all_by}
 use Rattle.smith_validate.proofs.Tables.{externs_more, externs_one_more, place_more}
 
 -- an id that was added to the scope within a place
 pub open_child : (inner : ℕ) (place id : Id) → IsOpen (inner ∷ place) id → length id ≡ length place + 1 → IsChild place id
 open_child inner place id o l =
-    let h : o.count ∷ o.scope ≡ inner ∷ place =
-    under_both (inner ∷ place) (o.count ∷ o.scope) (inner ∷ place) o.place_is (inl refl) (omega (arith, l, ap (λ (x : Id). length x) o.id_is)) in
-    let s : o.scope ≡ place = cc in
-    subst (λ x. IsChild place x) (sym o.id_is) s
+    elim (open_out inner place id o) [ inl c ↦ c | inr p ↦ absurd (let k = open_short place id p in omega (arith, l, k)) ]
 
 pub child_closed : (inner count : ℕ) (scope id : Id) → IsChild (count ∷ scope) id → IsClosed ((count + 1) ∷ scope) id
 child_closed inner count scope [] h = absurd h
@@ -43,54 +41,44 @@ child_closed inner count scope (k ∷ id) h =
     subst (λ x. IsBefore 0 ((count + 1) ∷ scope) x) (sym h) (open_before 0 ((count + 1) ∷ scope) (count ∷ scope) (added_open count scope) (omega arith))
 
 pub child_not_before : (place id : Id) → IsChild place id → IsBefore 0 place id → ⊥
-child_not_before place [] h b = h
-child_not_before place (k ∷ id) h b = not_under 0 place (k ∷ id) b (inr (subst (λ x. IsUnder id x) h (under_same id)))
+child_not_before place id h b = not_under 0 place id b (inside_under id place (child_inside place id h))
 
 -- an id that was added there at some depth
 pub deep_inside : (inner level : ℕ) (place id : Id) → length place ≤ level → IsBefore level (inner ∷ place) id → IsInside id place
 deep_inside inner level place id h b =
-    let l = under_long (inner ∷ place) (b.count ∷ b.scope) b.place_is in
-    let e : b.count ∷ b.scope ≡ inner ∷ place =
-    under_both (inner ∷ place) (b.count ∷ b.scope) (inner ∷ place) b.place_is (inl refl) (omega (arith, l, h, b.deep)) in
-    let s : b.scope ≡ place = cc in
-    inside_of id b.index (subst (λ x. IsUnder id (b.index ∷ x)) s b.id_is)
+    elim (open_out inner place b.around b.open_is) [
+      | inl c ↦ inside_of id b.around b.within c
+      | inr o ↦ absurd (let k = open_short place b.around o in omega (arith, h, k, b.deep))
+    ]
   where
-    inside_of : (x : Id) (k : ℕ) → IsUnder x (k ∷ place) → IsInside x place
-    inside_of [] k u = absurd (let z : [] ≡ k ∷ place = u in cc)
-    inside_of (j ∷ x) k u =
-        elim u [ inl e ↦ (let z : x ≡ place = cc in subst (λ y. IsUnder x y) z (under_same x)) | inr v ↦ under_up x place k v ]
+    inside_of : (x around : Id) → IsUnder x around → IsChild place around → IsInside x place
+    inside_of [] around u c = subst (λ y. IsInside y place) (sym u) (child_inside place around c)
+    inside_of (j ∷ x) around u c =
+        elim u [
+          | inl e ↦ subst (λ y. IsInside y place) (sym e) (child_inside place around c)
+          | inr v ↦ under_then x around place v (inside_under around place (child_inside place around c))
+        ]
 
--- Exports that fit with more types of instances.
+-- Exports that fit in another way too.
+pub fits_by : (a b : List Surface) (m n : ℕ) (around : Id) → ((k : ℕ) → IsSeen a m around k → (k < n) × (place_of b k ≡ place_of a k)) → (ps : List Piece)
+    → AllByRecursion (Fits a m around) ps → AllByRecursion (Fits b n around) ps
+fits_by a b m n around f = all_by (Fits a m around) (Fits b n around) one
+  where
+    seen : (k : ℕ) → IsSeen a m around k → IsSeen b n around k
+    seen k s = record { scope = s.scope; index = s.index; below = (f k s).0; place_is = (f k s).1 ∙ s.place_is; scope_is = s.scope_is }
+
+    one : (q : Piece) → Fits a m around q → Fits b n around q
+    one (single x) g = g
+    one (whole k) g = seen k g
+    one (equal k names) g = (seen k g.0, g.1)
+
+-- with more types of instances
 module _ (table more : List Surface) (bound : ℕ) (around : Id) (h : bound ≤ length table) where
-  seen_more : (n : ℕ) → IsSeen table bound around n → IsSeen (table ++ more) bound around n
-  seen_more n s = record {
-    scope = s.scope;
-    index = s.index;
-    below = s.below;
-    place_is = place_more table more n (omega (arith, s.below, h)) ∙ s.place_is;
-    scope_is = s.scope_is;
-  }
-
-  seen_less : (n : ℕ) → IsSeen (table ++ more) bound around n → IsSeen table bound around n
-  seen_less n s = record {
-    scope = s.scope;
-    index = s.index;
-    below = s.below;
-    place_is = sym (place_more table more n (omega (arith, s.below, h))) ∙ s.place_is;
-    scope_is = s.scope_is;
-  }
-
   pub fit_more : (ps : List Piece) → AllByRecursion (Fits table bound around) ps → AllByRecursion (Fits (table ++ more) bound around) ps
-  fit_more [] f = tt
-  fit_more (single x ∷ ps) f = (f.0, fit_more ps f.1)
-  fit_more (whole n ∷ ps) f = (seen_more n f.0, fit_more ps f.1)
-  fit_more (equal n ns ∷ ps) f = ((seen_more n f.0.0, f.0.1), fit_more ps f.1)
+  fit_more = fits_by table (table ++ more) bound bound around (λ n s. (s.below, place_more table more n (omega (arith, s.below, h))))
 
   pub fit_less : (ps : List Piece) → AllByRecursion (Fits (table ++ more) bound around) ps → AllByRecursion (Fits table bound around) ps
-  fit_less [] f = tt
-  fit_less (single x ∷ ps) f = (f.0, fit_less ps f.1)
-  fit_less (whole n ∷ ps) f = (seen_less n f.0, fit_less ps f.1)
-  fit_less (equal n ns ∷ ps) f = ((seen_less n f.0.0, f.0.1), fit_less ps f.1)
+  fit_less = fits_by (table ++ more) table bound bound around (λ n s. (s.below, sym (place_more table more n (omega (arith, s.below, h)))))
 
   pub externs_fit : (ps : List Piece) → AllByRecursion (Fits table bound around) ps → externs_in (table ++ more) ps ≡ externs_in table ps
   externs_fit [] f = refl
@@ -98,33 +86,9 @@ module _ (table more : List Surface) (bound : ℕ) (around : Id) (h : bound ≤ 
   externs_fit (whole n ∷ ps) f = externs_one_more table more (whole n) ps (omega (arith, f.0.below, h)) (externs_fit ps f.1)
   externs_fit (equal n ns ∷ ps) f = externs_one_more table more (equal n ns) ps (omega (arith, f.0.0.below, h)) (externs_fit ps f.1)
 
--- one that fits among more
 pub fit_wider : (table : List Surface) (a b : ℕ) (around : Id) → a ≤ b → (ps : List Piece) → AllByRecursion (Fits table a around) ps
     → AllByRecursion (Fits table b around) ps
-fit_wider table a b around h [] f = tt
-fit_wider table a b around h (single x ∷ ps) f = (f.0, fit_wider table a b around h ps f.1)
-fit_wider table a b around h (whole n ∷ ps) f = (
-  record { scope = f.0.scope; index = f.0.index; below = omega (arith, f.0.below, h); place_is = f.0.place_is; scope_is = f.0.scope_is },
-  fit_wider table a b around h ps f.1,
-)
-fit_wider table a b around h (equal n ns ∷ ps) f = (
-  (
-    record {
-      scope = f.0.0.scope;
-      index = f.0.0.index;
-      below = omega (arith, f.0.0.below, h);
-      place_is = f.0.0.place_is;
-      scope_is = f.0.0.scope_is;
-    },
-    f.0.1,
-  ),
-  fit_wider table a b around h ps f.1,
-)
-
-pub fit_append : (table : List Surface) (bound : ℕ) (around : Id) (ps qs : List Piece) → AllByRecursion (Fits table bound around) ps
-    → AllByRecursion (Fits table bound around) qs → AllByRecursion (Fits table bound around) (ps ++ qs)
-fit_append table bound around [] qs f g = g
-fit_append table bound around (p ∷ ps) qs f g = (f.0, fit_append table bound around ps qs f.1 g)
+fit_wider table a b around h = fits_by table table a b around (λ n s. (omega (arith, s.below, h), refl))
 
 abbrev pub uses_or : Option InstanceType → List Use
 uses_or o = elim o [ None ↦ [] | Some t ↦ t.uses.items ]
@@ -132,38 +96,35 @@ uses_or o = elim o [ None ↦ [] | Some t ↦ t.uses.items ]
 abbrev pub own_or : Option InstanceType → Bool
 own_or o = elim o [ None ↦ false | Some t ↦ t.refers_to_own ]
 
--- one of those before
-pub exact_more : (all now : List InstanceType) (table more : List Surface) (n : ℕ) → n < length table → slice_get now n ≡ slice_get all n
-    → IsExact all table n → IsExact now (table ++ more) n
-exact_more all now table more n h same e =
-    let place = place_more table more n h in
-    let externs = externs_more table more n h in
+-- one of those that are in both
+exact_by : (all now : List InstanceType) (a b : List Surface) (n : ℕ) → place_of b n ≡ place_of a n → externs_of b n ≡ externs_of a n
+    → slice_get now n ≡ slice_get all n
+    → ((ps : List Piece) → AllByRecursion (Fits a n (place_of a n)) ps → AllByRecursion (Fits b n (place_of a n)) ps × (externs_in a ps ≡ externs_in b ps))
+    → IsExact all a n → IsExact now b n
+exact_by all now a b n place externs same move e =
+    let m = move e.pieces e.fit in
     record {
       pieces = e.pieces;
-      externs_are = externs ∙ (e.externs_are ∙ sym (externs_fit table more n (place_of table n) (omega (arith, h)) e.pieces e.fit));
+      externs_are = externs ∙ (e.externs_are ∙ m.1);
       uses_are = ap uses_or same ∙ e.uses_are;
-      fit = subst (λ p. AllByRecursion (Fits (table ++ more) n p) e.pieces) (sym place)
-          (fit_more table more n (place_of table n) (omega (arith, h)) e.pieces e.fit);
+      fit = subst (λ p. AllByRecursion (Fits b n p) e.pieces) (sym place) m.0;
       own = λ o.
           let r = e.own (sym (ap own_or same) ∙ o) in
           (r.0, subst (λ xs. is_among (refers_of xs) r.0 ≡ true) (sym externs) r.1, subst (λ p. IsInside r.0 p) (sym place) r.2);
     }
 
+pub exact_more : (all now : List InstanceType) (table more : List Surface) (n : ℕ) → n < length table → slice_get now n ≡ slice_get all n
+    → IsExact all table n → IsExact now (table ++ more) n
+exact_more all now table more n h same =
+    let around = place_of table n in
+    exact_by all now table (table ++ more) n (place_more table more n h) (externs_more table more n h) same
+    (λ ps f. (fit_more table more n around (omega (arith, h)) ps f, sym (externs_fit table more n around (omega (arith, h)) ps f)))
+
 pub exact_less : (all : List InstanceType) (table more : List Surface) (n : ℕ) → n < length table → IsExact all (table ++ more) n → IsExact all table n
-exact_less all table more n h e =
-    let place = place_more table more n h in
-    let externs = externs_more table more n h in
-    let fit = fit_less table more n (place_of table n) (omega (arith, h)) e.pieces
-    (subst (λ p. AllByRecursion (Fits (table ++ more) n p) e.pieces) place e.fit) in
-    record {
-      pieces = e.pieces;
-      externs_are = sym externs ∙ (e.externs_are ∙ externs_fit table more n (place_of table n) (omega (arith, h)) e.pieces fit);
-      uses_are = e.uses_are;
-      fit = fit;
-      own = λ o.
-          let r = e.own o in
-          (r.0, subst (λ xs. is_among (refers_of xs) r.0 ≡ true) externs r.1, subst (λ p. IsInside r.0 p) place r.2);
-    }
+exact_less all table more n h =
+    let around = place_of (table ++ more) n in
+    exact_by all all (table ++ more) table n (sym (place_more table more n h)) (sym (externs_more table more n h)) refl
+    (λ ps f. let g = fit_less table more n around (omega (arith, h)) ps f in (g, externs_fit table more n around (omega (arith, h)) ps g))
 
 slice_left : {A : Type 0} (xs ys : List A) (n : ℕ) → n < length xs → slice_get (xs ++ ys) n ≡ slice_get xs n
 slice_left [] ys n h = absurd (omega (arith, h))

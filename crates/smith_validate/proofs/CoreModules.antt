@@ -34,9 +34,7 @@ framed_some : (bs : List ℕ) (f : List ℕ × List ℕ) → frame_at bs ≡ Som
 framed_some bs f e = ap (λ (g : Found (List ℕ)). g >>= λ x. Some (x.0, x.1)) e
 
 pub no_section_at_end : HasNoSection []
-no_section_at_end id contents after e =
-    let h = section_head id (bytes contents) (bytes after) [] e in
-    let f : [] ≡ id ∷ h.0 = h.1 in cc
+no_section_at_end id contents after e = grind (arith, section_head)
 
 -- behind the id of the section
 pub no_section : (id : ℕ) (rest : List ℕ) → frame_at rest ≡ None → HasNoSection (id ∷ rest)
@@ -73,7 +71,4 @@ counted_few contents n e few = few n.0 n.1 (tells_u.sound contents n e)
 
 -- whether it is found to be small
 pub counts_are_few : (contents : List ℕ) (n : ℕ × List ℕ) → u_at contents ≡ Some n → (nat_le n.0 100 ≡ true) ↔ CountsFew contents
-counts_are_few contents n e = (
-  λ few. counts_some contents n e (grind (arith, nat_tests)),
-  λ few. let most = counted_few contents n e few in grind (arith, nat_tests),
-)
+counts_are_few contents n e = grind (arith, counts_some, nat_tests, counted_few)

@@ -3,7 +3,8 @@ use Rattle.std.proofs.Common.{◌≡◌, ◌⊎◌, ℕ, ◌+◌, ◌<◌, ◌�
 use Rattle.std.proofs.Common.{Option, None, Some}
 use Rattle.std.proofs.lemmas.Bool.{le-ltb, leb-true}
 use Rattle.std.proofs.lemmas.Slice.Eq.{bytes_eq-Decides}
-use Rattle.std.specs.Prelude.{bytes_eq, ltb}
+use Rattle.std.specs.Prelude.{bytes_eq}
+use Rattle.smith_input.proofs.Lists.{all_both}
 use Rattle.smith_input.specs.NewNames.{is_among}
 use Rattle.smith_tree.specs.Facts.{Id}
 use Rattle.smith_validate.specs.Marks.{Covers, IsAbove, IsCoveredBy, IsNamedIn, IsUpTo, Within, both, closed_needs, greater_of, is_nothing, is_within}
@@ -12,6 +13,10 @@ use Rattle.smith_validate.specs.declared.facts.Needs.{Needs}
 use Rattle.smith_validate.specs.declared.facts.Outermost.{Outermost}
 use Rattle.smith_validate.specs.declared.facts.Outermost.TheVariants.{Unnamed, Scope, Nothing}
 use Rattle.smith_validate.proofs.Names.{Sub, or_left, sub_left, sub_right, within_sub}
+use Rattle.smith_validate.proofs.Zips.{all_by}
+
+abbrev IsCovered : List (List Id) → Needs → Id → Type 0
+IsCovered names x id = IsCoveredBy x.outermost x.innermost names id
 
 up_to_left : (i j : Option ℕ) (l : ℕ) → IsUpTo i l → IsUpTo (greater_of i j) l
 up_to_left None j l h = absurd h
@@ -58,19 +63,13 @@ module _ (names : List (List Id)) (id : Id) (i j : Option ℕ) where
 
 module _ (names : List (List Id)) (x y : Needs) where
   pub covers_left : (ids : List Id) → Covers names x ids → Covers names (both x y) ids
-  covers_left [] c = tt
-  covers_left (id ∷ ids) c = (covered_left names id x.innermost y.innermost x.outermost y.outermost c.0, covers_left ids c.1)
+  covers_left = all_by (IsCovered names x) (IsCovered names (both x y)) (λ id. covered_left names id x.innermost y.innermost x.outermost y.outermost)
 
   pub covers_right : (ids : List Id) → Covers names y ids → Covers names (both x y) ids
-  covers_right [] c = tt
-  covers_right (id ∷ ids) c = (covered_right names id x.innermost y.innermost x.outermost y.outermost c.0, covers_right ids c.1)
-
-pub covers_append : (names : List (List Id)) (x : Needs) (a b : List Id) → Covers names x a → Covers names x b → Covers names x (a ++ b)
-covers_append names x [] b c d = d
-covers_append names x (id ∷ a) b c d = (c.0, covers_append names x a b c.1 d)
+  covers_right = all_by (IsCovered names y) (IsCovered names (both x y)) (λ id. covered_right names id x.innermost y.innermost x.outermost y.outermost)
 
 pub covers_both : (names : List (List Id)) (x y : Needs) (a b : List Id) → Covers names x a → Covers names y b → Covers names (both x y) (a ++ b)
-covers_both names x y a b c d = covers_append names (both x y) a b (covers_left names x y a c) (covers_right names x y b d)
+covers_both names x y a b c d = all_both (IsCovered names (both x y)) a b (covers_left names x y a c) (covers_right names x y b d)
 
 -- an unnamed one says nothing of where the types are named
 pub covers_unnamed : (names : List (List Id)) (i : Option ℕ) (ids : List Id) → Covers names (record { outermost = Unnamed; innermost = i }) ids
@@ -84,8 +83,7 @@ covered_outer here names id (Scope a) i c = inr c
 covered_outer here names id Nothing i c = absurd c
 
 pub covers_outer : (here : List Id) (names : List (List Id)) (x : Needs) (ids : List Id) → Covers names x ids → Covers (here ∷ names) x ids
-covers_outer here names x [] c = tt
-covers_outer here names x (id ∷ ids) c = (covered_outer here names id x.outermost x.innermost c.0, covers_outer here names x ids c.1)
+covers_outer here names x = all_by (IsCovered names x) (IsCovered (here ∷ names) x) (λ id. covered_outer here names id x.outermost x.innermost)
 
 module _ (here there : List Id) (names : List (List Id)) (sub : Sub here there) where
   covered_here : (id : Id) (o : Outermost) (i : Option ℕ) → IsCoveredBy o i (here ∷ names) id → IsCoveredBy o i (there ∷ names) id
@@ -94,8 +92,7 @@ module _ (here there : List Id) (names : List (List Id)) (sub : Sub here there) 
   covered_here id Nothing i c = absurd c
 
   pub covers_here : (x : Needs) (ids : List Id) → Covers (here ∷ names) x ids → Covers (there ∷ names) x ids
-  covers_here x [] c = tt
-  covers_here x (id ∷ ids) c = (covered_here id x.outermost x.innermost c.0, covers_here x ids c.1)
+  covers_here x = all_by (IsCovered (here ∷ names) x) (IsCovered (there ∷ names) x) (λ id. covered_here id x.outermost x.innermost)
 
 pub covers_named : (here : List Id) (names : List (List Id)) (id : Id) → is_among here id ≡ true → Covers (here ∷ names) (named_needs (length names)) (id ∷ [])
 covers_named here names id h = (inl (h, omega arith, omega arith), tt)
@@ -190,12 +187,8 @@ named_closed from i depth (here ∷ names) id h n =
 module _ (names : List (List Id)) (depth : ℕ) (h : length names ≤ depth + 1) where
   covered_closed : (id : Id) (o : Outermost) (i : Option ℕ) → IsCoveredBy o i names id → IsCoveredBy (outer_outside o depth) (not_below i depth) names id
   covered_closed id Unnamed i c = tt
-  covered_closed id (Scope a) i c =
-      let l : a < length names = named_level a i names id c in
-      let e : ltb depth a ≡ false = le-ltb depth a (omega (arith, l, h)) in
-      rw e (named_closed a i depth names id h c)
+  covered_closed id (Scope a) i c = grind (arith, named_level, le-ltb, named_closed)
   covered_closed id Nothing i c = absurd c
 
   pub covers_closed : (x : Needs) (ids : List Id) → Covers names x ids → Covers names (closed_needs x depth) ids
-  covers_closed x [] c = tt
-  covers_closed x (id ∷ ids) c = (covered_closed id x.outermost x.innermost c.0, covers_closed x ids c.1)
+  covers_closed x = all_by (IsCovered names x) (IsCovered names (closed_needs x depth)) (λ id. covered_closed id x.outermost x.innermost)

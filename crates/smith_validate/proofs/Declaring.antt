@@ -1,30 +1,23 @@
 -- What is kept is exact after a declaration.
-use Rattle.std.proofs.Common.{◌≡◌, ℕ, ◌+◌, ◌<◌, ◌≤◌, Bool, true, false, List, [], ◌∷◌, ◌++◌, length, map, reverse, get_or}
+use Rattle.std.proofs.Common.{◌≡◌, ℕ, ◌+◌, Bool, true, false, List, [], ◌∷◌, ◌++◌, length, map, reverse}
 use Rattle.std.proofs.Common.{refl, sym, ap, ◌∙◌, subst, arith, append-nil, length-append, Option, None, Some}
-use Rattle.std.proofs.Math.ListN.{drop}
 use Rattle.std.specs.List.{AllByRecursion, AllZip, flat_map}
 use Rattle.std.specs.Option.{option_to_list}
-use Rattle.smith_input.proofs.Rests.{drop_past, rest_at}
 use Rattle.smith_input.specs.NewNames.{is_among}
-use Rattle.smith_syntax.specs.Entries.{Decl, Decls, in_order, no_decls, then_decls}
 use Rattle.smith_syntax.specs.Scope.{empty_scope}
 use Rattle.smith_syntax.specs.declared.types.ComponentValType.{ComponentValType}
-use Rattle.smith_tree.specs.Bodies.{Body, after_decl, after_decls, empty_body, with_facts}
+use Rattle.smith_tree.specs.Bodies.{Body, empty_body, with_facts}
 use Rattle.smith_tree.specs.Facts.{FactScope, Facts, Id, id_at, value_needs}
-use Rattle.smith_tree.specs.Validates.{ValidDecl, ValidDecls, names_of}
-use Rattle.smith_read.specs.TypeNodes.{shown_decl_node}
-use Rattle.smith_read.specs.declared.type_nodes.DeclNode.{DeclNode}
+use Rattle.smith_tree.specs.Validates.{names_of}
 use Rattle.smith_validate.specs.Attained.{Attains}
 use Rattle.smith_validate.specs.Bodies.{IsFresh}
 use Rattle.smith_validate.specs.Exact.{AreKnown, IsBodyExactly, IsBodyExactlyNow, IsDeclaredExactly, IsJudgedExactly, IsKeptExactly, IsRoleExactly}
 use Rattle.smith_validate.specs.Instances.{Surface}
 use Rattle.smith_validate.specs.Kept.{types_in}
 use Rattle.smith_validate.specs.Marks.{no_needs, plain_facts}
-use Rattle.smith_validate.specs.Tables.{AreExact, IsGrown, names_in}
-use Rattle.smith_validate.specs.Usual.{AreUsualDecls, IsOfValues}
+use Rattle.smith_validate.specs.Tables.{AreExact, names_in}
+use Rattle.smith_validate.specs.Usual.{IsOfValues}
 use Rattle.smith_validate.specs.Values.{HasMarks, marks_from}
-use Rattle.smith_validate.specs.Outcome.{asking}
-use Rattle.smith_validate.specs.declared.error.Demand.TheVariants.{Named}
 use Rattle.smith_validate.specs.declared.body.Body.{Body as KeptBody}
 use Rattle.smith_validate.specs.declared.body.Role.{Role}
 use Rattle.smith_validate.specs.declared.body.Role.TheVariants.{Names as Naming, Exports as Exporting}
@@ -112,9 +105,7 @@ module _ (asks : Bool) (k : Known) (o : KeptBody) (b : Body) (outer : List FactS
   pub body_alias : (x : Option KeptFacts) (y : Option Facts) → AllZip (IsKeptExactly table here all) (option_to_list x) (option_to_list y)
       → new.scopes.own.types.items ≡ k.scopes.own.types.items ++ option_to_list x
       → IsBodyExactlyNow asks new p (with_facts b (option_to_list y)) outer named here table
-  body_alias None None a types =
-      body_as asks k o b outer named table h new p outers role (with_facts b []) (types ∙ append-nil k.scopes.own.types.items) instances
-      (append-nil b.own.types) refl refl
+  body_alias None None a types = grind (arith, body_as, append-nil)
   body_alias None (Some f) a types = absurd a
   body_alias (Some g) None a types = absurd a
   body_alias (Some g) (Some f) a types =
@@ -136,34 +127,10 @@ body_declared_exactly asks k o b outer named table h mid new p g f d own out typ
     body_push asks k o b outer named table h new p (outers ∙ out) role g f d.new (types ∙ ap (λ (s : Scope). s.types.items ++ g ∷ []) own) d.grown
     (subst (λ is. AreExact is d.new) (sym instances) d.instances_are) d.added (ap (λ is. length is) instances ∙ d.long) d.is
 
--- What was judged of declarations, and what is left of them.
-pub record DeclsExactly (asks : Bool) (own : FactScope) (outer : List FactScope) (named : List Id) (table : List Surface) (all : Decls) (k : Known)
-    (o : KeptBody) (rest : Decls) : Type 0 where
-  pub b : Body
-  pub new : List Surface
-  pub grown : IsGrown (id_at (own ∷ outer)) table new
-  pub is : IsBodyExactly asks k o b (own ∷ outer) named new
-  pub left : ValidDecls (asking Named) asks all (own ∷ outer) empty_body → ValidDecls (asking Named) asks rest (own ∷ outer) b
-  pub usual : AreUsualDecls asks rest (own ∷ outer) b
-  pub after : after_decls all (own ∷ outer) empty_body ≡ after_decls rest (own ∷ outer) b
-
 pub role_fresh_exactly : (table : List Surface) (outer : List FactScope) (named : List Id) (asks : Bool) (r : Role) → IsFresh asks r
     → IsRoleExactly table outer named asks r empty_body
 role_fresh_exactly table outer named asks (Naming s) f = (f.0, f.2 table)
-role_fresh_exactly table outer named asks (Exporting e) f = (
-  f.0,
-  record {
-    pieces = [];
-    externs_are = refl;
-    uses_are = f.2;
-    fit = tt;
-    before = λ id h. absurd (let z : false ≡ true = h in cc);
-    refers_are = subst (λ n. Attains (id_at (empty_body.own ∷ outer)) ([] ++ named ++ names_in table) n []) (sym f.1)
-        (attains_nothing (id_at (empty_body.own ∷ outer)) ([] ++ named ++ names_in table) []);
-    some = λ h. absurd (let z : true ≡ false = sym h ∙ f.3 in cc);
-    none = λ h. refl;
-  },
-)
+role_fresh_exactly table outer named asks (Exporting e) f = grind (arith, attains_nothing)
 
 -- an empty scope within
 
@@ -182,75 +149,22 @@ entered_known k new own outer named table h types outers instances =
 pub empty_exactly : (asks : Bool) (k : Known) (o : KeptBody) (outer : List FactScope) (named : List Id) (table : List Surface)
     → AreKnown (types_in k) k.instances.items (empty_scope ∷ outer) named table → length outer ≡ length k.scopes.outer.items → IsFresh asks o.role
     → IsBodyExactly asks k o empty_body outer named table
-empty_exactly asks k o outer named table h d fresh = record {
-  known = h;
-  depth_is = d;
-  exports_are = λ id a. absurd (let z : false ≡ true = a in cc);
-  imports_are = λ id a. absurd (let z : false ≡ true = a in cc);
-  role_is = role_fresh_exactly table outer named asks o.role fresh;
-}
+empty_exactly asks k o outer named table h d fresh = grind (arith, role_fresh_exactly)
 
-module _ (asks : Bool) (own : FactScope) (outer : List FactScope) (named : List Id) (table : List Surface) (all : Decls) where
-  pub exactly_begin : (k new : Known) (o : KeptBody)
-      → AreKnown (types_in k) k.instances.items (own ∷ outer) named table → length outer ≡ length k.scopes.outer.items → IsFresh asks o.role
-      → AreUsualDecls asks all (own ∷ outer) empty_body
-      → new.scopes.own.types.items ≡ [] → new.scopes.outer.items ≡ k.scopes.outer.items ++ k.scopes.own ∷ [] → new.instances.items ≡ k.instances.items
-      → DeclsExactly asks own outer named table all new o all
-  exactly_begin k new o h d fresh usual types outers instances = record {
-    b = empty_body;
-    new = table;
-    grown = grown_same (id_at (own ∷ outer)) table;
-    is = empty_exactly asks new o (own ∷ outer) named table (entered_known k new own outer named table h types outers instances)
-        (omega (arith, d, ap (λ (os : List Scope). length os) outers, length-append k.scopes.outer.items (k.scopes.own ∷ []))) fresh;
-    left = λ v. v;
-    usual = usual;
-    after = refl;
-  }
+-- declarations within a scope
 
-  pub exactly_more : (k : Known) (o : KeptBody) (d : Decl) (rest : Decls) (l : DeclsExactly asks own outer named table all k o (then_decls d rest))
-      → (new : Known) (p : KeptBody)
-      → IsBodyExactlyNow asks new p (after_decl d (own ∷ outer) l.b) (own ∷ outer) named (id_at (l.b.own ∷ own ∷ outer)) l.new
-      → DeclsExactly asks own outer named table all new p rest
-  exactly_more k o d rest l new p n = record {
-    b = after_decl d (own ∷ outer) l.b;
-    new = n.new;
-    grown = grown_then (id_at (own ∷ outer)) table l.new n.new l.grown
-        (grown_out (length l.b.own.types) (id_at (own ∷ outer)) l.new n.new n.grown);
-    is = n.is;
-    left = λ v. (l.left v).2;
-    usual = l.usual.1;
-    after = l.after;
-  }
+pub exactly_begin : (asks : Bool) (own : FactScope) (outer : List FactScope) (named : List Id) (table : List Surface) (k new : Known) (o : KeptBody)
+    → AreKnown (types_in k) k.instances.items (own ∷ outer) named table → length outer ≡ length k.scopes.outer.items → IsFresh asks o.role
+    → new.scopes.own.types.items ≡ [] → new.scopes.outer.items ≡ k.scopes.outer.items ++ k.scopes.own ∷ [] → new.instances.items ≡ k.instances.items
+    → IsBodyExactlyNow asks new o empty_body (own ∷ outer) named (id_at (own ∷ outer)) table
+exactly_begin asks own outer named table k new o h d fresh types outers instances = grind (arith, exactly_now, empty_exactly, entered_known, length-append)
 
-  pub exactly_refused : (k : Known) (o : KeptBody) (d : Decl) (rest : Decls) (l : DeclsExactly asks own outer named table all k o (then_decls d rest))
-      → ¬ (ValidDecl (asking Named) asks d (own ∷ outer) l.b) → ¬ (ValidDecls (asking Named) asks all (own ∷ outer) empty_body)
-  exactly_refused k o d rest l n = λ v. n (l.left v).0
+pub exactly_then : (asks : Bool) (k new : Known) (o p : KeptBody) (b c : Body) (outer : List FactScope) (named : List Id) (table : List Surface)
+    → (n : IsBodyExactlyNow asks k o b outer named (id_at outer) table) → IsBodyExactlyNow asks new p c outer named (id_at (b.own ∷ outer)) n.new
+    → IsBodyExactlyNow asks new p c outer named (id_at outer) table
+exactly_then asks k new o p b c outer named table n m = grind (arith, grown_then, grown_out)
 
-  pub exactly_judged : (k : Known) (o : KeptBody) (l : DeclsExactly asks own outer named table all k o no_decls) (new : Known)
-      → new.instances.items ≡ k.instances.items
-      → IsJudgedExactly asks new o (after_decls all (own ∷ outer) empty_body) (own ∷ outer) named table
-  exactly_judged k o l new i = subst (λ b. IsJudgedExactly asks new o b (own ∷ outer) named table) (sym l.after) (record {
-    new = l.new;
-    grown = l.grown;
-    instances_are = subst (λ is. AreExact is l.new) (sym i) l.is.known.instances_are;
-    added = l.is.known.added;
-    long = ap (λ is. length is) i ∙ l.is.known.long;
-    exports_are = l.is.exports_are;
-    role_is = l.is.role_is;
-  })
-
--- of a node
-module _ (asks : Bool) (own : FactScope) (outer : List FactScope) (named : List Id) (table : List Surface) (ds : List DeclNode) (k : Known) (o : KeptBody)
-    (i : ℕ) where
-  abbrev pub ExactlyFrom : Type 0
-  ExactlyFrom = DeclsExactly asks own outer named table (in_order (map shown_decl_node ds)) k o (in_order (map shown_decl_node (drop i ds)))
-
-  pub exactly_at : (d : DeclNode) → i < length ds → d ≡ get_or ds i d → ExactlyFrom
-      → DeclsExactly asks own outer named table (in_order (map shown_decl_node ds)) k o
-      (then_decls (shown_decl_node d) (in_order (map shown_decl_node (drop (i + 1) ds))))
-  exactly_at d h e l =
-      subst (λ ys. DeclsExactly asks own outer named table (in_order (map shown_decl_node ds)) k o (in_order (map shown_decl_node ys))) (rest_at ds i d h e) l
-
-  pub exactly_last : length ds ≤ i → ExactlyFrom → DeclsExactly asks own outer named table (in_order (map shown_decl_node ds)) k o no_decls
-  exactly_last h l =
-      subst (λ ys. DeclsExactly asks own outer named table (in_order (map shown_decl_node ds)) k o (in_order (map shown_decl_node ys))) (drop_past ds i h) l
+pub exactly_judged : (asks : Bool) (k new : Known) (o : KeptBody) (b : Body) (outer : List FactScope) (named : List Id) (table : List Surface)
+    → IsBodyExactlyNow asks k o b outer named (id_at outer) table → new.instances.items ≡ k.instances.items
+    → IsJudgedExactly asks new o b outer named table
+exactly_judged asks k new o b outer named table n i = grind arith

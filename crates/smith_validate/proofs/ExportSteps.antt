@@ -28,12 +28,12 @@ use Rattle.smith_validate.specs.declared.known.Scope.{Scope}
 use Rattle.smith_validate.proofs.Attaining.{Names}
 use Rattle.smith_validate.proofs.Closing.{scope_long}
 use Rattle.smith_validate.proofs.Ids.{Moves, added_open, closed_before, moves_next, moves_same, not_under, open_before, under_same}
-use Rattle.smith_validate.proofs.Knowing.{grown_same, kept_moves, known_named, known_push, next_at, next_is, added_moves}
+use Rattle.smith_validate.proofs.Knowing.{grown_same, kept_moves, known_as, known_named, known_push, next_at, next_is, added_moves}
 use Rattle.smith_validate.proofs.Names.{Sub, among_cases, among_one, names_append, sub_left, sub_right}
 use Rattle.smith_validate.proofs.Piecing.{names_of_one}
 use Rattle.smith_validate.proofs.BodySteps.{exports_move}
 use Rattle.smith_validate.proofs.Typing.{equal_exact}
-use Rattle.smith_validate.proofs.Valued.{beside, none_beside}
+use Rattle.smith_validate.proofs.Zips.{beside, none_beside}
 
 module _ (table : List Surface) (place : Id) (named : List Id) where
   -- an instance names what its type does
@@ -156,13 +156,7 @@ module _ (asks : Bool) (k : Known) (r : Role) (b : Body) (outer : List FactScope
         let at : id_at (with_types b.own fs ∷ outer) ≡ place = ap (λ ts. length ts ∷ id_at outer) same in
         record {
           known = subst (λ ts. AreKnown (types_in new) new.instances.items (record { types = ts; core_types = b.own.core_types } ∷ outer) (more xs) table)
-              (sym same)
-              (subst (λ is. AreKnown (types_in new) is (b.own ∷ outer) (more xs) table) (sym instances)
-              (subst (λ ts. AreKnown (ts ∷ reverse (map (λ (s : Scope). s.types.items) new.scopes.outer.items)) k.instances.items (b.own ∷ outer)
-              (more xs) table) (sym own)
-              (subst (λ (os : List Scope). AreKnown (k.scopes.own.types.items ∷ reverse (map (λ s. s.types.items) os)) k.instances.items (b.own ∷ outer)
-              (more xs) table)
-              (sym outers) known)));
+              (sym same) (known_as k new k.scopes.own.types.items k.instances.items (b.own ∷ outer) (more xs) table own outers instances known);
           depth_is = h.depth_is ∙ ap (λ (os : List Scope). length os) (sym outers);
           exports_are = λ id a.
               elim (among_cases (names_of b.exports) (names_of xs) id (subst (λ ids. is_among ids id ≡ true) (names_append b.exports xs) a)) [
@@ -210,14 +204,8 @@ module _ (asks : Bool) (k : Known) (r : Role) (b : Body) (outer : List FactScope
         ap (λ ts. length ts ∷ id_at outer) same ∙ next_is b.own outer (equal_facts place f) in
         record {
           known = subst (λ ts. AreKnown (types_in new) new.instances.items (record { types = ts; core_types = b.own.core_types } ∷ outer) (more xs) table)
-              (sym same)
-              (subst (λ is. AreKnown (types_in new) is (with_types b.own (equal_facts place f ∷ []) ∷ outer) (more xs) table) (sym instances)
-              (subst (λ ts. AreKnown (ts ∷ reverse (map (λ (s : Scope). s.types.items) new.scopes.outer.items)) k.instances.items
-              (with_types b.own (equal_facts place f ∷ []) ∷ outer) (more xs) table) (sym own)
-              (subst (λ (os : List Scope). AreKnown ((k.scopes.own.types.items ++ named_facts g (length k.scopes.outer.items) ∷ []) ∷ reverse
-              (map (λ s. s.types.items) os))
-              k.instances.items (with_types b.own (equal_facts place f ∷ []) ∷ outer) (more xs) table)
-              (sym outers) known)));
+              (sym same) (known_as k new (k.scopes.own.types.items ++ named_facts g (length k.scopes.outer.items) ∷ []) k.instances.items
+              (with_types b.own (equal_facts place f ∷ []) ∷ outer) (more xs) table own outers instances known);
           depth_is = h.depth_is ∙ ap (λ (os : List Scope). length os) (sym outers);
           exports_are = λ id a.
               elim (among_cases (names_of b.exports) (names_of xs) id (subst (λ ids. is_among ids id ≡ true) (names_append b.exports xs) a)) [

@@ -2,6 +2,7 @@
 use Rattle.std.proofs.Common.{◌≡◌, inl, inr, ◌+◌, Bool, true, false, List, [], ◌∷◌, ◌++◌, length}
 use Rattle.std.proofs.Common.{sym, ap, ◌∙◌, subst, arith, append-nil, None, Some}
 use Rattle.std.specs.Option.{option_to_list}
+use Rattle.smith_input.proofs.Lists.{all_both}
 use Rattle.smith_input.specs.NewNames.{is_among}
 use Rattle.smith_syntax.specs.declared.deftype.ComponentTypeRef.{ComponentTypeRef}
 use Rattle.smith_tree.specs.Bodies.{Body, after_import, externs_at}
@@ -13,14 +14,14 @@ use Rattle.smith_validate.specs.Exact.{IsRoleExported, IsKeptBody}
 use Rattle.smith_validate.specs.Externs.{extern_of}
 use Rattle.smith_validate.specs.Instances.{Surface, externs_in, refers_of, uses_in}
 use Rattle.smith_validate.specs.Marks.{both}
-use Rattle.smith_validate.specs.Tables.{names_in}
+use Rattle.smith_validate.specs.Tables.{Fits, names_in}
 use Rattle.smith_validate.specs.declared.body.Exported.{Exported}
 use Rattle.smith_validate.specs.declared.body.Extern.{Extern as KeptExtern}
 use Rattle.smith_validate.specs.declared.body.Role.{Role}
 use Rattle.smith_validate.specs.declared.body.Role.TheVariants.{Names, Exports as Exporting}
 use Rattle.smith_validate.specs.declared.known.Known.{Known}
 use Rattle.smith_validate.proofs.Attaining.{attains_both}
-use Rattle.smith_validate.proofs.Closing.{fit_append, scope_long}
+use Rattle.smith_validate.proofs.Closing.{scope_long}
 use Rattle.smith_validate.proofs.Names.{among_cases, refers_of_append, sub_left, sub_right}
 use Rattle.smith_validate.proofs.Piecing.{Is, piece_exact}
 use Rattle.smith_validate.proofs.Roles.{externs_append, uses_append}
@@ -40,7 +41,7 @@ exports_push_exactly table place around full e f xs ys k a i refers uses any =
       externs_are = ap (λ zs. zs ++ ys) a.externs_are ∙ (ap (λ zs. externs_in table a.pieces ++ zs) i.externs_are ∙ sym (externs_append table a.pieces one));
       uses_are = uses ∙ (ap (λ us. us ++ option_to_list k.used) a.uses_are
           ∙ (ap (λ us. uses_in a.pieces ++ us) (sym i.used_is) ∙ sym (uses_append a.pieces one)));
-      fit = fit_append table (length table) around a.pieces one a.fit (i.fit, tt);
+      fit = all_both (Fits table (length table) around) a.pieces one a.fit (i.fit, tt);
       before = λ id h.
           elim (among_cases (refers_of xs) (refers_of ys) id (subst (λ ids. is_among ids id ≡ true) (refers_of_append xs ys) h))
           [ inl x ↦ a.before id x | inr y ↦ i.before id y ];

@@ -217,12 +217,8 @@ module _ (table : List Surface) where
 
     pub next_use : (u v : Use) (done : ℕ) (us : List (Use × ℕ)) (named : List Id) → slice_get (uses_of all (number_of u)) done ≡ Some v
         → Pending ((u, done) ∷ us) named → Next u (use_in u v) (done + 1) us named
-    next_use (Instance n) v done us named at p =
-        let left = drop (done + 1) (uses_of all n) in
-        instance_next n p.1 us (done + 1) v left refl named p.0 (p.2 ∙ drop_at (uses_of all n) done v at) p.3 p.4
-    next_use (Equal n) v done us named at p =
-        let left = drop (done + 1) (uses_of all n) in
-        equal_next n p.1 us (done + 1) v left refl named p.0 (p.2 ∙ drop_at (uses_of all n) done v at) p.3 p.4
+    next_use (Instance n) v done us named at p = grind (arith, instance_next, drop_at)
+    next_use (Equal n) v done us named at p = grind (arith, equal_next, drop_at)
 
     pub use_ended : (u : Use) (done : ℕ) (us : List (Use × ℕ)) (named : List Id) → slice_get (uses_of all (number_of u)) done ≡ None
         → Pending ((u, done) ∷ us) named → Ended u us named
@@ -247,33 +243,30 @@ module _ (table : List Surface) where
       elim (has m is)
       [ inl o ↦ i m o | inr e ↦ subst (λ k. (k < length table) × Within named (refers_of (externs_of table k))) (sym e) (h, w) ]
 
--- one more number
+-- one more number in a set
+module _ (a b : BTreeSet ℕ) (n : ℕ) (u : Updates nat_cmp a b n true) where
+  pub set_has : contains nat_cmp b n ≡ true
+  set_has = u.1
 
-module _ (old new : Exposed) (n : ℕ) where
-  gained : (a b : BTreeSet ℕ) (m : ℕ) → Updates nat_cmp a b n true → contains nat_cmp b m ≡ true → (contains nat_cmp a m ≡ true) ⊎ (m ≡ n)
-  gained a b m u h = by_case (is_at (nat_cmp n) m) refl
+  pub set_only : (m : ℕ) → contains nat_cmp b m ≡ true → (contains nat_cmp a m ≡ true) ⊎ (m ≡ n)
+  set_only m h = by_case (is_at (nat_cmp n) m) refl
     where
       by_case : (t : Bool) → is_at (nat_cmp n) m ≡ t → (contains nat_cmp a m ≡ true) ⊎ (m ≡ n)
       by_case true e = inr (sym (ranked n m order.Equal (sym ((Equal-is (nat_cmp n m)).0 e))))
       by_case false e = inl (sym (u.2 m e) ∙ h)
 
-  pub named_one : new.settled ≡ old.settled → Updates nat_cmp old.named new.named n true → (m : ℕ) → is_settled new m ≡ true
-      → (is_settled old m ≡ true) ⊎ (m ≡ n)
-  named_one same u m h =
-      elim (or_cases (contains nat_cmp new.named m) (contains nat_cmp new.settled m) h) [
-        | inl l ↦ elim (gained old.named new.named m u l)
-            [ inl o ↦ inl (or_left (contains nat_cmp old.named m) (contains nat_cmp old.settled m) o) | inr e ↦ inr e ]
-        | inr r ↦ inl (or_right (contains nat_cmp old.named m) (contains nat_cmp old.settled m) (ap (λ s. contains nat_cmp s m) (sym same) ∙ r))
-      ]
+  pub set_more : (m : ℕ) → contains nat_cmp a m ≡ true → contains nat_cmp b m ≡ true
+  set_more m h = by_case (is_at (nat_cmp n) m) refl
+    where
+      by_case : (t : Bool) → is_at (nat_cmp n) m ≡ t → contains nat_cmp b m ≡ true
+      by_case true e = subst (λ k. contains nat_cmp b k ≡ true) (ranked n m order.Equal (sym ((Equal-is (nat_cmp n m)).0 e))) set_has
+      by_case false e = u.2 m e ∙ h
 
-  pub settled_gains : new.named ≡ old.named → Updates nat_cmp old.settled new.settled n true → (m : ℕ) → is_settled new m ≡ true
-      → (is_settled old m ≡ true) ⊎ (m ≡ n)
-  settled_gains same u m h =
-      elim (or_cases (contains nat_cmp new.named m) (contains nat_cmp new.settled m) h) [
-        | inl l ↦ inl (or_left (contains nat_cmp old.named m) (contains nat_cmp old.settled m) (ap (λ s. contains nat_cmp s m) (sym same) ∙ l))
-        | inr r ↦ elim (gained old.settled new.settled m u r)
-            [ inl o ↦ inl (or_right (contains nat_cmp old.named m) (contains nat_cmp old.settled m) o) | inr e ↦ inr e ]
-      ]
+pub settled_gains : (old new : Exposed) (n : ℕ)
+    → ((m : ℕ) → contains nat_cmp new.named m ≡ true → (contains nat_cmp old.named m ≡ true) ⊎ (m ≡ n))
+    → ((m : ℕ) → contains nat_cmp new.settled m ≡ true → (contains nat_cmp old.settled m ≡ true) ⊎ (m ≡ n))
+    → (m : ℕ) → is_settled new m ≡ true → (is_settled old m ≡ true) ⊎ (m ≡ n)
+settled_gains old new n f g m h = grind (arith, or_cases, or_left, or_right)
 
 -- what is found with an index
 
@@ -282,10 +275,7 @@ with_next i u = (u, i + 1)
 
 pub use_found : (o : Option Use) (i : ℕ) (v : Use) (k : ℕ) (p : Use × ℕ) → p ≡ (v, k) → Some p ≡ option_map (with_next i) o → (o ≡ Some v) × (k ≡ i + 1)
 use_found None i v k p is e = absurd (let z : Some p ≡ None = e in cc)
-use_found (Some u) i v k p is e =
-    let z : Some p ≡ Some (with_next i u) = e in
-    let y : p ≡ with_next i u = cc in
-    (ap (λ q. Some q.0) (sym y ∙ is), sym (ap (λ q. q.1) (sym y ∙ is)))
+use_found (Some u) i v k p is e = grind (arith, is)
 
 pub use_missing : (o : Option Use) (i : ℕ) → None ≡ option_map (with_next i) o → o ≡ None
 use_missing None i e = refl

@@ -11,7 +11,7 @@ use Rattle.smith_validate.specs.Marks.{Covers}
 use Rattle.smith_validate.specs.declared.facts.Facts.{Facts as KeptFacts}
 use Rattle.smith_validate.specs.declared.facts.Needs.{Needs}
 use Rattle.smith_validate.specs.declared.instances.Use.TheVariants.{Instance, Equal}
-use Rattle.smith_validate.proofs.Valued.{beside, none_beside}
+use Rattle.smith_validate.proofs.Zips.{beside, none_beside}
 
 module _ (table : List Surface) (names : List (List Id)) where
   of_equal : (refers : Needs) (f : Facts) (ids : List Id) (i : Option ℕ) → Covers names refers (reach_of table i f) → IsNumbered table i f

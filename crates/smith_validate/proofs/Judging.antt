@@ -13,7 +13,6 @@ use Rattle.smith_validate.specs.Instances.{Surface}
 use Rattle.smith_validate.specs.Judges.{IsNamed, Judges, Refutes, asked}
 use Rattle.smith_validate.specs.Steps.{Later}
 use Rattle.smith_validate.specs.declared.error.Stop.{Stop}
-use Rattle.smith_validate.specs.declared.error.Stop.TheVariants.{OutOfMemory}
 
 -- a fact that another rests on
 pub refute_by : {e : Stop} {P Q : Demands → Type 0} → ((d : Demands) → Q d → P d) → Refutes e P → Refutes e Q
@@ -23,11 +22,6 @@ refute_by {e} f r = record { is = λ n q. r.is n (f (asked e) q) }
 pub passed_on : {A : Type 0} (r : Result A Stop) (e : Stop) {P : Demands → Type 0} → IsErrAnd r (λ y. y ≡ e) → Refutes e P → Judges r P
 passed_on (Ok x) e {P} is d = absurd is
 passed_on (Err y) e {P} is d = subst (λ (z : Stop). Refutes z P) (sym is) d
-
--- Two facts that hold together: all, and what is left of it.
-pub record Same (P Q : Type 0) : Type 0 where
-  pub to : P → Q
-  pub from : Q → P
 
 pub judged_by : {A : Type 0} (r : Result A Stop) {P Q : Demands → Type 0} → (P everything → Q everything) → ((d : Demands) → Q d → P d)
     → Judges r P → Judges r Q

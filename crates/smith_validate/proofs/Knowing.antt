@@ -11,30 +11,25 @@ use Rattle.smith_tree.specs.Facts.{FactScope, Facts, Id, id_at, needs}
 use Rattle.smith_tree.specs.Validates.{names_of}
 use Rattle.smith_validate.specs.Exact.{AreKnown, IsKeptExactly, IsNumberOf}
 use Rattle.smith_validate.specs.Instances.{Surface, externs_of, place_of, refers_of}
+use Rattle.smith_validate.specs.Kept.{outer_types, types_in}
 use Rattle.smith_validate.specs.Places.{IsBefore, IsOpen, IsUnder}
 use Rattle.smith_validate.specs.Tables.{AreAdded, AreExact, IsGrown, IsLive, names_in}
 use Rattle.smith_validate.specs.declared.facts.Facts.{Facts as KeptFacts}
 use Rattle.smith_validate.specs.declared.instances.InstanceType.{InstanceType}
+use Rattle.smith_validate.specs.declared.known.Known.{Known}
 use Rattle.smith_validate.proofs.Attaining.{Names, attains_moves}
 use Rattle.smith_validate.proofs.Ids.{Moves, closed_before, closed_leave, closed_moves, before_leave, moves_in, moves_next, moves_same, under_up}
 use Rattle.smith_validate.proofs.Names.{Sub, among_cases, sub_left, sub_right}
 use Rattle.smith_validate.proofs.Opened.{live_known}
-use Rattle.smith_validate.proofs.Tables.{externs_more, longer, place_more, zip_push}
-
-pub zip_map : {A B : Type 0} (R S : A → B → Type 0) → ((x : A) (y : B) → R x y → S x y) → (xs : List A) (ys : List B) → AllZip R xs ys → AllZip S xs ys
-zip_map R S f [] [] a = tt
-zip_map R S f [] (y ∷ ys) a = a
-zip_map R S f (x ∷ xs) [] a = a
-zip_map R S f (x ∷ xs) (y ∷ ys) a = (f x y a.0, zip_map R S f xs ys a.1)
+use Rattle.smith_validate.proofs.Tables.{externs_more, longer, place_more}
+use Rattle.smith_validate.proofs.Zips.{zip_append, zip_map}
 
 -- the place after a type was added
 abbrev pub next_at : FactScope → List FactScope → Id
 next_at own outer = (length own.types + 1) ∷ id_at outer
 
 pub next_is : (own : FactScope) (outer : List FactScope) (f : Facts) → id_at (with_types own (f ∷ []) ∷ outer) ≡ next_at own outer
-next_is own outer f =
-    let e : length (own.types ++ f ∷ []) ≡ length own.types + 1 = length-append own.types (f ∷ []) in
-    ap (λ n. n ∷ id_at outer) e
+next_is own outer f = grind (arith, length-append)
 
 pub names_in_append : (a b : List Surface) → names_in (a ++ b) ≡ names_in a ++ names_in b
 names_in_append a b = flat_map-append (λ e. names_of e.externs) a b
@@ -42,9 +37,7 @@ names_in_append a b = flat_map-append (λ e. names_of e.externs) a b
 -- Types of instances that have grown in number.
 module _ (place : Id) (old new : List Surface) (g : IsGrown place old new) where
   pub grown_names : Sub (names_in old) (names_in new)
-  grown_names = λ id h.
-      subst (λ t. is_among (names_in t) id ≡ true) (sym g.is)
-      (subst (λ ids. is_among ids id ≡ true) (sym (names_in_append old g.more)) (sub_left (names_in old) (names_in g.more) id h))
+  grown_names = grind (arith, names_in_append, sub_left)
 
   pub grown_place : (n : ℕ) → n < length old → place_of new n ≡ place_of old n
   grown_place n h = ap (λ t. place_of t n) g.is ∙ place_more old g.more n h
@@ -59,12 +52,7 @@ module _ (place : Id) (old new : List Surface) (g : IsGrown place old new) where
   grown_live n h l = λ e. l (grown_place n h ∙ e)
 
 pub grown_same : (place : Id) (table : List Surface) → IsGrown place table table
-grown_same place table = record {
-  more = [];
-  is = sym (append-nil table);
-  names = λ id h b. h;
-  places = λ n h l. absurd (let k = live_known table n l in omega (arith, h, k));
-}
+grown_same place table = grind (arith, append-nil, live_known)
 
 pub grown_then : (place : Id) (a b c : List Surface) → IsGrown place a b → IsGrown place b c → IsGrown place a c
 grown_then place a b c g h = record {
@@ -82,12 +70,7 @@ grown_then place a b c g h = record {
 
 -- what is grown at a place within another is grown at that one
 pub grown_out : (count : ℕ) (place : Id) (a b : List Surface) → IsGrown (count ∷ place) a b → IsGrown place a b
-grown_out count place a b g = record {
-  more = g.more;
-  is = g.is;
-  names = λ id h before. g.names id h ((moves_in count place).before 0 id before);
-  places = λ n h l. under_up (place_of b n) place count (g.places n h l);
-}
+grown_out count place a b g = grind (arith, moves_in, under_up)
 
 -- What is kept of a type stays exact when more is known.
 module _ (old new : Id) (named more : List Id) (a b : List Surface) (m : Moves old new) (n : Names old named more) (g : IsGrown old a b) where
@@ -122,26 +105,20 @@ module _ (old new : Id) (named more : List Id) (a b : List Surface) (m : Moves o
       zip_map Old New (λ ks s i. zip_map (IsKeptExactly a old named) (IsKeptExactly b new more) kept_moves ks s.types i) kept scopes h
 
 pub added_moves : (old new : Id) (table : List Surface) → Moves old new → AreAdded old table → AreAdded new table
-added_moves old new table m a = record {
-  before = λ n l. m.before 0 (place_of table n) (a.before n l);
-  distinct = a.distinct;
-  closed = λ id h. closed_moves old new m id (a.closed id h);
-}
+added_moves old new table m a = grind (arith, closed_moves)
 
 pub added_leave : (inner count : ℕ) (scope : Id) (table : List Surface) → AreAdded (inner ∷ count ∷ scope) table → AreAdded ((count + 1) ∷ scope) table
-added_leave inner count scope table a = record {
-  before = λ n l. before_leave inner count scope 0 0 (place_of table n) (omega arith) (omega arith) (a.before n l);
-  distinct = a.distinct;
-  closed = λ id h. closed_leave inner count scope id (a.closed id h);
-}
+added_leave inner count scope table a = grind (arith, before_leave, closed_leave)
 
 -- Names that were added before a place do not count as new when types of instances have grown in number.
 pub names_grown : (place : Id) (named : List Id) (a b : List Surface) → IsGrown place a b → Names place (named ++ names_in a) (named ++ names_in b)
-names_grown place named a b g = λ id h before.
-    elim (among_cases named (names_in b) id h) [
-      | inl x ↦ sub_left named (names_in a) id x
-      | inr x ↦ sub_right named (names_in a) id (g.names id x before)
-    ]
+names_grown place named a b g = grind (arith, among_cases, sub_left, sub_right)
+
+-- of scopes that are those
+pub known_as : (k new : Known) (ts : List KeptFacts) (is : List InstanceType) (scopes : List FactScope) (named : List Id) (table : List Surface)
+    → new.scopes.own.types.items ≡ ts → new.scopes.outer.items ≡ k.scopes.outer.items → new.instances.items ≡ is
+    → AreKnown (ts ∷ outer_types k) is scopes named table → AreKnown (types_in new) new.instances.items scopes named table
+known_as k new ts is scopes named table own outers instances h = grind arith
 
 module _ (ks : List KeptFacts) (kept : List (List KeptFacts)) (all : List InstanceType) (own : FactScope) (outer : List FactScope) (named : List Id)
     (table : List Surface) (known : AreKnown (ks ∷ kept) all (own ∷ outer) named table) where
@@ -163,7 +140,7 @@ module _ (ks : List KeptFacts) (kept : List (List KeptFacts)) (all : List Instan
       record {
         types_are = subst (λ q. AllZip (λ ks s. AllZip (IsKeptExactly new q (more ++ names_in new)) ks s.types) ((ks ++ k ∷ []) ∷ kept)
             (with_types own (f ∷ []) ∷ outer)) p
-            (zip_push (IsKeptExactly new (next_at own outer) (more ++ names_in new)) ks own.types k f types.0 is, types.1);
+            (zip_append (IsKeptExactly new (next_at own outer) (more ++ names_in new)) ks (k ∷ []) own.types (f ∷ []) types.0 (is, tt), types.1);
         instances_are = exact;
         added = subst (λ q. AreAdded q new) p added;
         long = long;

@@ -4,11 +4,9 @@ pub mod DeclSteps
 pub mod Judging
 pub mod ModuleSteps
 pub mod Names
-pub mod PartRows
-pub mod Rows
+pub mod Zips
+pub mod RowSteps
 pub mod ScopeSteps
-pub mod Sizes
-pub mod Sums
 pub mod Tables
 pub mod Exposed
 pub mod Valued
@@ -28,8 +26,7 @@ pub mod SetsExactly
 pub mod Exporting
 pub mod ExportSteps
 pub mod Declaring
-pub mod RowsExactly
 pub mod PartsExactly
-pub mod PlaceSteps
+pub mod ItemSteps
 pub mod Walking
 pub mod Usually

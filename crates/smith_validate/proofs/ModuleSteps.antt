@@ -27,7 +27,6 @@ use Rattle.std.proofs.lemmas.Grind.{flat_map-append}
 use Rattle.std.proofs.lemmas.List.{length-append, map-append}
 use Rattle.std.proofs.lemmas.List.Elements.{filter-append}
 use Rattle.std.proofs.lemmas.Option.{slice_get-map}
-use Rattle.std.specs.List.{filter, flat_map}
 use Rattle.std.specs.Option.{option_map}
 use Rattle.std.specs.Prelude.{slice_get}
 use Rattle.smith_format.specs.CoreTypes.{Function}
@@ -35,7 +34,7 @@ use Rattle.smith_format.specs.declared.types.ExportKind.{ExportKind}
 use Rattle.smith_format.specs.declared.types.ExportKind.TheVariants as kind
 use Rattle.smith_input.proofs.Rests.{drop_past, rest_at}
 use Rattle.smith_syntax.specs.Entries.{CoreEntry, ModuleDecl, core_func, core_module}
-use Rattle.smith_syntax.specs.ModuleTypes.{adds, func_in, is_of_kind, module_import_of}
+use Rattle.smith_syntax.specs.ModuleTypes.{adds, func_in}
 use Rattle.smith_tree.specs.Demands.{everything}
 use Rattle.smith_tree.specs.Facts.{CoreFacts}
 use Rattle.smith_tree.specs.Sizes.{ValidCore, core_size, imported_of_kind, module_size}
@@ -80,12 +79,7 @@ module _ (fs : List CoreFacts) (i : ℕ) where
 
 -- imports of a kind
 pub kinds_more : (k : ExportKind) (d : ModuleDecl) (ds : List ModuleDecl) → imported_of_kind k (d ∷ ds) ≡ imported_of_kind k (d ∷ []) + imported_of_kind k ds
-kinds_more k d ds =
-    ap (λ is. length (filter (is_of_kind k) (map (λ i. i.2) is))) (flat_map-append module_import_of (d ∷ []) ds)
-    ∙ (ap (λ es. length (filter (is_of_kind k) es)) (map-append (λ i. i.2) (flat_map module_import_of (d ∷ [])) (flat_map module_import_of ds))
-    ∙ (ap length (filter-append (is_of_kind k) (map (λ i. i.2) (flat_map module_import_of (d ∷ []))) (map (λ i. i.2) (flat_map module_import_of ds)))
-    ∙ length-append (filter (is_of_kind k) (map (λ i. i.2) (flat_map module_import_of (d ∷ []))))
-    (filter (is_of_kind k) (map (λ i. i.2) (flat_map module_import_of ds)))))
+kinds_more k d ds = grind (arith, flat_map-append, map-append, filter-append, length-append)
 
 -- What was judged and what is left are the whole.
 pub record Left (around : List CoreEntry) (all : List ModuleDecl) (m : Module) (rest : List ModuleDecl) : Type 0 where

@@ -4,11 +4,13 @@ use Rattle.std.proofs.lemmas.Grind.{flat_map-append}
 use Rattle.std.proofs.lemmas.List.Folds.{list_any-append}
 use Rattle.std.proofs.lemmas.Slice.Eq.{bytes_eq-Decides}
 use Rattle.std.specs.Prelude.{bytes_eq}
+use Rattle.smith_input.proofs.Lists.{all_back, all_both, all_front}
 use Rattle.smith_input.specs.NewNames.{is_among}
 use Rattle.smith_tree.specs.Facts.{Extern, Id}
 use Rattle.smith_tree.specs.Validates.{RefersTo, names_of}
 use Rattle.smith_validate.specs.Instances.{refers_of}
 use Rattle.smith_validate.specs.Marks.{Within}
+use Rattle.smith_validate.proofs.Zips.{all_by}
 
 pub or_left : (a b : Bool) → a ≡ true → (a || b) ≡ true
 or_left true b e = refl
@@ -48,20 +50,16 @@ pub sub_more : (a b more : List Id) → Sub a b → Sub (a ++ more) (b ++ more)
 sub_more a b more f = sub_both a more (b ++ more) (sub_then a b (b ++ more) f (sub_left b more)) (sub_right b more)
 
 pub within_sub : (a b ids : List Id) → Sub a b → Within a ids → Within b ids
-within_sub a b [] f w = tt
-within_sub a b (id ∷ ids) f w = (f id w.0, within_sub a b ids f w.1)
+within_sub a b ids f = all_by (λ id. is_among a id ≡ true) (λ id. is_among b id ≡ true) f ids
 
 pub within_append : (a xs ys : List Id) → Within a xs → Within a ys → Within a (xs ++ ys)
-within_append a [] ys v w = w
-within_append a (x ∷ xs) ys v w = (v.0, within_append a xs ys v.1 w)
+within_append a = all_both (λ id. is_among a id ≡ true)
 
 pub within_first : (a xs ys : List Id) → Within a (xs ++ ys) → Within a xs
-within_first a [] ys w = tt
-within_first a (x ∷ xs) ys w = (w.0, within_first a xs ys w.1)
+within_first a = all_front (λ id. is_among a id ≡ true)
 
 pub within_last : (a xs ys : List Id) → Within a (xs ++ ys) → Within a ys
-within_last a [] ys w = w
-within_last a (x ∷ xs) ys w = within_last a xs ys w.1
+within_last a = all_back (λ id. is_among a id ≡ true)
 
 pub refers_sub : (a b : List Id) (xs : List Extern) → Sub a b → RefersTo a xs → RefersTo b xs
 refers_sub a b [] f r = tt

@@ -1,22 +1,17 @@
 -- Types of instances that are opened one within another.
-use Rattle.std.proofs.Common.{◌≡◌, ◌⊎◌, inl, inr, ℕ, zero, suc, ◌+◌, ◌<◌, Bool, true, false, List, [], ◌∷◌, ◌++◌, length, drop}
+use Rattle.std.proofs.Common.{◌≡◌, ◌⊎◌, inl, inr, ℕ, zero, suc, ◌+◌, ◌<◌, true, false, List, [], ◌∷◌, ◌++◌, length, drop}
 use Rattle.std.proofs.Common.{refl, sym, ap, ◌∙◌, subst, arith, append_assoc, append-nil, None, Some}
-use Rattle.std.specs.BTreeMap.{is_at}
-use Rattle.std.specs.BTreeSet.{BTreeSet, Updates, contains}
-use Rattle.std.specs.Cmp.{Equal-is, ranked}
 use Rattle.std.specs.List.{AllByRecursion}
-use Rattle.std.specs.Ordering.{nat_cmp}
 use Rattle.std.specs.Prelude.{slice_get}
-use Rattle.std.specs.declared.cmp.Ordering.TheVariants as order
 use Rattle.smith_input.specs.NewNames.{is_among}
 use Rattle.smith_tree.specs.Facts.{Extern, Id}
 use Rattle.smith_tree.specs.Validates.{RefersTo, names_of}
 use Rattle.smith_validate.specs.Exact.{IsExposed, IsOpening, is_exposed}
-use Rattle.smith_validate.specs.Exposing.{IsMet, is_settled, named_after, named_past, number_of, refers_own, use_in, uses_of}
+use Rattle.smith_validate.specs.Exposing.{AreMet, IsMet, is_settled, named_after, named_past, number_of, refers_own, use_in, uses_of}
 use Rattle.smith_validate.specs.Instances.{Surface, Piece, equal, externs_in, externs_of, place_of, refers_of, single, uses_in, whole}
 use Rattle.smith_validate.specs.Marks.{Within}
 use Rattle.smith_validate.specs.Opening.{AreAfter, AreHalf, IsMidway, IsNamedThen, IsOpenable, IsReached}
-use Rattle.smith_validate.specs.Places.{IsChild, IsUnder}
+use Rattle.smith_validate.specs.Places.{IsChild}
 use Rattle.smith_validate.specs.Tables.{AreExact, Fits, IsLive, IsSeen}
 use Rattle.smith_validate.specs.declared.instances.Exposed.{Exposed}
 use Rattle.smith_validate.specs.declared.instances.InstanceType.{InstanceType}
@@ -56,10 +51,7 @@ module _ (table : List Surface) where
   seen_live bound n around s = λ e. let z : (s.index ∷ s.scope) ≡ [] = sym s.place_is ∙ e in cc
 
   pub exposed_sub : (s : Exposed) (us : List (Use × ℕ)) (a b : List Id) → Sub a b → Sub b a → IsExposed table s us a → IsExposed table s us b
-  exposed_sub s us a b f g e = record {
-    opened = λ n id l h i. e.opened n id l (g id h) i;
-    names = λ n x. ((e.names n x).0, λ id h. f id ((e.names n x).1 id h));
-  }
+  exposed_sub s us a b f g e = grind arith
 
   module _ (all : List InstanceType) (exact : AreExact all table) (last : Use) (before : List Id) (s : Exposed) where
     abbrev Half : List (Use × ℕ) → List Id → Type 0
@@ -69,11 +61,11 @@ module _ (table : List Surface) where
     Goal = IsMet table last before
 
     module _ (us : List (Use × ℕ)) (named : List Id) (x : IsExposed table s us named) where
-      -- an instance that is not exposed
-      pub instance_half : (n : ℕ) → IsOpenable table s us (Instance n) → (Goal → IsMet table (Instance n) named)
-          → Half us (named_after table (Instance n) named) → IsMidway table all last before s ((Instance n, 0) ∷ us)
-      instance_half n o met h =
-          let e = exact n o.live in
+      -- one that is opened
+      pub use_half : (u : Use) → IsOpenable table s us u → (Goal → IsMet table u named) → Half us (named_after table u named)
+          → IsMidway table all last before s ((u, 0) ∷ us)
+      use_half u o met h =
+          let e = exact (number_of u) o.live in
           let same = e.externs_are in
           record {
             named = named;
@@ -81,15 +73,24 @@ module _ (table : List Surface) where
             half = (
               e.pieces,
               o,
-              record {
-                uses_are = sym e.uses_are;
-                fit = e.fit;
-                names = λ id a. sub_right named (names_of (externs_in table e.pieces)) id (subst (λ xs. is_among (names_of xs) id ≡ true) same a);
-                met = λ g. subst (λ xs. RefersTo named xs) same (met g);
-              },
-              subst (λ xs. Half us (named ++ names_of xs)) same h,
+              record { uses_are = sym e.uses_are; fit = e.fit; names = names_then u e.pieces same; met = λ g. all_met u e.pieces same (met g) },
+              half_past u e.pieces same h,
             );
           }
+        where
+          names_then : (v : Use) (ps : List Piece) → externs_of table (number_of v) ≡ externs_in table ps → IsNamedThen table v ps named
+          names_then (Instance n) ps same = λ id a.
+              sub_right named (names_of (externs_in table ps)) id (subst (λ xs. is_among (names_of xs) id ≡ true) same a)
+          names_then (Equal n) ps same = tt
+
+          all_met : (v : Use) (ps : List Piece) → externs_of table (number_of v) ≡ externs_in table ps → IsMet table v named → AreMet table v named ps
+          all_met (Instance n) ps same m = subst (λ xs. RefersTo named xs) same m
+          all_met (Equal n) ps same m = subst (λ xs. Within named (refers_of xs)) same m
+
+          half_past : (v : Use) (ps : List Piece) → externs_of table (number_of v) ≡ externs_in table ps → Half us (named_after table v named)
+              → Half us (named_past table v named ps)
+          half_past (Instance n) ps same k = subst (λ xs. Half us (named ++ names_of xs)) same k
+          half_past (Equal n) ps same k = k
 
       -- one that is
       pub instance_known : (n : ℕ) → is_exposed s n ≡ true → Half us (named_after table (Instance n) named) → IsMidway table all last before s us
@@ -106,55 +107,16 @@ module _ (table : List Surface) where
       pub equal_known : (n : ℕ) → Half us (named_after table (Equal n) named) → IsMidway table all last before s us
       equal_known n h = record { named = named; exposed = x; half = h }
 
-      -- to one that refers to nothing of its own
-      pub equal_half : (n : ℕ) → IsOpenable table s us (Equal n) → (Goal → IsMet table (Equal n) named)
-          → Half us (named_after table (Equal n) named) → IsMidway table all last before s ((Equal n, 0) ∷ us)
-      equal_half n o met h =
-          let e = exact n o.live in
-          let same = e.externs_are in
-          record {
-            named = named;
-            exposed = record { opened = λ m id l a i. elim (x.opened m id l a i) [ inl y ↦ inl y | inr y ↦ inr (inr y) ]; names = x.names };
-            half = (
-              e.pieces,
-              o,
-              record {
-                uses_are = sym e.uses_are;
-                fit = e.fit;
-                names = tt;
-                met = λ g. subst (λ xs. Within named (refers_of xs)) same (met g);
-              },
-              h,
-            );
-          }
-
       -- to one that refers to types of its own, and is not settled
       pub equal_not : (n : ℕ) → IsOpenable table s us (Equal n) → is_settled s n ≡ false → refers_own all n ≡ true
           → (Goal → IsMet table (Equal n) named) → ¬ Goal
-      equal_not n o settled own met = λ g.
-          let e = exact n o.live in
-          let r = e.own own in
-          let a = sub_within named (refers_of (externs_of table n)) (met g) r.0 r.1 in
-          elim (x.opened n r.0 o.live a r.2) [
-            | inl y ↦ let z : true ≡ false = sym (or_left (contains nat_cmp s.named n) (contains nat_cmp s.settled n) y) ∙ settled in cc
-            | inr y ↦ after_not n us o.after y
-          ]
+      equal_not n o settled own met = grind (arith, sub_within, named, met, or_left, after_not)
 
     -- what a type that is being opened names
     grown : (us : List (Use × ℕ)) (named : List Id) (n done : ℕ) (ns : List Id) → IsOpenable table s us (Instance n)
         → ((id : Id) → is_among ns id ≡ true → IsChild (place_of table n) id)
         → IsExposed table s ((Instance n, done) ∷ us) named → IsExposed table s ((Instance n, done) ∷ us) (named ++ ns)
-    grown us named n done ns o child e = record {
-      opened = λ m id l a i.
-          elim (among_cases named ns id a) [
-            | inl y ↦ e.opened m id l y i
-            | inr y ↦ elim (o.reached m l (child_of (place_of table n) id (place_of table m) (child id y) i)) [
-              | inl z ↦ inr (inl (ap (λ k. Instance k) (sym z)))
-              | inr z ↦ elim z [ inl w ↦ inl w | inr w ↦ inr (inr w) ]
-            ]
-          ];
-      names = λ m h. ((e.names m h).0, λ id a. sub_left named ns id ((e.names m h).1 id a));
-    }
+    grown us named n done ns o child e = grind (arith, among_cases, named, child_of, sub_left)
 
     -- The next of the uses of a use may be opened.
     pub record Opens (u v : Use) (done : ℕ) (us : List (Use × ℕ)) : Type 0 where
@@ -168,15 +130,7 @@ module _ (table : List Surface) where
       -- what is seen within a type that is being opened
       seen_reached : (n done m : ℕ) (us : List (Use × ℕ)) → IsOpenable table s us (Instance n) → IsSeen table n (place_of table n) m
           → IsReached table s ((Instance n, done) ∷ us) (Instance m)
-      seen_reached n done m us o see = λ k l u.
-          let w : IsUnder (see.index ∷ see.scope) (place_of table k) = subst (λ p. IsUnder p (place_of table k)) see.place_is u in
-          elim w [
-            | inl e ↦ inl (distinct k m l (seen_live n m (place_of table n) see) (sym (see.place_is ∙ e)))
-            | inr v ↦ inr (elim (o.reached k l (under_then (place_of table n) see.scope (place_of table k) see.scope_is v)) [
-              | inl z ↦ inr (inl (ap (λ j. Instance j) (sym z)))
-              | inr z ↦ elim z [ inl x ↦ inl x | inr x ↦ inr (inr x) ]
-            ])
-          ]
+      seen_reached n done m us o see = grind (arith, seen_live, under_then)
 
       module _ (n : ℕ) (us : List (Use × ℕ)) (done : ℕ) (v : Use) (left : List Use) (e : left ≡ drop done (uses_of all n)) where
         module _ (o : IsOpenable table s us (Instance n)) where
@@ -281,14 +235,7 @@ module _ (table : List Surface) where
               subst (λ w. Then (Equal (number_of w))) first
               (equal_opened m ps fit.0 rest fit.1 (λ g. within_first named (refers_of xs) (refers_of ys) (all_met g))
               (λ g. within_last named (refers_of xs) (refers_of ys) (all_met g)))
-          equal_opens (equal m ns ∷ ps) is fit met =
-              let first : Equal m ≡ v = cc in
-              let rest : uses_in ps ≡ left = cc in
-              let xs = externs_of table m in
-              let ys = externs_in table ps in
-              subst (λ w. Then (Equal (number_of w))) first
-              (equal_opened m ps fit.0.0 rest fit.1 (λ g. within_first named (refers_of xs) (refers_of ys) (met g))
-              (λ g. within_last named (refers_of xs) (refers_of ys) (met g)))
+          equal_opens (equal m ns ∷ ps) is fit met = grind (arith, equal_opened, within_first, named, met, within_last)
 
       pub next_opens : (u v : Use) (done : ℕ) (us : List (Use × ℕ)) (named : List Id) → slice_get (uses_of all (number_of u)) done ≡ Some v
           → IsExposed table s ((u, done) ∷ us) named → Half ((u, done) ∷ us) named → Opens u (use_in u v) (done + 1) us
@@ -370,25 +317,6 @@ module _ (table : List Surface) where
         };
         half = half_more us named h.3;
       }
-
--- one more number in a set
-module _ (a b : BTreeSet ℕ) (n : ℕ) (u : Updates nat_cmp a b n true) where
-  pub set_has : contains nat_cmp b n ≡ true
-  set_has = u.1
-
-  pub set_only : (m : ℕ) → contains nat_cmp b m ≡ true → (contains nat_cmp a m ≡ true) ⊎ (m ≡ n)
-  set_only m h = by_case (is_at (nat_cmp n) m) refl
-    where
-      by_case : (t : Bool) → is_at (nat_cmp n) m ≡ t → (contains nat_cmp a m ≡ true) ⊎ (m ≡ n)
-      by_case true e = inr (sym (ranked n m order.Equal (sym ((Equal-is (nat_cmp n m)).0 e))))
-      by_case false e = inl (sym (u.2 m e) ∙ h)
-
-  pub set_more : (m : ℕ) → contains nat_cmp a m ≡ true → contains nat_cmp b m ≡ true
-  set_more m h = by_case (is_at (nat_cmp n) m) refl
-    where
-      by_case : (t : Bool) → is_at (nat_cmp n) m ≡ t → contains nat_cmp b m ≡ true
-      by_case true e = subst (λ k. contains nat_cmp b k ≡ true) (ranked n m order.Equal (sym ((Equal-is (nat_cmp n m)).0 e))) set_has
-      by_case false e = u.2 m e ∙ h
 
 -- All uses are done.
 pub found : (table : List Surface) (all : List InstanceType) (u : Use) (before : List Id) (s : Exposed) → IsMidway table all u before s []

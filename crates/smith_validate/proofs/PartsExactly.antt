@@ -1,65 +1,41 @@
 -- The sections of a component, if what is kept is exact.
-use Rattle.std.proofs.Common.{◌≡◌, inl, inr, ℕ, zero, suc, ◌+◌, ◌<◌, ◌≤◌, Bool, true, false, List, [], ◌∷◌, ◌++◌, length, map, fold, reverse}
-use Rattle.std.proofs.Common.{refl, sym, ap, ◌∙◌, subst, arith, append_assoc, append-nil, length-append}
+use Rattle.std.proofs.Common.{◌≡◌, inl, inr, ℕ, zero, suc, ◌+◌, ◌<◌, ◌≤◌, Bool, true, false, List, [], ◌∷◌, ◌++◌, length, map, reverse}
+use Rattle.std.proofs.Common.{refl, sym, ap, ◌∙◌, subst, arith, append-nil, length-append}
 use Rattle.std.proofs.lemmas.Bool.{ltb-false, ltb-true}
-use Rattle.std.specs.List.{AllByRecursion, AllZip}
 use Rattle.std.specs.Prelude.{ltb}
 use Rattle.smith_input.specs.NewNames.{is_among}
-use Rattle.smith_syntax.specs.Entries.{CoreEntry, Entry, ImportEntry}
 use Rattle.smith_syntax.specs.Scope.{empty_scope}
-use Rattle.smith_tree.specs.Tree.{Canon, ExportEntry, Part, tree_of}
-use Rattle.smith_tree.specs.Bodies.{Body, core_facts, empty_body, with_core_facts}
-use Rattle.smith_tree.specs.Facts.{CoreFacts, Extern, FactScope, Id, id_at}
-use Rattle.smith_tree.specs.Validates.{after_canon, after_cores, imported_references, names_of}
-use Rattle.smith_validate.specs.Exact.{AreKnown, IsBodyExactly, IsBodyExactlyNow, IsKeptExactly, IsRoleExactly}
+use Rattle.smith_tree.specs.Bodies.{Body, empty_body}
+use Rattle.smith_tree.specs.Counts.{Counts, ValidCounts}
+use Rattle.smith_tree.specs.Facts.{Extern, FactScope, Id, id_at}
+use Rattle.smith_tree.specs.Validates.{names_of}
+use Rattle.smith_validate.specs.Exact.{AreKnown, IsBodyExactly, IsBodyExactlyNow, IsRoleExactly}
 use Rattle.smith_validate.specs.Instances.{Surface, no_surface, place_of}
 use Rattle.smith_validate.specs.Kept.{own_in, types_in}
 use Rattle.smith_validate.specs.Places.{IsBefore}
 use Rattle.smith_validate.specs.Steps.{At, Later}
 use Rattle.smith_validate.specs.Tables.{AreAdded, AreExact, IsGrown, IsLive, names_in}
-use Rattle.smith_validate.specs.Bodies.{IsEmpty, IsFresh}
-use Rattle.smith_validate.specs.Parts.{IsBegun, IsOpenBoth}
-use Rattle.smith_validate.specs.Usual.{AreUsualEntries, AreUsualParts, IsUsualImport}
+use Rattle.smith_validate.specs.Bodies.{IsBody, IsEmpty, IsFresh, IsIn}
+use Rattle.smith_validate.specs.Parts.{IsBegun, IsOpen, IsOpenBoth}
 use Rattle.smith_validate.specs.declared.open.Open.{Open}
 use Rattle.smith_tree.specs.Spaces.{no_spaces}
-use Rattle.smith_validate.proofs.PartRows.{open_begin}
 use Rattle.smith_validate.proofs.Declaring.{empty_exactly, entered_known}
+use Rattle.smith_validate.specs.Counted.{counted}
 use Rattle.smith_validate.specs.declared.body.Body.{Body as KeptBody}
+use Rattle.smith_validate.specs.declared.counts.Counts.{Counts as Counted}
 use Rattle.smith_validate.specs.declared.known.Known.{Known}
 use Rattle.smith_validate.specs.declared.known.Scope.{Scope}
 use Rattle.smith_validate.proofs.Closing.{exact_less, exact_more}
-use Rattle.smith_validate.proofs.DeclSteps.{in_entered, outer_kept}
+use Rattle.smith_validate.proofs.DeclSteps.{empty_is, in_entered}
 use Rattle.smith_validate.proofs.Ids.{moves_same}
-use Rattle.smith_validate.proofs.Knowing.{grown_live, grown_names, grown_place, known_entered, names_grown, names_in_append, types_move}
+use Rattle.smith_validate.proofs.Knowing.{grown_live, grown_names, grown_place, known_as, names_grown, names_in_append, types_move}
 use Rattle.smith_validate.proofs.BodySteps.{role_moves}
+use Rattle.smith_validate.proofs.Roles.{role_of}
 use Rattle.smith_validate.proofs.Tables.{place_more}
-
--- what is asked beside of rows
-
-abbrev pub usual_types : List FactScope → List Entry → Body → Type 0
-usual_types outer es b = AreUsualEntries es outer b
-
-abbrev pub usual_imports : List FactScope → List ImportEntry → At → Type 0
-usual_imports outer is at = AllByRecursion (IsUsualImport true) (imported_references is)
-
-abbrev pub usual_exports : List FactScope → List ExportEntry → At → Type 0
-usual_exports outer es at = Unit {0}
 
 pub now_after : (asks : Bool) (k : Known) (o : KeptBody) (b : Body) (outer : List FactScope) (named : List Id) (place : Id) (table : List Surface)
     → IsBodyExactlyNow asks k o b outer named place table → Later (IsBodyExactly asks k o) b outer named table
 now_after asks k o b outer named place table n = (n.grown.more, subst (λ t. IsBodyExactly asks k o b outer named t) n.grown.is n.is)
-
--- core types and canonical functions add nothing to types, imports and exports
-
-pub cores_keep : {X : Type 0} (F : Body → X) → ((b : Body) (fs : List CoreFacts) → F (with_core_facts b fs) ≡ F b) → (es : List CoreEntry) (b : Body)
-    → F (after_cores es b) ≡ F b
-cores_keep F same [] b = refl
-cores_keep F same (e ∷ es) b = cores_keep F same es (with_core_facts b (core_facts e b.own ∷ [])) ∙ same b (core_facts e b.own ∷ [])
-
-pub canons_keep : {X : Type 0} (F : Body → X) → ((b : Body) (f : Canon) → F (after_canon b f) ≡ F b) → (fs : List Canon) (b : Body)
-    → F (fold after_canon b fs) ≡ F b
-canons_keep F same [] b = refl
-canons_keep F same (f ∷ fs) b = canons_keep F same fs (after_canon b f) ∙ same b f
 
 -- Types of instances that can no longer be referred to.
 
@@ -96,12 +72,7 @@ module _ (place : Id) (table more : List Surface) where
   names_padded = names_in_append table (forgotten more) ∙ (ap (λ ids. names_in table ++ ids) (forgotten_names more) ∙ append-nil (names_in table))
 
   pub padded_grown : IsGrown place table padded
-  padded_grown = record {
-    more = forgotten more;
-    is = refl;
-    names = λ id h before. subst (λ ids. is_among ids id ≡ true) names_padded h;
-    places = λ n h l. absurd (let k = padded_live n l in omega (arith, h, k));
-  }
+  padded_grown = grind (arith, names_padded, padded_live)
 
   pub padded_added : AreAdded place table → AreAdded place padded
   padded_added a = record {
@@ -141,10 +112,7 @@ module _ (asks : Bool) (k : Known) (o : KeptBody) (b : Body) (outer : List FactS
         named_before = h.known.named_before;
       } in
       let at : F b.own b.imports b.exports = record {
-        known = subst (λ (s : Scope). AreKnown (s.types.items ∷ reverse (map (λ (t : Scope). t.types.items) new.scopes.outer.items)) new.instances.items
-            (b.own ∷ outer) N all) (sym owns)
-            (subst (λ (os : List Scope). AreKnown (k.scopes.own.types.items ∷ reverse (map (λ t. t.types.items) os)) new.instances.items (b.own ∷ outer) N all)
-            (sym outers) known);
+        known = known_as k new k.scopes.own.types.items new.instances.items (b.own ∷ outer) N all (ap (λ (s : Scope). s.types.items) owns) outers refl known;
         depth_is = h.depth_is ∙ ap (λ (os : List Scope). length os) (sym outers);
         exports_are = λ id a. elim (h.exports_are id a) [ inl y ↦ inl (grown_names here table all g id y) | inr y ↦ inr y ];
         imports_are = λ id a. grown_names here table all g id (h.imports_are id a);
@@ -171,33 +139,23 @@ module _ (asks : Bool) (k : Known) (o : KeptBody) (b : Body) (outer : List FactS
 -- nothing is known before a component
 pub start_known : (k : Known) → k.scopes.own.types.items ≡ [] → k.scopes.outer.items ≡ [] → k.instances.items ≡ []
     → AreKnown (types_in k) k.instances.items (empty_scope ∷ []) [] []
-start_known k types outers instances = record {
-  types_are = subst (λ ts. AllZip (λ ks (s : FactScope). AllZip (IsKeptExactly [] (0 ∷ []) []) ks s.types)
-      (ts ∷ reverse (map (λ (s : Scope). s.types.items) k.scopes.outer.items)) (empty_scope ∷ [])) (sym types)
-      (subst (λ (os : List Scope). AllZip (λ ks (s : FactScope). AllZip (IsKeptExactly [] (0 ∷ []) []) ks s.types)
-      ([] ∷ reverse (map (λ s. s.types.items) os)) (empty_scope ∷ [])) (sym outers) (tt, tt));
-  instances_are = λ n l. absurd (l refl);
-  added = record {
-    before = λ n l. absurd (l refl);
-    distinct = λ m n l i e. absurd (l refl);
-    closed = λ id h. absurd (let z : false ≡ true = h in cc);
-  };
-  long = ap (λ is. length is) instances;
-  named_before = λ id h. absurd (let z : false ≡ true = h in cc);
-}
+start_known k types outers instances = grind arith
 
-abbrev pub usual_parts : List FactScope → List Part → At → Type 0
-usual_parts outer ps at = AreUsualParts (tree_of ps) at.0 outer at.1
+-- one more is counted
+pub body_counted : (k : Known) (o : KeptBody) (b : Body) (outer : List FactScope) (names : List (List Id)) (table : List Surface)
+    → IsBody true k o b outer names table → (new : Counted) (after : Counts → Counts) → counted new ≡ after (counted o.counts)
+    → ValidCounts (after b.counts) → IsBody true k (record o { counts = new }) (record b { counts = after b.counts }) outer names table
+body_counted k o b outer names table h new after added valid = grind (arith, role_of)
 
 -- a component that begins
+
+pub open_begin : (k : Known) (o : Open) (outer : List FactScope) (names : List (List Id)) (table : List Surface) → IsIn k empty_scope outer [] names table
+    → o.functions.items ≡ [] → IsEmpty o.body → IsFresh true o.body.role → IsOpen k o (no_spaces, empty_body) outer names table
+open_begin k o outer names table s f e fresh = record { body = empty_is true k o.body outer names table s e fresh; functions_are = f }
+
 pub begun_both : (k : Known) (o : Open) (outer : List FactScope) (named : List Id) (table : List Surface) → IsBegun k outer named table
     → o.functions.items ≡ [] → IsEmpty o.body → IsFresh true o.body.role → IsOpenBoth k o (no_spaces, empty_body) outer named table
-begun_both k o outer named table h f e fresh = record {
-  names = h.names;
-  covered = h.covered;
-  open_is = open_begin k o outer h.names h.covered h.is f e fresh;
-  exact = empty_exactly true k o.body outer named table h.known h.depth_is fresh;
-}
+begun_both k o outer named table h f e fresh = grind (arith, open_begin, empty_exactly)
 
 -- a component within another
 pub entered_begun : (k new : Known) (o : Open) (at : At) (outer : List FactScope) (named : List Id) (table : List Surface)

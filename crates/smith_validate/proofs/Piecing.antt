@@ -1,5 +1,5 @@
 -- What is imported or exported, and what is named then.
-use Rattle.std.proofs.Common.{◌≡◌, inl, inr, ℕ, zero, suc, ◌+◌, ◌<◌, true, false, List, [], ◌∷◌, ◌++◌, length, map}
+use Rattle.std.proofs.Common.{arith, ◌≡◌, inl, inr, ℕ, zero, suc, ◌+◌, ◌<◌, true, false, List, [], ◌∷◌, ◌++◌, length, map}
 use Rattle.std.proofs.Common.{refl, sym, ap, ◌∙◌, subst, append-nil, Option, None, Some}
 use Rattle.std.specs.List.{AllZip, flat_map}
 use Rattle.std.specs.Option.{option_map, option_to_list}
@@ -29,7 +29,7 @@ use Rattle.smith_validate.specs.declared.instances.Use.TheVariants.{Instance, Eq
 use Rattle.smith_validate.proofs.Attaining.{not_both}
 use Rattle.smith_validate.proofs.Ids.{closed_open, inside_under, not_around, not_under, open_before, open_long, under_same, under_then, under_up}
 use Rattle.smith_validate.proofs.Names.{Sub, among_cases, among_one, refers_within, sub_left, sub_right, sub_within}
-use Rattle.smith_validate.proofs.Valued.{beside, none_beside}
+use Rattle.smith_validate.proofs.Zips.{beside, none_beside}
 
 -- what one type of instances names is named by one of them
 pub names_of_one : (table : List Surface) (n : ℕ) → Sub (names_of (externs_of table n)) (names_in table)
@@ -49,16 +49,7 @@ module _ (table : List Surface) (outer : List FactScope) (own : FactScope) (name
 
   -- a type of instances that an open scope has is seen from there
   open_seen : (n : ℕ) → n < length table → IsOpen place (place_of table n) → IsSeen table (length table) around n
-  open_seen n h o = record {
-    scope = o.scope;
-    index = o.index;
-    below = h;
-    place_is = o.id_is;
-    scope_is = elim o.place_is [
-      | inl e ↦ (let z : around ≡ o.scope = cc in subst (λ x. IsUnder around x) z (under_same around))
-      | inr u ↦ under_up around o.scope o.count u
-    ];
-  }
+  open_seen n h o = grind (arith, under_same, under_up)
 
   open_live : (n : ℕ) → IsOpen place (place_of table n) → IsLive table n
   open_live n o = λ e. let z : o.index ∷ o.scope ≡ [] = sym o.id_is ∙ e in cc
@@ -191,15 +182,7 @@ module _ (table : List Surface) (place around : Id) (full : List Id) (k : KeptEx
   -- what is named at the place is in no type of instances
   at_place : (s : Exposed) (named : List Id) (more : List Id) → ((id : Id) → is_among more id ≡ true → id ≡ place)
       → IsExposed table s [] named → IsExposed table s [] (named ++ more)
-  at_place s named more one x = record {
-    opened = λ n id l a g.
-        elim (among_cases named more id a) [
-          | inl y ↦ x.opened n id l y g
-          | inr y ↦ absurd (not_around 0 place (place_of table n) (added.before n l)
-              (subst (λ z. IsUnder z (place_of table n)) (one id y) (inside_under id (place_of table n) g)))
-        ];
-    names = λ n h. ((x.names n h).0, λ id a. sub_left named more id ((x.names n h).1 id a));
-  }
+  at_place s named more one x = grind (arith, among_cases, not_around, inside_under, sub_left)
 
   -- what is named with it, if it is of no type of instances
   pub single_exposed : (s : Exposed) (named : List Id) → k.used ≡ None → IsExposed table s [] named → IsExposed table s [] (named ++ names_of xs)
@@ -247,15 +230,7 @@ module _ (table : List Surface) (place around : Id) (full : List Id) (k : KeptEx
       → Sub (names_in table) full
       → ((id : Id) → is_among named id ≡ true → AttainedBy o id → ⊥) → RefersTo named xs → ⊥
   not_referred Nothing named a h t f r = let z : true ≡ false = h in cc
-  not_referred Unnamed named a h t f r =
-      let w = sub_within (named ++ names_of xs) (refers_of xs) (refers_within named xs r) a.0 a.1 in
-      elim (among_cases named (names_of xs) a.0 w) [
-        | inl y ↦ f a.0 y (a.2, a.3)
-        | inr y ↦ elim (i.names a.0 y) [
-          | inl z ↦ not_both (is_among full a.0) (t a.0 z) a.3
-          | inr z ↦ not_under 0 place a.0 a.2 (subst (λ p. IsUnder a.0 p) z (under_same a.0))
-        ]
-      ]
+  not_referred Unnamed named a h t f r = grind (arith, sub_within, refers_within, among_cases, not_both, not_under, under_same)
   not_referred (Scope level) named a h t f r =
       let w = sub_within (named ++ names_of xs) (refers_of xs) (refers_within named xs r) a.0 a.1 in
       elim (among_cases named (names_of xs) a.0 w) [

@@ -9,7 +9,7 @@ use Rattle.smith_tree.specs.Bodies.{Body, empty_body}
 use Rattle.smith_tree.specs.Facts.{Extern, Id}
 use Rattle.smith_tree.specs.Validates.{RefersTo, exported, imported, names_of}
 use Rattle.smith_validate.specs.Bodies.{AreExports, AreSets, IsFresh, IsRole}
-use Rattle.smith_validate.specs.Exposing.{IsMet, IsSettled, named_after, number_of}
+use Rattle.smith_validate.specs.Exposing.{IsMet, named_after, number_of}
 use Rattle.smith_validate.specs.Externs.{IsPiece}
 use Rattle.smith_validate.specs.Instances.{Surface, Follow, IsInstanceType, IsKnown, IsTable, Piece, Rest, equal, externs_in, externs_of, named_by, no_surface}
 use Rattle.smith_validate.specs.Instances.{outside_of, reach, refers_of, single, uses_in, whole}
@@ -32,14 +32,7 @@ use Rattle.smith_validate.proofs.Tables.{externs_in_more, follow_more, follow_su
 -- what is kept is only of what is imported and exported
 pub role_of : (table : List Surface) (names : List (List Id)) (asks : Bool) (r : Role) (b c : Body) → b.imports ≡ c.imports → b.exports ≡ c.exports
     → IsRole table names asks r b → IsRole table names asks r c
-role_of table names asks (Names s) b c i e h = (
-  h.0,
-  record {
-    imported_are = subst (λ xs. IsSettled table s.imported (names_of xs)) i h.1.imported_are;
-    exported_are = subst (λ xs. IsSettled table s.exported (names_of xs ++ names_of c.exports)) i
-        (subst (λ xs. IsSettled table s.exported (names_of b.imports ++ names_of xs)) e h.1.exported_are);
-  },
-)
+role_of table names asks (Names s) b c i e h = grind arith
 role_of table names asks (Exporting x) b c i e h = (h.0, subst (λ xs. AreExports table names x xs) e h.1)
 
 pub role_more : (table more : List Surface) (names : List (List Id)) (asks : Bool) (r : Role) (b : Body) → IsRole table names asks r b
@@ -51,19 +44,7 @@ role_more table more names asks (Names s) b h = (
     exported_are = settled_more table more s.exported (exported b) h.1.exported_are;
   },
 )
-role_more table more names asks (Exporting x) b h = (
-  h.0,
-  record {
-    outside = h.1.outside;
-    pieces = h.1.pieces;
-    externs_are = h.1.externs_are ∙ sym (externs_in_more table more h.1.outside h.1.pieces h.1.follow);
-    uses_are = h.1.uses_are;
-    follow = follow_more table more h.1.outside h.1.pieces h.1.follow;
-    covered = h.1.covered;
-    rest = λ a. rest_more table more h.1.outside h.1.pieces (h.1.rest a);
-    none = h.1.none;
-  },
-)
+role_more table more names asks (Exporting x) b h = grind (arith, externs_in_more, follow_more, rest_more)
 
 pub role_fresh : (table : List Surface) (names : List (List Id)) (asks : Bool) (r : Role) → IsFresh asks r → IsRole table names asks r empty_body
 role_fresh table names asks (Names s) h = (h.0, record { imported_are = (h.1 table []).0; exported_are = (h.1 table []).1 })

@@ -6,12 +6,12 @@ use Rattle.std.proofs.lemmas.Option.{get_or_from_slice_get, slice_get-map, unwra
 use Rattle.std.specs.Option.{option_map, option_to_list, unwrap_or}
 use Rattle.std.specs.Prelude.{slice_get, get_or, if◌then◌else◌}
 use Rattle.smith_input.specs.NewNames.{is_among}
-use Rattle.smith_syntax.specs.Scope.{with_core_type, with_core_types, with_type, with_types}
+use Rattle.smith_syntax.specs.Scope.{with_type, with_types}
 use Rattle.smith_syntax.specs.declared.deftype.ComponentTypeRef.{ComponentTypeRef}
 use Rattle.smith_syntax.specs.declared.deftype.ComponentTypeRef.TheVariants as to
 use Rattle.smith_tree.specs.Bodies.{equal_extern, equal_facts, exported_facts, externs_at}
 use Rattle.smith_tree.specs.Counts.{Counts, with_type_count}
-use Rattle.smith_tree.specs.Facts.{CoreFacts, FactScope, Facts, Id, id_at, needs, sizes}
+use Rattle.smith_tree.specs.Facts.{FactScope, Facts, Id, id_at, needs, sizes}
 use Rattle.smith_tree.specs.Validates.{names_of}
 use Rattle.smith_validate.specs.Bodies.{IsIn}
 use Rattle.smith_validate.specs.Instances.{AreKept, Surface, IsKept, IsNumbered, IsTable, ScopesKept, reach_of}
@@ -23,7 +23,8 @@ use Rattle.smith_validate.specs.declared.known.Known.{Known}
 use Rattle.smith_validate.specs.declared.known.Scope.{Scope}
 use Rattle.smith_validate.proofs.Covering.{covers_here, covers_named}
 use Rattle.smith_validate.proofs.Names.{Sub}
-use Rattle.smith_validate.proofs.Tables.{zip_push}
+use Rattle.smith_validate.proofs.Tables.{kept_by}
+use Rattle.smith_validate.proofs.Zips.{zip_append, zip_map}
 
 module _ {A B : Type 0} (f : A → B) where
   -- what something is kept of
@@ -75,19 +76,10 @@ numbered_equal table None id f n = n
 numbered_equal table (Some m) id f n = n
 
 module _ (table : List Surface) (here there : List Id) (names : List (List Id)) (sub : Sub here there) where
-  kept_here : (k : KeptFacts) (f : Facts) → IsKept table (here ∷ names) k f → IsKept table (there ∷ names) k f
-  kept_here k f i = record {
-    nominal_is = i.nominal_is;
-    needs_are = covers_here here there names sub k.needs (needs f) i.needs_are;
-    refers_are = covers_here here there names sub k.refers (reach_of table k.instance f) i.refers_are;
-    instance_is = i.instance_is;
-  }
-
   pub are_kept_here : (ks : List KeptFacts) (fs : List Facts) → AreKept table (here ∷ names) ks fs → AreKept table (there ∷ names) ks fs
-  are_kept_here [] [] a = tt
-  are_kept_here [] (f ∷ fs) a = a
-  are_kept_here (k ∷ ks) [] a = a
-  are_kept_here (k ∷ ks) (f ∷ fs) a = (kept_here k f a.0, are_kept_here ks fs a.1)
+  are_kept_here =
+      zip_map (IsKept table (here ∷ names)) (IsKept table (there ∷ names))
+      (kept_by table (here ∷ names) (there ∷ names) (covers_here here there names sub))
 
   -- a type that is equal to that one, and is named
   pub kept_named : (k : KeptFacts) (f : Facts) (id : Id) → IsKept table (here ∷ names) k f → is_among there id ≡ true
@@ -140,8 +132,8 @@ module _ (k : Known) (own : FactScope) (outer : List FactScope) (here there : Li
       types_are = (
         subst (λ gs. AreKept table (there ∷ names) new.scopes.own.types.items (own.types ++ gs)) (sym e)
             (subst (λ ks. AreKept table (there ∷ names) ks (own.types ++ f ∷ [])) (sym types)
-            (zip_push (IsKept table (there ∷ names)) k.scopes.own.types.items own.types kf f
-            (are_kept_here table here there names sub k.scopes.own.types.items own.types s.types_are.0) kept)),
+            (zip_append (IsKept table (there ∷ names)) k.scopes.own.types.items (kf ∷ []) own.types (f ∷ [])
+            (are_kept_here table here there names sub k.scopes.own.types.items own.types s.types_are.0) (kept, tt))),
         subst (λ os. ScopesKept table names (reverse (map (λ o. o.types.items) os)) outer) (sym outers) s.types_are.1,
       );
       instances_are = subst (λ ts. IsTable ts table) (sym instances) s.instances_are;
@@ -160,11 +152,8 @@ module _ (own : FactScope) (outer : List FactScope) (i : ℕ) where
 
 -- What is not a type adds none.
 pub none_exported : (own : FactScope) (outer : List FactScope) (r : ComponentTypeRef) → ((i : ℕ) → r ≡ to.TypeEq i → ⊥) → exported_facts own outer r ≡ []
-none_exported own outer (to.Module i) h = refl
-none_exported own outer (to.Func i) h = refl
 none_exported own outer (to.TypeEq i) h = absurd (h i refl)
-none_exported own outer (to.Component i) h = refl
-none_exported own outer (to.Instance i) h = refl
+none_exported own outer _ h = refl
 
 -- the size that is kept of a type
 pub size_at : (k : Known) (own : FactScope) (i n : ℕ) (f : Facts) → own_in k ≡ kept_of own → Some n ≡ slice_get (own_in k).types i

@@ -1,5 +1,5 @@
 -- What is named in a component or a component type.
-use Rattle.std.proofs.Common.{◌≡◌, true, List, ◌∷◌, ◌++◌, length, sym, ap, ◌∙◌, subst}
+use Rattle.std.proofs.Common.{arith, ◌≡◌, true, List, ◌∷◌, ◌++◌, length, sym, ap, ◌∙◌, subst}
 use Rattle.std.proofs.Common.{None, Some}
 use Rattle.std.specs.Option.{option_to_list}
 use Rattle.smith_tree.specs.Bodies.{Body}
@@ -24,27 +24,10 @@ module _ (b : Body) (xs : List Extern) where
   imports_grow = λ id h. subst (λ ids. Sub (imported b ++ names_of xs) ids) (sym (names_append b.imports xs)) (sub_same (imported b ++ names_of xs)) id h
 
   pub imports_export : Sub (exported b ++ names_of xs) (exported (with_imports b xs))
-  imports_export =
-      let i = imported (with_imports b xs) in
-      let e = names_of b.exports in
-      let old : Sub (imported b) (i ++ e) =
-      sub_then (imported b) i (i ++ e) (sub_then (imported b) (imported b ++ names_of xs) i (sub_left (imported b) (names_of xs)) imports_grow)
-      (sub_left i e) in
-      let new : Sub (names_of xs) (i ++ e) =
-      sub_then (names_of xs) i (i ++ e) (sub_then (names_of xs) (imported b ++ names_of xs) i (sub_right (imported b) (names_of xs)) imports_grow)
-      (sub_left i e) in
-      sub_both (exported b) (names_of xs) (i ++ e) (sub_both (imported b) e (i ++ e) old (sub_right i e)) new
+  imports_export = grind (arith, sub_then, sub_left, imports_grow, sub_right, sub_both)
 
   pub exports_grow : Sub (exported b ++ names_of xs) (exported (with_exports b xs))
-  exports_grow =
-      let i = imported b in
-      let e = names_of b.exports in
-      let f = names_of (b.exports ++ xs) in
-      let both : Sub (e ++ names_of xs) f = subst (λ ids. Sub (e ++ names_of xs) ids) (sym (names_append b.exports xs)) (sub_same (e ++ names_of xs)) in
-      let up : Sub (e ++ names_of xs) (i ++ f) = sub_then (e ++ names_of xs) f (i ++ f) both (sub_right i f) in
-      sub_both (i ++ e) (names_of xs) (i ++ f)
-      (sub_both i e (i ++ f) (sub_left i f) (sub_then e (e ++ names_of xs) (i ++ f) (sub_left e (names_of xs)) up))
-      (sub_then (names_of xs) (e ++ names_of xs) (i ++ f) (sub_right e (names_of xs)) up)
+  exports_grow = grind (arith, names_append, sub_same, sub_then, sub_right, sub_both, sub_left)
 
 module _ (table : List Surface) (names : List (List Id)) (k : KeptExtern) (xs : List Extern) (i : IsPiece table names k xs) where
   -- what is of no type of instances
@@ -102,9 +85,7 @@ module _ (table : List Surface) (names : List (List Id)) (s : Sets) (b : Body) (
 module _ (table : List Surface) (names : List (List Id)) (s : Sets) (b : Body) (k : KeptExtern) (xs : List Extern) where
   module _ (i : IsPiece table (names_of b.exports ∷ names) k xs) (sets : AreSets table s b) (own : is_within k.refers.outermost (length names) ≡ true) where
     export_reach : Within (exported b) (reach table i.piece)
-    export_reach =
-        within_sub (names_of b.exports) (exported b) (reach table i.piece) (sub_right (imported b) (names_of b.exports))
-        (covers_within (names_of b.exports) names k.refers (reach table i.piece) own i.covered)
+    export_reach = grind (arith, within_sub, sub_right, covers_within)
 
     abbrev all : List (List Id)
     all = names_of b.exports ∷ names

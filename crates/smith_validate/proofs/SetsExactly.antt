@@ -1,6 +1,6 @@
 -- What is exposed in a component or a component type after an import or an export.
 use Rattle.std.proofs.Common.{◌≡◌, inl, inr, ℕ, ◌+◌, true, false, List, [], ◌++◌, length}
-use Rattle.std.proofs.Common.{refl, sym, ap, ◌∙◌, subst, arith, append_assoc, None, Some}
+use Rattle.std.proofs.Common.{refl, sym, ◌∙◌, subst, arith, append_assoc, None, Some}
 use Rattle.std.proofs.lemmas.Bool.{leb-false}
 use Rattle.smith_input.specs.NewNames.{is_among}
 use Rattle.smith_tree.specs.Bodies.{Body}
@@ -31,26 +31,14 @@ module _ (table : List Surface) (s : Exposed) (b : Body) (xs : List Extern) wher
 
   -- for exports, after an import
   import_back : Sub (exported (with_imports b xs)) (exported b ++ names_of xs)
-  import_back = λ id h.
-      let i = names_of b.imports in
-      let e = names_of b.exports in
-      elim (among_cases (names_of (b.imports ++ xs)) e id h) [
-        | inl y ↦ elim (among_cases i (names_of xs) id (subst (λ ids. is_among ids id ≡ true) (names_append b.imports xs) y)) [
-          | inl z ↦ sub_left (i ++ e) (names_of xs) id (sub_left i e id z)
-          | inr z ↦ sub_right (i ++ e) (names_of xs) id z
-        ]
-        | inr y ↦ sub_left (i ++ e) (names_of xs) id (sub_right i e id y)
-      ]
+  import_back = grind (arith, among_cases, names_append, sub_left, sub_right)
 
   after_import_too : IsExposed table s [] (exported b ++ names_of xs) → IsExposed table s [] (exported (with_imports b xs))
   after_import_too x = exposed_sub table s [] (exported b ++ names_of xs) (exported (with_imports b xs)) (imports_export b xs) import_back x
 
   -- for exports, after an export
   after_export : IsExposed table s [] (exported b ++ names_of xs) → IsExposed table s [] (exported (with_exports b xs))
-  after_export x =
-      let same : exported b ++ names_of xs ≡ exported (with_exports b xs) =
-      append_assoc (names_of b.imports) (names_of b.exports) (names_of xs) ∙ ap (λ ids. names_of b.imports ++ ids) (sym (names_append b.exports xs)) in
-      subst (λ ids. IsExposed table s [] ids) same x
+  after_export x = grind (arith, append_assoc, names_append)
 
 module _ (table : List Surface) (place around : Id) (full : List Id) (k : KeptExtern) (xs : List Extern) (added : AreAdded place table)
     (i : IsPieceExactly table place around full k xs) (b : Body) where

@@ -2,7 +2,6 @@
 use Rattle.std.proofs.Common.{◌≡◌, ℕ, ◌<◌, List, [], ◌∷◌, ◌++◌, length, get_or, refl, sym, ap, ◌∙◌, subst, arith, length-append}
 use Rattle.std.proofs.Common.{Option, None, Some}
 use Rattle.std.proofs.lemmas.List.{get_or_append_left}
-use Rattle.std.specs.List.{AllZip}
 use Rattle.smith_tree.specs.Facts.{FactScope, Facts, Id}
 use Rattle.smith_tree.specs.Validates.{names_of}
 use Rattle.smith_validate.specs.Exposing.{IsSettled}
@@ -11,9 +10,11 @@ use Rattle.smith_validate.specs.Instances.{Piece, Rest, ScopesKept, equal, exter
 use Rattle.smith_validate.specs.Instances.{externs_of, named_by, no_surface, outside_of, place_of, reach, reach_of, refers_of, single, whole}
 use Rattle.smith_validate.specs.Marks.{Covers, Within}
 use Rattle.smith_validate.specs.declared.facts.Facts.{Facts as KeptFacts}
+use Rattle.smith_validate.specs.declared.facts.Needs.{Needs}
 use Rattle.smith_validate.specs.declared.instances.Exposed.{Exposed}
 use Rattle.smith_validate.specs.declared.instances.InstanceType.{InstanceType}
 use Rattle.smith_validate.proofs.Names.{Sub, sub_more, within_sub}
+use Rattle.smith_validate.proofs.Zips.{zip_append, zip_map}
 
 module _ (table more : List Surface) where
   at_more : (n : ℕ) → n < length table → get_or (table ++ more) n no_surface ≡ get_or table n no_surface
@@ -50,9 +51,7 @@ module _ (table more : List Surface) where
       → externs_in (table ++ more) (p ∷ ps) ≡ externs_in table (p ∷ ps)
   externs_one_more (single x) ps k e = ap (λ xs. x ∷ xs) e
   externs_one_more (whole n) ps k e = ap (λ xs. xs ++ externs_in (table ++ more) ps) (externs_more n k) ∙ ap (λ xs. externs_of table n ++ xs) e
-  externs_one_more (equal n names) ps k e =
-      ap (λ ys. record { refers = refers_of ys; names = names } ∷ externs_in (table ++ more) ps) (externs_more n k)
-      ∙ ap (λ xs. record { refers = refers_of (externs_of table n); names = names } ∷ xs) e
+  externs_one_more (equal n names) ps k e = grind (arith, externs_more)
 
   pub externs_in_more : (named : List Id) (ps : List Piece) → Follow table named ps → externs_in (table ++ more) ps ≡ externs_in table ps
   externs_in_more named [] f = refl
@@ -71,13 +70,7 @@ module _ (table more : List Surface) where
   rest_more named (p ∷ ps) f = (known_more p f.0, subst (λ ids. Within named ids) (sym (reach_more p f.0)) f.1, rest_more named ps f.2)
 
   pub type_more : (t : InstanceType) (e : Surface) → IsInstanceType table t e → IsInstanceType (table ++ more) t e
-  type_more t e i = record {
-    pieces = i.pieces;
-    externs_are = i.externs_are ∙ sym (externs_in_more e.outside i.pieces i.follow);
-    uses_are = i.uses_are;
-    follow = follow_more e.outside i.pieces i.follow;
-    rest = λ o. rest_more e.outside i.pieces (i.rest o);
-  }
+  type_more t e i = grind (arith, externs_in_more, follow_more, rest_more)
 
   reach_of_more : (i : Option ℕ) (f : Facts) → IsNumbered table i f → reach_of (table ++ more) i f ≡ reach_of table i f
   reach_of_more None f n = refl
@@ -92,18 +85,10 @@ module _ (table more : List Surface) where
   )
 
   pub kept_more : (names : List (List Id)) (k : KeptFacts) (f : Facts) → IsKept table names k f → IsKept (table ++ more) names k f
-  kept_more names k f i = record {
-    nominal_is = i.nominal_is;
-    needs_are = i.needs_are;
-    refers_are = subst (λ ids. Covers names k.refers ids) (sym (reach_of_more k.instance f i.instance_is)) i.refers_are;
-    instance_is = numbered_more k.instance f i.instance_is;
-  }
+  kept_more names k f i = grind (arith, reach_of_more, numbered_more)
 
   pub are_kept_more : (names : List (List Id)) (ks : List KeptFacts) (fs : List Facts) → AreKept table names ks fs → AreKept (table ++ more) names ks fs
-  are_kept_more names [] [] a = tt
-  are_kept_more names [] (f ∷ fs) a = a
-  are_kept_more names (k ∷ ks) [] a = a
-  are_kept_more names (k ∷ ks) (f ∷ fs) a = (kept_more names k f a.0, are_kept_more names ks fs a.1)
+  are_kept_more names = zip_map (IsKept table names) (IsKept (table ++ more) names) (kept_more names)
 
   pub scopes_more : (names : List (List Id)) (ks : List (List KeptFacts)) (ss : List FactScope) → ScopesKept table names ks ss
       → ScopesKept (table ++ more) names ks ss
@@ -119,6 +104,11 @@ module _ (table more : List Surface) where
 
 -- what is named grows
 
+-- what is kept says as much with other names
+pub kept_by : (table : List Surface) (a b : List (List Id)) → ((n : Needs) (ids : List Id) → Covers a n ids → Covers b n ids) → (k : KeptFacts) (f : Facts)
+    → IsKept table a k f → IsKept table b k f
+kept_by table a b c k f i = grind arith
+
 pub follow_sub : (table : List Surface) (a b : List Id) (ps : List Piece) → Sub a b → Follow table a ps → Follow table b ps
 follow_sub table a b [] s f = tt
 follow_sub table a b (p ∷ ps) s f =
@@ -133,20 +123,6 @@ settled_sub table s a b f i = λ n h. ((i n h).0, within_sub a b (refers_of (ext
 
 -- one more type of instances
 
-types_more : (table more : List Surface) (ts : List InstanceType) (es : List Surface) → AllZip (IsInstanceType table) ts es
-    → AllZip (IsInstanceType (table ++ more)) ts es
-types_more table more [] [] a = tt
-types_more table more [] (e ∷ es) a = a
-types_more table more (t ∷ ts) [] a = a
-types_more table more (t ∷ ts) (e ∷ es) a = (type_more table more t e a.0, types_more table more ts es a.1)
-
-pub zip_push : {A B : Type 0} (R : A → B → Type 0) (xs : List A) (ys : List B) (x : A) (y : B) → AllZip R xs ys → R x y → AllZip R (xs ++ x ∷ []) (ys ++ y ∷ [])
-zip_push R [] [] x y a r = (r, tt)
-zip_push R [] (z ∷ ys) x y a r = absurd a
-zip_push R (z ∷ xs) [] x y a r = absurd a
-zip_push R (z ∷ xs) (w ∷ ys) x y a r = (a.0, zip_push R xs ys x y a.1 r)
-
 pub table_push : (ts : List InstanceType) (table : List Surface) (t : InstanceType) (e : Surface) → IsTable ts table → IsInstanceType table t e
     → IsTable (ts ++ t ∷ []) (table ++ e ∷ [])
-table_push ts table t e a i =
-    zip_push (IsInstanceType (table ++ e ∷ [])) ts table t e (types_more table (e ∷ []) ts table a) (type_more table (e ∷ []) t e i)
+table_push ts table t e a i = grind (arith, zip_append, zip_map, type_more)

@@ -1,13 +1,12 @@
 -- Types that are declared, and aliases of types.
-use Rattle.std.proofs.Common.{◌≡◌, ℕ, zero, suc, Bool, List, [], ◌∷◌, ◌++◌, sym, subst, append-nil, append_assoc, Option, Some, None, Result}
+use Rattle.std.proofs.Common.{arith, ◌≡◌, ℕ, zero, suc, Bool, List, [], ◌∷◌, ◌++◌, append-nil, append_assoc, Option, Some, None, Result}
 use Rattle.std.specs.Option.{option_map, option_to_list}
-use Rattle.std.specs.Prelude.{slice_get}
 use Rattle.smith_tree.specs.Bodies.{Body, named_in}
 use Rattle.smith_tree.specs.Demands.{Demands}
-use Rattle.smith_tree.specs.Facts.{FactScope, Facts, Id, needs}
+use Rattle.smith_tree.specs.Facts.{FactScope, Facts, Id}
 use Rattle.smith_tree.specs.Validates.{names_of}
 use Rattle.smith_validate.specs.Bodies.{IsBody}
-use Rattle.smith_validate.specs.Instances.{AreKept, Surface, IsKept, IsTable, ScopesKept, reach_of}
+use Rattle.smith_validate.specs.Instances.{AreKept, Surface, IsKept, IsTable, ScopesKept}
 use Rattle.smith_validate.specs.Judges.{Judges}
 use Rattle.smith_validate.specs.Kept.{type_in}
 use Rattle.smith_validate.specs.Nested.{IsDeclared}
@@ -18,30 +17,14 @@ use Rattle.smith_validate.specs.declared.known.Known.{Known}
 use Rattle.smith_validate.proofs.Covering.{covers_outer}
 use Rattle.smith_validate.proofs.DeclSteps.{in_again}
 use Rattle.smith_validate.proofs.Roles.{role_more}
+use Rattle.smith_validate.proofs.Tables.{kept_by}
+use Rattle.smith_validate.proofs.Zips.{zip_at, zip_map}
 
 module _ (table : List Surface) where
-  kept_option : (names : List (List Id)) (ks : List KeptFacts) (fs : List Facts) (i : ℕ) → AreKept table names ks fs
-      → AreKept table names (option_to_list (slice_get ks i)) (option_to_list (slice_get fs i))
-  kept_option names [] [] i a = tt
-  kept_option names [] (f ∷ fs) i a = absurd a
-  kept_option names (k ∷ ks) [] i a = absurd a
-  kept_option names (k ∷ ks) (f ∷ fs) zero a = (a.0, tt)
-  kept_option names (k ∷ ks) (f ∷ fs) (suc i) a = kept_option names ks fs i a.1
-
-  kept_outer : (here : List Id) (names : List (List Id)) (k : KeptFacts) (f : Facts) → IsKept table names k f → IsKept table (here ∷ names) k f
-  kept_outer here names k f i = record {
-    nominal_is = i.nominal_is;
-    needs_are = covers_outer here names k.needs (needs f) i.needs_are;
-    refers_are = covers_outer here names k.refers (reach_of table k.instance f) i.refers_are;
-    instance_is = i.instance_is;
-  }
-
   are_kept_outer : (here : List Id) (names : List (List Id)) (ks : List KeptFacts) (fs : List Facts) → AreKept table names ks fs
       → AreKept table (here ∷ names) ks fs
-  are_kept_outer here names [] [] a = tt
-  are_kept_outer here names [] (f ∷ fs) a = a
-  are_kept_outer here names (k ∷ ks) [] a = a
-  are_kept_outer here names (k ∷ ks) (f ∷ fs) a = (kept_outer here names k f a.0, are_kept_outer here names ks fs a.1)
+  are_kept_outer here names =
+      zip_map (IsKept table names) (IsKept table (here ∷ names)) (kept_by table names (here ∷ names) (covers_outer here names))
 
   pub alias_kept : (names : List (List Id)) (kss : List (List KeptFacts)) (ss : List FactScope) (count i : ℕ) → ScopesKept table names kss ss
       → AreKept table names (option_to_list (type_in kss count i)) (option_to_list (named_in (λ s. s.types) ss count i))
@@ -50,25 +33,17 @@ module _ (table : List Surface) where
   alias_kept [] (ks ∷ kss) ss count i a = absurd a
   alias_kept (here ∷ names) [] ss count i a = absurd a
   alias_kept (here ∷ names) (ks ∷ kss) [] count i a = absurd a
-  alias_kept (here ∷ names) (ks ∷ kss) (s ∷ ss) zero i a = kept_option (here ∷ names) ks s.types i a.0
+  alias_kept (here ∷ names) (ks ∷ kss) (s ∷ ss) zero i a = zip_at (IsKept table (here ∷ names)) ks s.types i a.0
   alias_kept (here ∷ names) (ks ∷ kss) (s ∷ ss) (suc count) i a =
       are_kept_outer here names (option_to_list (type_in kss count i)) (option_to_list (named_in (λ o. o.types) ss count i))
       (alias_kept names kss ss count i a.1)
 
   module _ (names : List (List Id)) (k : Known) (g : KeptFacts) (f : Facts) where
     pub declared_now : IsTable k.instances.items table → IsKept table names g f → IsDeclared table names k g f
-    declared_now t i = record {
-      more = [];
-      instances_are = subst (λ es. IsTable k.instances.items es) (sym (append-nil table)) t;
-      is = subst (λ es. IsKept es names g f) (sym (append-nil table)) i;
-    }
+    declared_now t i = grind (arith, append-nil)
 
     pub declared_more : (more : List Surface) → IsDeclared (table ++ more) names k g f → IsDeclared table names k g f
-    declared_more more d = record {
-      more = more ++ d.more;
-      instances_are = subst (λ es. IsTable k.instances.items es) (append_assoc table more d.more) d.instances_are;
-      is = subst (λ es. IsKept es names g f) (append_assoc table more d.more) d.is;
-    }
+    declared_more more d = grind (arith, append_assoc)
 
 -- the body after a type was read, before it is added
 pub body_declared : (asks : Bool) (k new : Known) (o : KeptBody) (b : Body) (outer : List FactScope) (names : List (List Id)) (table more : List Surface)

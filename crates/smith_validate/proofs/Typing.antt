@@ -7,12 +7,11 @@ use Rattle.std.specs.Prelude.{slice_get, if◌then◌else◌}
 use Rattle.smith_input.specs.NewNames.{is_among}
 use Rattle.smith_syntax.specs.declared.types.ComponentValType.{ComponentValType}
 use Rattle.smith_syntax.specs.declared.types.ComponentValType.TheVariants.{Primitive, Indexed}
-use Rattle.smith_tree.specs.Bodies.{equal_facts, named_in}
-use Rattle.smith_tree.specs.Facts.{FactScope, Facts, Id, needs, value_needs}
+use Rattle.smith_tree.specs.Bodies.{equal_facts}
+use Rattle.smith_tree.specs.Facts.{Facts, Id, needs, value_needs}
 use Rattle.smith_validate.specs.Attained.{Attains}
 use Rattle.smith_validate.specs.Exact.{IsKeptExactly, IsNumberOf}
 use Rattle.smith_validate.specs.Instances.{Surface}
-use Rattle.smith_validate.specs.Kept.{type_in}
 use Rattle.smith_validate.specs.Marks.{both, named_facts, named_needs, no_needs, unnamed_needs}
 use Rattle.smith_validate.specs.Places.{IsBefore}
 use Rattle.smith_validate.specs.Usual.{IsOfValues}
@@ -22,7 +21,7 @@ use Rattle.smith_validate.specs.declared.facts.Needs.{Needs}
 use Rattle.smith_validate.proofs.Attaining.{Names, attains_both, attains_nothing}
 use Rattle.smith_validate.proofs.Ids.{added_open, open_before}
 use Rattle.smith_validate.proofs.Names.{among_cases, among_itself, among_one}
-use Rattle.smith_validate.proofs.Valued.{beside}
+use Rattle.smith_validate.proofs.Zips.{beside}
 
 -- What value types need, if what is kept of types is exact.
 module _ (table : List Surface) (place : Id) (named : List Id) (ks : List KeptFacts) (types : List Facts)
@@ -130,20 +129,3 @@ module _ (table : List Surface) (count : ℕ) (scope : Id) (named more : List Id
             (sym i.nominal_is) (equal_needs f.nominal k.needs f.id f.refers (i.needs_are e));
         number_is = number_equal k.instance here f i.number_is;
       }
-
--- an alias
-module _ (R : KeptFacts → Facts → Type 0) where
-  option_zip : (ks : List KeptFacts) (fs : List Facts) (i : ℕ) → AllZip R ks fs → AllZip R (option_to_list (slice_get ks i)) (option_to_list (slice_get fs i))
-  option_zip [] [] i a = tt
-  option_zip [] (f ∷ fs) i a = absurd a
-  option_zip (k ∷ ks) [] i a = absurd a
-  option_zip (k ∷ ks) (f ∷ fs) zero a = (a.0, tt)
-  option_zip (k ∷ ks) (f ∷ fs) (suc i) a = option_zip ks fs i a.1
-
-  pub alias_zip : (kss : List (List KeptFacts)) (ss : List FactScope) (count i : ℕ) → AllZip (λ ks s. AllZip R ks s.types) kss ss
-      → AllZip R (option_to_list (type_in kss count i)) (option_to_list (named_in (λ s. s.types) ss count i))
-  alias_zip [] [] count i a = tt
-  alias_zip [] (s ∷ ss) count i a = absurd a
-  alias_zip (ks ∷ kss) [] count i a = absurd a
-  alias_zip (ks ∷ kss) (s ∷ ss) zero i a = option_zip ks s.types i a.0
-  alias_zip (ks ∷ kss) (s ∷ ss) (suc count) i a = alias_zip kss ss count i a.1

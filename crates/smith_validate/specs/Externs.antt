@@ -35,11 +35,8 @@ extern_of kept (to.Instance i) = instance_of kept i
 
 -- what is kept of the type that an export adds, in a scope with that many around it
 abbrev pub exported_of : List KeptFacts → ℕ → ComponentTypeRef → List KeptFacts
-exported_of kept depth (to.Module i) = []
-exported_of kept depth (to.Func i) = []
 exported_of kept depth (to.TypeEq i) = map (λ k. named_facts k depth) (option_to_list (slice_get kept i))
-exported_of kept depth (to.Component i) = []
-exported_of kept depth (to.Instance i) = []
+exported_of kept depth _ = []
 
 -- What is kept is of an export of that sort.
 pub record IsPiece (table : List Surface) (names : List (List Id)) (k : KeptExtern) (xs : List Extern) : Type 0 where

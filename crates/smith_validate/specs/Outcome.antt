@@ -1,8 +1,8 @@
 -- What a judgement says.
-use Rattle.std.specs.Prelude.{ℕ, ◌+◌, List, true, false}
+use Rattle.std.specs.Prelude.{ℕ, ◌+◌, true, false}
 use Rattle.smith_tree.specs.Tree.{Tree}
 use Rattle.smith_tree.specs.WellFormed.{WellFormed}
-use Rattle.smith_check.specs.Upto.{upto}
+use Rattle.smith_read.specs.Items.{upto}
 use Rattle.smith_tree.specs.Demands.{Demands}
 use Rattle.smith_tree.specs.Validates.{ValidTree, Validates}
 use Rattle.smith_validate.specs.declared.error.Demand.TheVariants.{Named, Size, Count, Memories, Tables}
@@ -33,12 +33,12 @@ IsJudged Count t = Unit {0}
 IsJudged Memories t = Unit {0}
 IsJudged Tables t = Unit {0}
 
--- What precedes that entry meets all demands. The component, and what ends with the entry, does not meet that one.
-pub record FallsShort (demand : Demand) (path : List ℕ) (entry : ℕ) (t : Tree) : Type 0 where
-  pub before : Validates (upto path entry t)
-  pub there : IsJudged demand t → IsUnmet demand t × IsUnmet demand (upto path (entry + 1) t)
+-- What precedes that item meets all demands. The component, and what ends with the item, does not meet that one.
+pub record FallsShort (demand : Demand) (item : ℕ) (t : Tree) : Type 0 where
+  pub before : Validates (upto item t)
+  pub there : IsJudged demand t → IsUnmet demand t × IsUnmet demand (upto (item + 1) t)
 
--- It is `Valid` only if all demands are met, and `Invalid` only if the demand that it names is not, from that entry on.
+-- It is `Valid` only if all demands are met, and `Invalid` only if the demand that it names is not, from that item on.
 abbrev pub IsOutcome : Tree → Validity → Type 0
 IsOutcome t validity.Valid = Validates t
-IsOutcome t (validity.Invalid shortfall) = FallsShort shortfall.demand shortfall.place.sections.items shortfall.place.entry t
+IsOutcome t (validity.Invalid shortfall) = FallsShort shortfall.demand shortfall.item t

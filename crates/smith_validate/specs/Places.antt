@@ -1,5 +1,5 @@
 -- Types by where they were added: in scopes that are open at a place, or in types that are closed there.
-use Rattle.std.specs.Prelude.{◌≡◌, ℕ, ◌<◌, ◌≤◌, ◌⊎◌, [], ◌∷◌, length}
+use Rattle.std.specs.Prelude.{◌≡◌, ℕ, ◌<◌, ◌⊎◌, [], ◌∷◌, length}
 use Rattle.smith_tree.specs.Facts.{Id}
 
 -- It is that one, or was added within it.
@@ -17,16 +17,6 @@ abbrev pub IsChild : Id → Id → Type 0
 IsChild around [] = ⊥
 IsChild around (k ∷ id) = id ≡ around
 
--- It is, or is within, a type that was added before the place to an open scope with at least that many around it.
-pub record IsBefore (level : ℕ) (place id : Id) : Type 0 where
-  pub scope : Id
-  pub count : ℕ
-  pub index : ℕ
-  pub place_is : IsUnder place (count ∷ scope)
-  pub id_is : IsUnder id (index ∷ scope)
-  pub less : index < count
-  pub deep : level ≤ length scope
-
 -- It was added before the place to an open scope.
 pub record IsOpen (place id : Id) : Type 0 where
   pub scope : Id
@@ -35,6 +25,13 @@ pub record IsOpen (place id : Id) : Type 0 where
   pub place_is : IsUnder place (count ∷ scope)
   pub id_is : id ≡ index ∷ scope
   pub less : index < count
+
+-- It is, or is within, a type that was added before the place to an open scope with at least that many around it.
+pub record IsBefore (level : ℕ) (place id : Id) : Type 0 where
+  pub around : Id
+  pub open_is : IsOpen place around
+  pub within : IsUnder id around
+  pub deep : level < length around
 
 -- It was added before the place to a scope that is closed.
 abbrev pub IsClosed : Id → Id → Type 0

@@ -1,15 +1,13 @@
 -- What calls promise of what they judge and of what is kept then, whatever precedes it.
-use Rattle.std.specs.Prelude.{◌≡◌, ◌+◌, ℕ, List, ◌++◌, IfErr, OnOk, Result, take}
+use Rattle.std.specs.Prelude.{◌≡◌, List, ◌++◌, IfErr, OnOk, Result}
 use Rattle.smith_tree.specs.Bodies.{Body}
 use Rattle.smith_tree.specs.Demands.{Demands}
 use Rattle.smith_tree.specs.Facts.{FactScope, Id}
 use Rattle.smith_tree.specs.Spaces.{Spaces}
 use Rattle.smith_validate.specs.Instances.{Surface}
 use Rattle.smith_validate.specs.Judges.{IsNamed, Judges}
-use Rattle.smith_validate.specs.Outcome.{asking}
-use Rattle.smith_validate.specs.Tracks.{OnStop, StopsBefore}
+use Rattle.smith_validate.specs.Stopping.{OnStop}
 use Rattle.smith_validate.specs.declared.body.Body.{Body as Kept}
-use Rattle.smith_validate.specs.declared.error.Demand.TheVariants.{Named}
 use Rattle.smith_validate.specs.declared.error.Stop.{Stop}
 use Rattle.smith_validate.specs.declared.known.Known.{Known}
 
@@ -58,18 +56,6 @@ pub record WalksExactly {A S : Type 0} (result : Result A Stop) (Before After : 
   pub steps : StepsExactly result Before After after Usual Valid
   pub unnamed : (at : S) (outer : List FactScope) (named : List Id) (table : List Surface) → Before at outer named table → Usual at outer
       → IfErr result (λ e. IsNamed e → Unnamed at outer)
-
--- The same of a call that reads these entries, and stops at that one.
-
-abbrev pub Rows : {A B S : Type 0} → Result A Stop → View S → View S → (List B → S → List FactScope → S)
-    → (Demands → List B → S → List FactScope → Type 0) → List B → ℕ → Type 0
-Rows result Before After after Valid xs entry =
-    Walks result Before After (after xs) (λ d. Valid d xs) (λ e at outer. StopsBefore e (λ d n. Valid d (take n xs) at outer) entry)
-
-abbrev pub RowsExactly : {A B S : Type 0} → Result A Stop → ExactView S → ExactView S → (List B → S → List FactScope → S)
-    → (List B → S → List FactScope → Type 0) → (Demands → List B → S → List FactScope → Type 0) → List B → ℕ → Type 0
-RowsExactly result Before After after Usual Valid xs entry =
-    WalksExactly result Before After (after xs) (Usual xs) (Valid (asking Named) xs) (λ at outer. ¬ (Valid (asking Named) (take (entry + 1) xs) at outer))
 
 -- All beside the innermost scope is what it was.
 pub record SameBeside (old new : Known) : Type 0 where

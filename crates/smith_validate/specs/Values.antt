@@ -1,14 +1,22 @@
 -- Types of values and of functions, and what has to be named when they are used.
-use Rattle.std.specs.Prelude.{◌≡◌, Bool, false, List, [], None, Some, fold, slice_get, if◌then◌else◌}
+use Rattle.std.specs.Prelude.{◌≡◌, ℕ, Bool, false, List, [], None, Some, fold, slice_get, if◌then◌else◌, IfErr, IfOk, Result}
 use Rattle.std.specs.List.{flat_map}
 use Rattle.smith_syntax.specs.Entries.{DefValType, Signature}
 use Rattle.smith_syntax.specs.declared.types.ComponentValType.{ComponentValType}
 use Rattle.smith_syntax.specs.declared.types.ComponentValType.TheVariants.{Primitive, Indexed}
-use Rattle.smith_tree.specs.Facts.{Facts, Id, is_nominal, members, sizes, value_needs}
+use Rattle.smith_syntax.specs.Sizes.{capped}
+use Rattle.smith_tree.specs.Demands.{Keeps}
+use Rattle.smith_tree.specs.Facts.{FactScope, Facts, Id, is_nominal, members, sizes, value_needs}
 use Rattle.smith_tree.specs.Sizes.{defined_size, signature_members, signature_size}
+use Rattle.smith_validate.specs.Instances.{AreKept, Surface}
+use Rattle.smith_validate.specs.Judges.{IsUnnamed, Judges}
+use Rattle.smith_validate.specs.Kept.{kept_in, kept_of}
 use Rattle.smith_validate.specs.Marks.{Covers, both, no_needs, unnamed_needs}
 use Rattle.smith_validate.specs.declared.facts.Facts.{Facts as KeptFacts}
 use Rattle.smith_validate.specs.declared.facts.Needs.{Needs}
+use Rattle.smith_validate.specs.declared.error.Stop.{Stop}
+use Rattle.smith_validate.specs.declared.known.Scope.{Scope}
+use Rattle.smith_validate.specs.declared.values.Values.{Values}
 
 -- What is kept says where what these need is named.
 abbrev pub CoversValues : List Facts → List (List Id) → Needs → List ComponentValType → Type 0
@@ -49,3 +57,13 @@ pub record HasMarks (f : KeptFacts) (nominal : Bool) (marks : Needs) : Type 0 wh
   pub needs_are : f.needs ≡ (if nominal then unnamed_needs else marks)
   pub nominal_is : f.nominal ≡ nominal
   pub instance_is : f.instance ≡ None
+
+-- What these value types need is kept, and what they are of has that size; or it is too large.
+pub record AreValues (result : Result Values Stop) (scope : Scope) (vs : List ComponentValType) (Small : List ℕ → Type 0) (size_of : List ℕ → ℕ)
+    : Type 0 where
+  pub bound : IfErr result IsUnnamed
+  pub judged : (own : FactScope) → kept_in scope ≡ kept_of own → Judges result (λ d. Keeps d.sizes (Small (sizes own.types)))
+  pub size : (own : FactScope) → kept_in scope ≡ kept_of own → IfOk result (λ v. v.size ≡ capped (size_of (sizes own.types)))
+  pub needs : (types : List Facts) (names : List (List Id)) (table : List Surface) → AreKept table names scope.types.items types
+      → IfOk result (λ v. CoversValues types names v.needs vs)
+  pub marks : IfOk result (λ v. v.needs ≡ marks_from scope.types.items no_needs vs)

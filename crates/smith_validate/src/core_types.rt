@@ -126,6 +126,7 @@ impl Module {
     }
 
     // The size of the function type that an outer alias names, in the scope around.
+    #[tactic(auto, using(crate::proofs::ModuleSteps::alias_found, crate::proofs::ModuleSteps::alias_missing))]
     fn aliased(&self, around: &Scope, count: u32, index: u32) -> Option<u32>
         ensures { (own : FactScope) (fs : List Function) → kept_in around.now ≡ kept_of own
             → self.now.own.items ≡ sizes_in fs → result

@@ -1,6 +1,5 @@
 //! What a validator asks beyond well-formedness, and why a judgement stops.
 
-use smith_check::Place;
 use std::alloc::{AllocError, AllocFailed};
 
 /// What a validator asks of a well formed component.
@@ -26,16 +25,19 @@ pub enum Demand {
     Tables,
 }
 
-/// Why a well formed component is not accepted: a demand that it does not meet, and the place of the first entry with
+/// Why a well formed component is not accepted: a demand that it does not meet, and the number of the first item with
 /// which it does not meet all demands.
-#[derive(Debug, PartialEq, Eq, Drop)]
+///
+/// Items count from 0, in the order of the bytes: each custom section, each core module, the beginning of each
+/// component in this one, and each entry of a section that is a list.
+#[derive(Clone, Copy, Debug, PartialEq, Eq)]
 pub struct Shortfall {
-    pub place: Place,
+    pub item: usize,
     pub demand: Demand,
 }
 
 /// Whether a well formed component meets all demands.
-#[derive(Debug, PartialEq, Eq, Drop)]
+#[derive(Clone, Copy, Debug, PartialEq, Eq)]
 pub enum Validity {
     Valid,
     Invalid(Shortfall),

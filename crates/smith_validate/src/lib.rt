@@ -7,15 +7,13 @@ mod core_modules;
 mod core_types;
 mod counts;
 mod error;
-mod exports;
 mod facts;
-mod imports;
 mod instances;
 mod known;
 mod open;
 mod parts;
 mod references;
-mod sections;
+mod rows;
 mod types;
 mod values;
 

@@ -35,6 +35,7 @@ use smith_syntax::ComponentTypeRef;
 use std::alloc::Global;
 
 // The size of a type with that index.
+#[tactic(auto, using(crate::proofs::ScopeSteps::size_found, crate::proofs::ScopeSteps::size_missing))]
 fn size_at(known: &Known, index: u32) -> u32
     ensures { (own : FactScope) → own_in known.now ≡ kept_of own
         → result ≡ capped (get_or (sizes own.types) index 0) }
@@ -86,6 +87,7 @@ fn extern_at(known: &Known, to: ComponentTypeRef) -> Option<Extern>
 }
 
 // A function of the type with that index, or a type that is equal to it.
+#[tactic(auto, using(crate::proofs::Externs::equal_found, crate::proofs::Externs::equal_missing))]
 fn equal_at(known: &Known, index: u32) -> Option<Extern>
     ensures marks { result ≡ option_map kept_extern (slice_get known.now.scopes.own.types.items index) }
     ensures found { (types : List PlainFacts) (names : List (List Id)) (table : List Surface) (ids : List Id)
@@ -99,6 +101,7 @@ fn equal_at(known: &Known, index: u32) -> Option<Extern>
 }
 
 // An instance of the type with that index.
+#[tactic(auto, using(crate::proofs::Externs::instance_found, crate::proofs::Externs::instance_missing))]
 fn instance_at(known: &Known, index: u32) -> Option<Extern>
     ensures marks { result ≡ instance_of known.now.scopes.own.types.items index }
     ensures found { (types : List PlainFacts) (names : List (List Id)) (table : List Surface)

@@ -17,7 +17,8 @@ ghost use Rattle.smith_validate.specs.Judges.{IsUnnamed, Judges};
 ghost use Rattle.smith_syntax.specs.Sizes.{capped};
 ghost use Rattle.smith_validate.specs.Kept.{kept_in, kept_of};
 ghost use Rattle.smith_validate.specs.Marks.{Covers, both, no_needs, nominal_facts, plain_facts};
-ghost use Rattle.smith_validate.specs.Values.{CoversValues, HasMarks, defined_plain, function_plain, marks_from};
+ghost use Rattle.smith_validate.specs.Values.{AreValues, CoversValues, HasMarks, defined_plain, function_plain};
+ghost use Rattle.smith_validate.specs.Values.{marks_from};
 ghost use Rattle.smith_validate.specs.Values.{value_marks};
 
 use crate::error::{Demand, Stop};
@@ -150,17 +151,10 @@ fn small_values<T: Valued>(
     items: &[T],
     last: Option<ComponentValType>,
 ) -> Result<Values, Stop>
-    ensures bound { IfErr result IsUnnamed }
-    ensures judged { (own : FactScope) → kept_in scope.now ≡ kept_of own
-        → Judges result (λ d. Keeps d.sizes (summed (sizes own.types)
-        (flat_map (λ i. option_to_list (T.value i)) items.now ++ option_to_list last) < size_bound)) }
-    ensures size { (own : FactScope) → kept_in scope.now ≡ kept_of own → IfOk result (λ v. v.size ≡ capped
-        (summed (sizes own.types) (flat_map (λ i. option_to_list (T.value i)) items.now ++ option_to_list last))) }
-    ensures needs { (types : List PlainFacts) (names : List (List Id)) (table : List Surface)
-        → AreKept table names scope.now.types.items types → IfOk result (λ v. CoversValues types names v.needs
-        (flat_map (λ i. option_to_list (T.value i)) items.now ++ option_to_list last)) }
-    ensures marks { IfOk result (λ v. v.needs ≡ marks_from scope.now.types.items no_needs
-        (flat_map (λ i. option_to_list (T.value i)) items.now ++ option_to_list last)) }
+    ensures { AreValues result scope.now (flat_map (λ i. option_to_list (T.value i)) items.now ++ option_to_list last)
+        (λ types. summed types (flat_map (λ i. option_to_list (T.value i)) items.now ++ option_to_list last)
+        < size_bound)
+        (λ types. summed types (flat_map (λ i. option_to_list (T.value i)) items.now ++ option_to_list last)) }
 {
     let values = values_of(scope, items);
     check_size(values.add_some(scope, last))
@@ -178,6 +172,44 @@ fn nominal_type(values: Values) -> Facts
     Facts::nominal(values.needs, values.size)
 }
 
+// The value types that a type is made of, and its size.
+fn values_in(scope: &Scope, ty: &DefinedType) -> Result<Values, Stop>
+    ensures { AreValues result scope.now (members (shown_defined ty.now))
+        (λ types. SmallDefined types (shown_defined ty.now)) (λ types. defined_size types (shown_defined ty.now)) }
+{
+    match ty {
+        DefinedType::Primitive(_) => Ok(Values::new(1)),
+        DefinedType::Record(ty) => small_values(scope, &ty.fields, None),
+        DefinedType::Variant(ty) => small_values(scope, &ty.cases, None),
+        DefinedType::List(ty) => Ok(Values::new(0).add(scope, ty.elem_ty)),
+        DefinedType::Tuple(ty) => small_values(scope, &ty.fields, None),
+        DefinedType::Flags(_) => Ok(Values::new(1)),
+        DefinedType::Enum(_) => Ok(Values::new(1)),
+        DefinedType::Option(ty) => Ok(Values::new(0).add(scope, ty.inner_ty)),
+        DefinedType::Result(ty) => {
+            let ok = Values::new(0).add_maybe(scope, ty.ok_ty);
+            Ok(ok.add_maybe(scope, ty.err_ty))
+        }
+    }
+}
+
+// Whether it is a record, a variant, flags or an enum.
+fn is_nominal(ty: &DefinedType) -> bool
+    ensures { result ≡ is_nominal (shown_defined ty.now) }
+{
+    match ty {
+        DefinedType::Record(_)
+        | DefinedType::Variant(_)
+        | DefinedType::Flags(_)
+        | DefinedType::Enum(_) => true,
+        DefinedType::Primitive(_)
+        | DefinedType::List(_)
+        | DefinedType::Tuple(_)
+        | DefinedType::Option(_)
+        | DefinedType::Result(_) => false,
+    }
+}
+
 /// A type of values.
 pub(crate) fn defined_facts(scope: &Scope, ty: &DefinedType) -> Result<Facts, Stop>
     ensures bound { IfErr result IsUnnamed }
@@ -191,28 +223,11 @@ pub(crate) fn defined_facts(scope: &Scope, ty: &DefinedType) -> Result<Facts, St
     ensures marks { IfOk result (λ f. HasMarks f (is_nominal (shown_defined ty.now))
         (marks_from scope.now.types.items no_needs (members (shown_defined ty.now)))) }
 {
-    match ty {
-        DefinedType::Primitive(_) => Ok(plain_type(Values::new(1))),
-        DefinedType::Record(ty) => {
-            let values = small_values(scope, &ty.fields, None)?;
-            Ok(nominal_type(values))
-        }
-        DefinedType::Variant(ty) => {
-            let values = small_values(scope, &ty.cases, None)?;
-            Ok(nominal_type(values))
-        }
-        DefinedType::List(ty) => Ok(plain_type(Values::new(0).add(scope, ty.elem_ty))),
-        DefinedType::Tuple(ty) => {
-            let values = small_values(scope, &ty.fields, None)?;
-            Ok(plain_type(values))
-        }
-        DefinedType::Flags(_) | DefinedType::Enum(_) => Ok(nominal_type(Values::new(1))),
-        DefinedType::Option(ty) => Ok(plain_type(Values::new(0).add(scope, ty.inner_ty))),
-        DefinedType::Result(ty) => {
-            let ok = Values::new(0).add_maybe(scope, ty.ok_ty);
-            Ok(plain_type(ok.add_maybe(scope, ty.err_ty)))
-        }
+    let values = values_in(scope, ty)?;
+    if is_nominal(ty) {
+        return Ok(nominal_type(values));
     }
+    Ok(plain_type(values))
 }
 
 /// A type of functions.

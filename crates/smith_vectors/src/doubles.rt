@@ -5,74 +5,58 @@ use std::alloc::Global;
 use std::io;
 use std::io::{ErrorKind, Read, Write};
 
-/// Returns its bytes, at most that many a read, and fails from read number `fails_at` on. The first is number 1.
-#[derive(Drop)]
-pub struct Pieces<'a> {
-    bytes: &'a [u8],
-    most: usize,
-    fails_at: usize,
-    pub reads: usize,
+// Counts a call, which fails from number `fails_at` on. The first is number 1.
+fn count(calls: &mut usize, fails_at: usize) -> io::Result<()> {
+    *calls = calls.saturating_add(1);
+    if *calls >= fails_at {
+        return Err(io::Error::from(ErrorKind::Other));
+    }
+    Ok(())
 }
 
-impl<'a> Pieces<'a> {
-    pub fn failing(bytes: &'a [u8], most: usize, fails_at: usize) -> Pieces<'a> {
-        Pieces {
-            bytes,
-            most,
-            fails_at,
-            reads: 0,
-        }
-    }
+/// Returns its bytes, at most three a read, and fails from read number `fails_at` on.
+#[derive(Drop)]
+pub struct Pieces<'a> {
+    pub bytes: &'a [u8],
+    pub fails_at: usize,
+    pub reads: usize,
 }
 
 impl Read for Pieces<'_> {
     fn read(&mut self, buf: &mut [u8]) -> io::Result<usize> {
-        self.reads = self.reads.saturating_add(1);
-        if self.reads >= self.fails_at {
-            return Err(io::Error::from(ErrorKind::Other));
-        }
-        let room = self.most.min(buf.len());
+        count(&mut self.reads, self.fails_at)?;
+        let room = buf.len().min(3);
         self.bytes.read(&mut buf[..room])
     }
 }
 
-/// Takes at most that many bytes a write, and fails from call number `fails_at` on, a flush being a call too.
+/// Takes at most four bytes a write, and fails from call number `fails_at` on, a flush being a call too.
 #[derive(Drop)]
 pub struct Sheet {
-    most: usize,
     fails_at: usize,
     pub calls: usize,
     pub text: Vec<u8>,
 }
 
 impl Sheet {
-    pub fn new(alloc: Global, most: usize, fails_at: usize) -> Sheet {
+    pub fn new(alloc: Global, fails_at: usize) -> Sheet {
         Sheet {
-            most,
             fails_at,
             calls: 0,
             text: Vec::new(alloc),
         }
     }
-
-    fn count_call(&mut self) -> io::Result<()> {
-        self.calls = self.calls.saturating_add(1);
-        if self.calls >= self.fails_at {
-            return Err(io::Error::from(ErrorKind::Other));
-        }
-        Ok(())
-    }
 }
 
 impl Write for Sheet {
     fn write(&mut self, buf: &[u8]) -> io::Result<usize> {
-        self.count_call()?;
-        let count = self.most.min(buf.len());
-        self.text.extend_from_slice(&buf[..count])?;
-        Ok(count)
+        count(&mut self.calls, self.fails_at)?;
+        let room = buf.len().min(4);
+        self.text.extend_from_slice(&buf[..room])?;
+        Ok(room)
     }
 
     fn flush(&mut self) -> io::Result<()> {
-        self.count_call()
+        count(&mut self.calls, self.fails_at)
     }
 }

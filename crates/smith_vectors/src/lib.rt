@@ -3,8 +3,6 @@
 #![tactic(auto)]
 
 #[cfg(test)]
-mod calls;
-#[cfg(test)]
 mod common;
 #[cfg(test)]
 mod core_types;
@@ -23,16 +21,10 @@ mod modules;
 #[cfg(test)]
 mod names;
 #[cfg(test)]
-mod positions;
-#[cfg(test)]
 mod reader;
 #[cfg(test)]
 mod references;
 #[cfg(test)]
 mod runs;
-#[cfg(test)]
-mod sections;
-#[cfg(test)]
-mod turns;
 #[cfg(test)]
 mod writers;

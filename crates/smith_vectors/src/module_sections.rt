@@ -1,47 +1,41 @@
 //! A core module with all thirteen sections, worked out by hand from the core specification's binary format.
 
-use crate::modules::{FUNCTIONS, PAGE, at, check, expressions, final_function, functions, import};
+use crate::modules::{
+    IN_FRONT, NUMBER, PAGE, add_code, add_data, add_import, add_page, check, function, type_of,
+};
 use smith_core::{
-    Code, CompositeType, DataSegment, DataSegmentKind, ElementKind, EntityType, ExportKind,
+    CompositeType, DataSegmentKind, ElementKind, ElementSegment, Elements, EntityType, ExportKind,
     FieldType, GlobalType, Instructions, MemoryType, ModuleParts, Offset, RefType, StorageType,
-    SubType, TableType, TagType, ValType,
+    TableType, TagType, ValType,
 };
 use std::alloc::Global;
 use std::test::Fail;
 
+const FUNCTIONS: TableType = TableType {
+    element_type: RefType::FuncRef,
+    table64: false,
+    minimum: 1,
+    maximum: None,
+};
+
 fn field(element: StorageType, mutable: bool) -> FieldType {
     FieldType { element, mutable }
-}
-
-fn final_type(supertype: Option<u32>, composite_type: CompositeType) -> SubType {
-    SubType {
-        is_final: true,
-        supertype,
-        composite_type,
-    }
 }
 
 // Types of all three sorts, in groups of one, of two, of one and of none.
 fn add_types(alloc: Global, parts: &mut ModuleParts) -> Result<(), Fail> {
     let bytes = field(StorageType::I8, true);
     let number = field(StorageType::Val(ValType::I32), false);
-    let function = field(StorageType::Val(ValType::Ref(RefType::FuncRef)), false);
-    let halves = field(StorageType::I16, true);
-    let params = Vec::from_slice(alloc, &[ValType::I32])?;
-    parts.types.push(final_function(params, Vec::new(alloc)))?;
-    let two = Vec::from_slice(alloc, &[bytes, number])?;
-    parts.types.push(SubType {
-        is_final: false,
-        supertype: None,
-        composite_type: CompositeType::Struct(two),
-    })?;
-    let three = CompositeType::Struct(Vec::from_slice(alloc, &[bytes, number, function])?);
-    parts.types.push(final_type(Some(1), three))?;
-    let array = CompositeType::Array(halves);
-    parts.types.push(final_type(None, array))?;
-    parts
-        .rec_groups
-        .extend_from_slice(&[(0, 1), (1, 3), (3, 4), (4, 4)])?;
+    let reference = field(StorageType::Val(ValType::Ref(RefType::FuncRef)), false);
+    let two = CompositeType::Struct(Vec::from_slice(alloc, &[bytes, number])?);
+    let three = CompositeType::Struct(Vec::from_slice(alloc, &[bytes, number, reference])?);
+    let halves = CompositeType::Array(field(StorageType::I16, true));
+    parts.types.push(function(alloc, &[ValType::I32])?)?;
+    parts.types.push(type_of(false, None, two))?;
+    parts.types.push(type_of(true, Some(1), three))?;
+    parts.types.push(type_of(true, None, halves))?;
+    let groups = [(0, 1), (1, 3), (3, 4), (4, 4)];
+    parts.rec_groups.extend_from_slice(&groups)?;
     parts.should_encode_types = true;
     Ok(())
 }
@@ -54,34 +48,22 @@ fn add_imports(alloc: Global, parts: &mut ModuleParts) -> Result<(), Fail> {
         shared: false,
         memory64: false,
     };
-    let global = GlobalType {
-        val_type: ValType::I32,
-        mutable: false,
-    };
     let tag = TagType { func_type_idx: 0 };
-    let entries = [
-        ("f", EntityType::Func(0)),
-        ("t", EntityType::Table(FUNCTIONS)),
-        ("y", EntityType::Memory(memory)),
-        ("g", EntityType::Global(global)),
-        ("e", EntityType::Tag(tag)),
-    ];
-    for (name, entity_type) in entries {
-        parts.imports.push(import(alloc, name, entity_type)?)?;
-    }
-    parts.should_encode_imports = true;
+    add_import(alloc, parts, "f", EntityType::Func(0))?;
+    add_import(alloc, parts, "t", EntityType::Table(FUNCTIONS))?;
+    add_import(alloc, parts, "y", EntityType::Memory(memory))?;
+    add_import(alloc, parts, "g", EntityType::Global(NUMBER))?;
+    add_import(alloc, parts, "e", EntityType::Tag(tag))?;
     parts.funcs.push(0)?;
     parts.tables.push(FUNCTIONS)?;
     parts.memories.push(memory)?;
-    parts.globals.push(global)?;
+    parts.globals.push(NUMBER)?;
     parts.tags.push(tag)?;
     Ok(())
 }
 
-// Two functions, two tables, a memory, a tag and a global are defined.
+// Two tables, a memory, a tag and a global are defined.
 fn add_defined(alloc: Global, parts: &mut ModuleParts) -> Result<(), Fail> {
-    parts.funcs.extend_from_slice(&[0, 0])?;
-    parts.num_defined_funcs = 2;
     parts.tables.push(TableType {
         element_type: RefType::ExternRef,
         table64: true,
@@ -89,21 +71,18 @@ fn add_defined(alloc: Global, parts: &mut ModuleParts) -> Result<(), Fail> {
         maximum: Some(5),
     })?;
     parts.tables.push(FUNCTIONS)?;
+    let reference = Vec::from_slice(alloc, b"\xd2\x00")?;
     parts.defined_tables.push(None)?;
-    parts
-        .defined_tables
-        .push(Some(Vec::from_slice(alloc, b"\xd2\x00")?))?;
-    parts.memories.push(PAGE)?;
-    parts.num_defined_memories = 1;
+    parts.defined_tables.push(Some(reference))?;
+    add_page(parts)?;
     parts.tags.push(TagType { func_type_idx: 0 })?;
     parts.num_defined_tags = 1;
     parts.globals.push(GlobalType {
         val_type: ValType::I64,
         mutable: true,
     })?;
-    parts
-        .defined_globals
-        .push((1, Vec::from_slice(alloc, b"\x42\x2a")?))?;
+    let number = Vec::from_slice(alloc, b"\x42\x2a")?;
+    parts.defined_globals.push((1, number))?;
     Ok(())
 }
 
@@ -116,73 +95,82 @@ fn add_exports(alloc: Global, parts: &mut ModuleParts) -> Result<(), Fail> {
         ("e", ExportKind::Tag, 1),
     ];
     for (name, kind, index) in entries {
-        parts
-            .exports
-            .push((String::from_str(alloc, name)?, kind, index))?;
+        let name = String::from_str(alloc, name)?;
+        parts.exports.push((name, kind, index))?;
     }
     parts.start = Some(1);
     Ok(())
 }
 
-// Element segments of all eight forms.
-fn add_elements(alloc: Global, parts: &mut ModuleParts) -> Result<(), Fail> {
-    let first = at(None, Offset::Const32(0));
-    parts.elems.push(functions(alloc, first, &[0, 1])?)?;
-    parts
-        .elems
-        .push(functions(alloc, ElementKind::Passive, &[1])?)?;
-    let second = at(Some(1), Offset::Const64(-1));
-    parts.elems.push(functions(alloc, second, &[])?)?;
-    parts
-        .elems
-        .push(functions(alloc, ElementKind::Declared, &[0])?)?;
-    let by_global = at(None, Offset::Global(0));
-    let texts: [&[u8]; 1] = [b"\xd2\x01"];
-    let segment = expressions(alloc, by_global, RefType::FuncRef, &texts)?;
-    parts.elems.push(segment)?;
-    let segment = expressions(alloc, ElementKind::Passive, RefType::ExternRef, &[])?;
-    parts.elems.push(segment)?;
-    let named = at(Some(0), Offset::Const32(64));
-    let texts: [&[u8]; 1] = [b"\xd0\x70"];
-    let segment = expressions(alloc, named, RefType::FuncRef, &texts)?;
-    parts.elems.push(segment)?;
-    let texts: [&[u8]; 2] = [b"\xd2\x00", b"\xd2\x01"];
-    let segment = expressions(alloc, ElementKind::Declared, RefType::FuncRef, &texts)?;
-    parts.elems.push(segment)?;
+pub fn at(table: Option<u32>, offset: Offset) -> ElementKind {
+    ElementKind::Active { table, offset }
+}
+
+pub fn add_functions(
+    alloc: Global,
+    parts: &mut ModuleParts,
+    kind: ElementKind,
+    ty: RefType,
+    indexes: &[u32],
+) -> Result<(), Fail> {
+    let items = Elements::Functions(Vec::from_slice(alloc, indexes)?);
+    parts.elems.push(ElementSegment { kind, ty, items })?;
     Ok(())
+}
+
+pub fn add_expressions(
+    alloc: Global,
+    parts: &mut ModuleParts,
+    kind: ElementKind,
+    ty: RefType,
+    texts: &[&[u8]],
+) -> Result<(), Fail> {
+    let mut items = Vec::new(alloc);
+    for text in texts {
+        items.push(Vec::from_slice(alloc, text)?)?;
+    }
+    let items = Elements::Expressions(items);
+    parts.elems.push(ElementSegment { kind, ty, items })?;
+    Ok(())
+}
+
+const FUNC: RefType = RefType::FuncRef;
+
+// Element segments of all eight forms, some of them twice.
+fn add_elements(alloc: Global, parts: &mut ModuleParts) -> Result<(), Fail> {
+    let first: &[u8] = b"\xd2\x00";
+    let second: &[u8] = b"\xd2\x01";
+    let null: &[u8] = b"\xd0\x70";
+    add_functions(alloc, parts, at(None, Offset::Const32(0)), FUNC, &[0, 1])?;
+    add_functions(alloc, parts, at(None, Offset::Const32(-1)), FUNC, &[0])?;
+    add_functions(alloc, parts, ElementKind::Passive, FUNC, &[1])?;
+    add_functions(alloc, parts, ElementKind::Passive, FUNC, &[0])?;
+    add_functions(alloc, parts, at(Some(1), Offset::Const64(-1)), FUNC, &[])?;
+    add_functions(alloc, parts, at(Some(0), Offset::Const32(0)), FUNC, &[])?;
+    add_functions(alloc, parts, ElementKind::Declared, FUNC, &[0])?;
+    let by_global = at(None, Offset::Global(0));
+    add_expressions(alloc, parts, by_global, FUNC, &[second])?;
+    add_expressions(alloc, parts, ElementKind::Passive, RefType::ExternRef, &[])?;
+    add_expressions(alloc, parts, ElementKind::Passive, FUNC, &[first])?;
+    let named = at(Some(0), Offset::Const32(64));
+    add_expressions(alloc, parts, named, FUNC, &[null])?;
+    add_expressions(alloc, parts, ElementKind::Declared, FUNC, &[first, second])
 }
 
 // The code of two functions, and data segments of all three forms, which are counted.
 fn add_code_and_data(alloc: Global, parts: &mut ModuleParts) -> Result<(), Fail> {
-    parts.code.push(Code {
-        locals: Vec::from_slice(alloc, &[ValType::I32, ValType::Ref(RefType::FuncRef)])?,
-        instructions: Instructions::Generated(Vec::from_slice(alloc, b"\x01")?),
-    })?;
-    parts.code.push(Code {
-        locals: Vec::new(alloc),
-        instructions: Instructions::Arbitrary(Vec::from_slice(alloc, b"\x0b")?),
-    })?;
-    let first = DataSegmentKind::Active {
-        memory_index: 0,
-        offset: Offset::Const32(0),
-    };
+    let locals = [ValType::I32, ValType::Ref(RefType::FuncRef)];
+    let generated = Instructions::Generated(Vec::from_slice(alloc, b"\x01")?);
+    let arbitrary = Instructions::Arbitrary(Vec::from_slice(alloc, b"\x0b")?);
+    add_code(alloc, parts, &locals, generated)?;
+    add_code(alloc, parts, &[], arbitrary)?;
     let second = DataSegmentKind::Active {
         memory_index: 1,
         offset: Offset::Const32(-64),
     };
-    let segments: [(DataSegmentKind, &[u8]); 3] = [
-        (first, b"h"),
-        (DataSegmentKind::Passive, b"i"),
-        (second, b""),
-    ];
-    for (kind, init) in segments {
-        parts.data_segments.push(DataSegment {
-            kind,
-            init: Vec::from_slice(alloc, init)?,
-        })?;
-    }
-    parts.bulk_memory_enabled = true;
-    Ok(())
+    add_data(alloc, parts, IN_FRONT, b"h")?;
+    add_data(alloc, parts, DataSegmentKind::Passive, b"i")?;
+    add_data(alloc, parts, second, b"")
 }
 
 // The thirteen sections of the module of all these parts, one a line.
@@ -198,8 +186,9 @@ const ALL_SECTIONS: [&[u8]; 13] = [
     b"\x06\x06\x01\x7e\x01\x42\x2a\x0b",
     b"\x07\x15\x05\x01a\x00\x01\x01b\x01\x00\x01c\x02\x01\x01d\x03\x01\x01e\x04\x01",
     b"\x08\x01\x01",
-    b"\x09\x36\x08\x00\x41\x00\x0b\x02\x00\x01\x01\x00\x01\x01\x02\x01\x42\x7f\x0b\x00\x00\x03\x00\
-        \x01\x00\x04\x23\x00\x0b\x01\xd2\x01\x0b\x05\x6f\x00\x06\x00\x41\xc0\x00\x0b\x70\x01\xd0\x70\
+    b"\x09\x4d\x0c\x00\x41\x00\x0b\x02\x00\x01\x00\x41\x7f\x0b\x01\x00\x01\x00\x01\x01\x01\x00\x01\
+        \x00\x02\x01\x42\x7f\x0b\x00\x00\x02\x00\x41\x00\x0b\x00\x00\x03\x00\x01\x00\x04\x23\x00\x0b\
+        \x01\xd2\x01\x0b\x05\x6f\x00\x05\x70\x01\xd2\x00\x0b\x06\x00\x41\xc0\x00\x0b\x70\x01\xd0\x70\
         \x0b\x07\x70\x02\xd2\x00\x0b\xd2\x01\x0b",
     b"\x0c\x01\x03",
     b"\x0a\x0c\x02\x07\x02\x01\x7f\x01\x70\x01\x0b\x02\x00\x0b",
@@ -216,9 +205,10 @@ fn a_module_of_all_sections(rt: HostRuntime) -> Result<(), Fail> {
     add_exports(alloc, &mut parts)?;
     add_elements(alloc, &mut parts)?;
     add_code_and_data(alloc, &mut parts)?;
-    let mut expected = Vec::new(alloc);
-    for section in ALL_SECTIONS {
-        expected.extend_from_slice(section)?;
-    }
-    check(&rt, "all sections", parts, &expected)
+    check(
+        &rt,
+        "all sections",
+        parts,
+        ALL_SECTIONS.concat(alloc)?.as_slice(),
+    )
 }

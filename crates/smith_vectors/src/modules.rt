@@ -2,9 +2,8 @@
 
 use crate::common::{check_bytes, check_holds};
 use smith_core::{
-    Code, CompositeType, DataSegment, DataSegmentKind, ElementKind, ElementSegment, Elements,
-    EntityType, FuncType, GlobalType, Import, Instructions, MemoryType, Module, ModuleParts,
-    Offset, RefType, SubType, TableType, ValType,
+    Code, CompositeType, DataSegment, DataSegmentKind, EntityType, FuncType, GlobalType, Import,
+    Instructions, MemoryType, Module, ModuleParts, Offset, SubType, ValType,
 };
 use std::alloc::Global;
 use std::process::Abort;
@@ -21,56 +20,79 @@ pub const PAGE: MemoryType = MemoryType {
     memory64: false,
 };
 
-pub const FUNCTIONS: TableType = TableType {
-    element_type: RefType::FuncRef,
-    table64: false,
-    minimum: 1,
-    maximum: None,
+pub const NUMBER: GlobalType = GlobalType {
+    val_type: ValType::I32,
+    mutable: false,
 };
 
-pub fn final_function(params: Vec<ValType>, results: Vec<ValType>) -> SubType {
+pub const IN_FRONT: DataSegmentKind = DataSegmentKind::Active {
+    memory_index: 0,
+    offset: Offset::Const32(0),
+};
+
+pub fn type_of(is_final: bool, supertype: Option<u32>, composite_type: CompositeType) -> SubType {
     SubType {
-        is_final: true,
-        supertype: None,
-        composite_type: CompositeType::Func(FuncType { params, results }),
+        is_final,
+        supertype,
+        composite_type,
     }
 }
 
-pub fn import(alloc: Global, name: &str, entity_type: EntityType) -> Result<Import, Fail> {
-    Ok(Import {
+// A function of these parameters and no result.
+pub fn function(alloc: Global, params: &[ValType]) -> Result<SubType, Fail> {
+    let func = FuncType {
+        params: Vec::from_slice(alloc, params)?,
+        results: Vec::new(alloc),
+    };
+    Ok(type_of(true, None, CompositeType::Func(func)))
+}
+
+pub fn add_import(
+    alloc: Global,
+    parts: &mut ModuleParts,
+    name: &str,
+    entity_type: EntityType,
+) -> Result<(), Fail> {
+    parts.should_encode_imports = true;
+    parts.imports.push(Import {
         module: String::from_str(alloc, "m")?,
         name: String::from_str(alloc, name)?,
         entity_type,
-    })
+    })?;
+    Ok(())
 }
 
-pub fn functions(
+pub fn add_code(
     alloc: Global,
-    kind: ElementKind,
-    indexes: &[u32],
-) -> Result<ElementSegment, Fail> {
-    Ok(ElementSegment {
-        kind,
-        ty: RefType::FuncRef,
-        items: Elements::Functions(Vec::from_slice(alloc, indexes)?),
-    })
+    parts: &mut ModuleParts,
+    locals: &[ValType],
+    instructions: Instructions,
+) -> Result<(), Fail> {
+    parts.funcs.push(0)?;
+    parts.code.push(Code {
+        locals: Vec::from_slice(alloc, locals)?,
+        instructions,
+    })?;
+    parts.num_defined_funcs = parts.code.len();
+    Ok(())
 }
 
-pub fn expressions(
+pub fn add_data(
     alloc: Global,
-    kind: ElementKind,
-    ty: RefType,
-    texts: &[&[u8]],
-) -> Result<ElementSegment, Fail> {
-    let mut items = Vec::new(alloc);
-    for text in texts {
-        items.push(Vec::from_slice(alloc, text)?)?;
-    }
-    Ok(ElementSegment {
-        kind,
-        ty,
-        items: Elements::Expressions(items),
-    })
+    parts: &mut ModuleParts,
+    kind: DataSegmentKind,
+    bytes: &[u8],
+) -> Result<(), Fail> {
+    let init = Vec::from_slice(alloc, bytes)?;
+    parts.data_segments.push(DataSegment { kind, init })?;
+    Ok(())
+}
+
+pub fn add_page(parts: &mut ModuleParts) -> Result<(), Fail> {
+    parts.memories.push(PAGE)?;
+    parts.num_defined_memories = 1;
+    parts.bulk_memory_enabled = true;
+    Ok(())
 }
 
 // A module of these parts has these bytes after the preamble, of the length that is measured, and appends them.
@@ -94,166 +116,57 @@ pub fn check<R: Abort + AllocGlobal>(
     Ok(())
 }
 
-/// A function of nothing, with two variables of i32 and no instructions.
-pub fn one_function(alloc: Global) -> Result<ModuleParts, Fail> {
+// Function types of nothing, in one group.
+fn group_of(alloc: Global, many: usize) -> Result<ModuleParts, Fail> {
     let mut parts = ModuleParts::empty(alloc);
-    parts
-        .types
-        .push(final_function(Vec::new(alloc), Vec::new(alloc)))?;
-    parts.rec_groups.push((0, 1))?;
+    for _ in 0..many {
+        parts.types.push(function(alloc, &[])?)?;
+    }
+    parts.rec_groups.push((0, many))?;
     parts.should_encode_types = true;
-    parts.funcs.push(0)?;
-    parts.num_defined_funcs = 1;
-    parts.code.push(Code {
-        locals: Vec::from_slice(alloc, &[ValType::I32, ValType::I32])?,
-        instructions: Instructions::Generated(Vec::new(alloc)),
-    })?;
     Ok(parts)
 }
 
-/// The bytes of a module of that function alone, after the preamble.
-pub const ONE_FUNCTION: &[u8] = &[
+const COUNTED_DATA: &[u8] = b"\x05\x03\x01\x00\x01\x0c\x01\x01\x0b\x08\x01\x00\x41\x00\x0b\x02hi";
+
+const CODE: &[u8] = &[
     1, 4, 1, 0x60, 0, 0, 3, 2, 1, 0, 10, 8, 1, 6, 2, 1, 0x7f, 1, 0x7f, 0x0b,
 ];
-
-pub fn at(table: Option<u32>, offset: Offset) -> ElementKind {
-    ElementKind::Active { table, offset }
-}
-
-// Type and import sections without entries.
-fn empty_lists(alloc: Global) -> ModuleParts {
-    let mut parts = ModuleParts::empty(alloc);
-    parts.should_encode_types = true;
-    parts.should_encode_imports = true;
-    parts
-}
-
-// Two types in one group.
-fn one_group(alloc: Global) -> Result<ModuleParts, Fail> {
-    let mut parts = ModuleParts::empty(alloc);
-    parts.should_encode_types = true;
-    for _ in 0..2 {
-        parts
-            .types
-            .push(final_function(Vec::new(alloc), Vec::new(alloc)))?;
-    }
-    parts.rec_groups.push((0, 2))?;
-    Ok(parts)
-}
-
-fn of_a_segment(alloc: Global, segment: ElementSegment) -> Result<ModuleParts, Fail> {
-    let mut parts = ModuleParts::empty(alloc);
-    parts.elems.push(segment)?;
-    Ok(parts)
-}
-
-// A global that is imported.
-fn of_a_global(alloc: Global) -> Result<ModuleParts, Fail> {
-    let global = GlobalType {
-        val_type: ValType::I32,
-        mutable: false,
-    };
-    let mut parts = ModuleParts::empty(alloc);
-    parts
-        .imports
-        .push(import(alloc, "g", EntityType::Global(global))?)?;
-    parts.globals.push(global)?;
-    parts.should_encode_imports = true;
-    Ok(parts)
-}
-
-fn of_data(alloc: Global, kind: DataSegmentKind) -> Result<ModuleParts, Fail> {
-    let mut parts = ModuleParts::empty(alloc);
-    parts.data_segments.push(DataSegment {
-        kind,
-        init: Vec::from_slice(alloc, b"hi")?,
-    })?;
-    Ok(parts)
-}
-
-// A memory, and data in it, with a count.
-fn of_memory_and_data(alloc: Global) -> Result<ModuleParts, Fail> {
-    let mut parts = of_data(
-        alloc,
-        DataSegmentKind::Active {
-            memory_index: 0,
-            offset: Offset::Const32(0),
-        },
-    )?;
-    parts.memories.push(PAGE)?;
-    parts.num_defined_memories = 1;
-    parts.bulk_memory_enabled = true;
-    Ok(parts)
-}
-
-#[test]
-fn modules_of_element_segments(rt: HostRuntime) -> Result<(), Fail> {
-    let alloc = rt.alloc();
-    let first = at(None, Offset::Const32(-1));
-    let named = at(Some(0), Offset::Const32(0));
-    let texts: [&[u8]; 1] = [b"\xd2\x00"];
-    let rows: [(&str, ElementSegment, &[u8]); 4] = [
-        (
-            "active, of functions",
-            functions(alloc, first, &[0])?,
-            b"\x09\x07\x01\x00\x41\x7f\x0b\x01\x00",
-        ),
-        (
-            "passive, of functions",
-            functions(alloc, ElementKind::Passive, &[0])?,
-            b"\x09\x05\x01\x01\x00\x01\x00",
-        ),
-        (
-            "passive, of expressions",
-            expressions(alloc, ElementKind::Passive, RefType::FuncRef, &texts)?,
-            b"\x09\x07\x01\x05\x70\x01\xd2\x00\x0b",
-        ),
-        (
-            "one that names the table 0",
-            functions(alloc, named, &[])?,
-            b"\x09\x08\x01\x02\x00\x41\x00\x0b\x00\x00",
-        ),
-    ];
-    for (name, segment, gives) in rows {
-        check(&rt, name, of_a_segment(alloc, segment)?, gives)?;
-    }
-    Ok(())
-}
 
 #[test]
 fn modules_of_some_sections(rt: HostRuntime) -> Result<(), Fail> {
     let alloc = rt.alloc();
-    let rows: [(&str, ModuleParts, &[u8]); 7] = [
-        ("nothing", ModuleParts::empty(alloc), b""),
-        (
-            "lists without entries",
-            empty_lists(alloc),
-            b"\x01\x01\x00\x02\x01\x00",
-        ),
-        (
-            "a group of two",
-            one_group(alloc)?,
-            b"\x01\x09\x01\x4e\x02\x60\x00\x00\x60\x00\x00",
-        ),
-        (
-            "imported globals alone",
-            of_a_global(alloc)?,
-            b"\x02\x08\x01\x01m\x01g\x03\x7f\x00\x06\x01\x00",
-        ),
-        (
-            "a data segment with a count",
-            of_memory_and_data(alloc)?,
-            b"\x05\x03\x01\x00\x01\x0c\x01\x01\x0b\x08\x01\x00\x41\x00\x0b\x02hi",
-        ),
-        (
-            "a data segment without a count",
-            of_data(alloc, DataSegmentKind::Passive)?,
-            b"\x0b\x05\x01\x01\x02hi",
-        ),
-        ("a function", one_function(alloc)?, ONE_FUNCTION),
-    ];
-    for (name, parts, gives) in rows {
-        check(&rt, name, parts, gives)?;
-    }
-    Ok(())
+    check(&rt, "nothing", ModuleParts::empty(alloc), b"")?;
+    let mut parts = ModuleParts::empty(alloc);
+    parts.should_encode_types = true;
+    parts.should_encode_imports = true;
+    check(
+        &rt,
+        "lists without entries",
+        parts,
+        b"\x01\x01\x00\x02\x01\x00",
+    )?;
+    let two = b"\x01\x09\x01\x4e\x02\x60\x00\x00\x60\x00\x00";
+    check(&rt, "a group of two", group_of(alloc, 2)?, two)?;
+    let mut parts = ModuleParts::empty(alloc);
+    add_import(alloc, &mut parts, "g", EntityType::Global(NUMBER))?;
+    parts.globals.push(NUMBER)?;
+    let globals = b"\x02\x08\x01\x01m\x01g\x03\x7f\x00\x06\x01\x00";
+    check(&rt, "imported globals alone", parts, globals)?;
+    let mut parts = ModuleParts::empty(alloc);
+    add_page(&mut parts)?;
+    add_data(alloc, &mut parts, IN_FRONT, b"hi")?;
+    check(&rt, "data with a count", parts, COUNTED_DATA)?;
+    let mut parts = ModuleParts::empty(alloc);
+    add_data(alloc, &mut parts, DataSegmentKind::Passive, b"hi")?;
+    check(
+        &rt,
+        "data without a count",
+        parts,
+        b"\x0b\x05\x01\x01\x02hi",
+    )?;
+    let mut parts = group_of(alloc, 1)?;
+    let nothing = Instructions::Generated(Vec::new(alloc));
+    add_code(alloc, &mut parts, &[ValType::I32, ValType::I32], nothing)?;
+    check(&rt, "a function", parts, CODE)
 }

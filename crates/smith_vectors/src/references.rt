@@ -13,18 +13,12 @@ use std::test::Fail;
 
 // A type of each kind, with nothing in it.
 fn empty_type(alloc: Global, kind: Kind) -> Result<DefType, Fail> {
+    let defs = Vec::new(alloc);
+    let params = Vec::new(alloc);
+    let result = None;
     Ok(match kind {
-        Kind::Func => {
-            let func = FuncType {
-                params: Vec::new(alloc),
-                result: None,
-            };
-            DefType::Func(Rc::new(alloc, func)?)
-        }
-        Kind::Component => {
-            let defs = Vec::new(alloc);
-            DefType::Component(ComponentType { defs })
-        }
+        Kind::Func => DefType::Func(Rc::new(alloc, FuncType { params, result })?),
+        Kind::Component => DefType::Component(ComponentType { defs }),
         Kind::Instance => {
             let defs = Vec::new(alloc);
             DefType::Instance(InstanceType { defs })
@@ -40,10 +34,8 @@ fn empty_core_type(alloc: Global, kind: Kind) -> Result<CoreType, Fail> {
         return Ok(CoreType::Module(ModuleType { defs }));
     }
     let params: Vec<ValType> = Vec::new(alloc);
-    let func = smith_format::FuncType {
-        params,
-        results: Vec::new(alloc),
-    };
+    let results = Vec::new(alloc);
+    let func = smith_format::FuncType { params, results };
     Ok(CoreType::Func(Rc::new(alloc, func)?))
 }
 
@@ -110,182 +102,107 @@ fn the_places_of_each_kind(rt: HostRuntime) -> Result<(), Fail> {
     Ok(())
 }
 
-// At these totals an import of a component may be of nothing more.
-const FULL: RefTotals = RefTotals {
-    modules: 1,
-    funcs: 2,
-    components: 3,
-    instances: 4,
-};
-
-// Where a reference is: in a component with these totals and that many types at most, or in a type.
-#[derive(Clone, Copy)]
-struct Place<'a> {
-    name: &'a str,
-    kinds: &'a [Kind],
-    totals: RefTotals,
-    max_types: usize,
-    is_import: bool,
-    is_in_a_type: bool,
+// Where a reference is: in a component, which may have that many types, or in a type.
+#[derive(Debug, Clone, Copy)]
+enum Place {
+    Import,
+    Export(usize),
+    InnerImport,
+    InnerExport,
 }
 
-const IN_A_COMPONENT: Place<'static> = Place {
-    name: "a component",
-    kinds: ALL_KINDS,
-    totals: FULL,
-    max_types: 7,
-    is_import: true,
-    is_in_a_type: false,
-};
+use Place::{Export, Import, InnerExport, InnerImport};
+use Ref::{Component, Func, Instance, Module, TypeEq};
 
-const IN_A_TYPE: Place<'static> = Place {
-    name: "a type",
-    is_in_a_type: true,
-    ..IN_A_COMPONENT
-};
+// How many modules, functions, components and instances there are.
+type Totals = [usize; 4];
 
-// The limits that the full totals are at.
-fn limits(max_types: usize) -> Config {
-    Config {
+// A place, the totals, an input, the reference that is read from it, and how many bytes are read.
+type Row<'a> = (Place, Totals, &'a [u8], Option<Ref>, usize);
+
+// At these totals an import of a component may be of nothing more.
+const FULL: Totals = [1, 2, 3, 4];
+
+// Among all kinds.
+const ROWS: &[Row<'static>] = &[
+    // No choice among the one kind of which one more may come, and then one among its two entries.
+    (Import, FULL, b"\x01\x07", None, 0),
+    (Import, [0, 2, 3, 4], b"\x01\x07", Some(Module(2)), 1),
+    (Import, [1, 1, 3, 4], b"\x01\x07", Some(Func(4)), 1),
+    (Import, [1, 2, 2, 4], b"\x01\x07", Some(Component(3)), 1),
+    (Import, [1, 2, 3, 3], b"\x01\x07", Some(Instance(5)), 1),
+    // An export of a component may be of a type if one more may stand, and the totals bind nothing. The second item is
+    // then type equal, otherwise function; each has the entry 1 of its kind or of the types.
+    (Export(7), FULL, b"\x01\x01\x07", Some(Func(4)), 2),
+    (Export(8), FULL, b"\x01\x01\x07", Some(TypeEq(1)), 2),
+    // Inside a type the totals bind nothing. An export chooses among module, type equal, function, component and
+    // instance, an import among the same without type equal; then among two of the kind, or among seven types.
+    (InnerExport, FULL, b"\x00\x01\x07", Some(Module(2)), 2),
+    (InnerExport, FULL, b"\x01\x06\x07", Some(TypeEq(6)), 2),
+    (InnerExport, FULL, b"\x02\x01\x07", Some(Func(4)), 2),
+    (InnerExport, FULL, b"\x03\x00\x07", Some(Component(1)), 2),
+    (InnerExport, FULL, b"\x04\x01\x07", Some(Instance(5)), 2),
+    (InnerImport, FULL, b"\x04\x00", Some(Module(0)), 2),
+    (InnerImport, FULL, b"\x01\x00", Some(Func(2)), 2),
+    (InnerImport, FULL, b"\x02\x01", Some(Component(3)), 2),
+    (InnerImport, FULL, b"\x03\x00", Some(Instance(0)), 2),
+];
+
+// Among types of these kinds: no choice among one kind, none among one entry.
+const UNREAD: &[(&[Kind], Place, Option<Ref>)] = &[
+    (ONE_INSTANCE, InnerImport, Some(Instance(1))),
+    (&[Kind::Defined], InnerExport, Some(TypeEq(0))),
+    (&[Kind::Defined], InnerImport, None),
+    (&[Kind::CoreFunc], InnerExport, None),
+    (&[], InnerExport, None),
+    (&[], InnerImport, None),
+];
+
+const ONE_INSTANCE: &[Kind] = &[Kind::Defined, Kind::CoreFunc, Kind::Instance];
+
+// So many bytes of the input are read there, as that reference. The full totals are at the limits.
+fn is_read<R: Abort>(rt: &R, scopes: &Scopes, row: Row<'_>) {
+    let (place, [modules, funcs, components, instances], input, gives, reads) = row;
+    let max_types = match place {
+        Export(most) => most,
+        _ => 7,
+    };
+    let config = Config {
         max_modules: 1,
         max_funcs: 2,
         max_components: 3,
         max_instances: 4,
         max_types,
         ..Config::default()
-    }
-}
-
-// The input is read there as that reference, and leaves that much.
-fn is_read<R: Abort + AllocGlobal>(
-    rt: &R,
-    place: Place<'_>,
-    input: &[u8],
-    gives: Option<Ref>,
-    leaves: &[u8],
-) -> Result<(), Fail> {
-    let name = place.name;
-    let scopes = scopes_of(rt, place.kinds)?;
-    let mut u = Unstructured::new(input);
-    let reference = arbitrary_type_ref(
-        &mut u,
-        &limits(place.max_types),
-        &scopes,
-        place.totals,
-        place.is_import,
-        place.is_in_a_type,
-    );
-    assert_eq!(rt; reference, gives, "{name}: {input:?}");
-    assert_eq!(rt; u.left(), leaves, "{name}: {gives:?}");
-    Ok(())
-}
-
-// Totals of modules, functions, components and instances with one more of one sort to come, and the import of a
-// component then: no choice among that kind alone, and then one among its two entries.
-const TOTALS: &[([usize; 4], Ref)] = &[
-    ([0, 2, 3, 4], Ref::Module(2)),
-    ([1, 1, 3, 4], Ref::Func(4)),
-    ([1, 2, 2, 4], Ref::Component(3)),
-    ([1, 2, 3, 3], Ref::Instance(5)),
-];
-
-#[test]
-fn imports_of_a_component_within_its_totals(rt: HostRuntime) -> Result<(), Fail> {
-    is_read(&rt, IN_A_COMPONENT, b"\x01\x07", None, b"\x01\x07")?;
-    for ([modules, funcs, components, instances], gives) in TOTALS {
-        let totals = RefTotals {
-            modules: *modules,
-            funcs: *funcs,
-            components: *components,
-            instances: *instances,
-        };
-        let place = Place {
-            totals,
-            ..IN_A_COMPONENT
-        };
-        is_read(&rt, place, b"\x01\x07", Some(*gives), b"\x07")?;
-    }
-    Ok(())
-}
-
-// An export of a component may be of a type if the types are fewer than `max_types`, and the totals bind nothing. The
-// second item is then type equal, otherwise function; each has the entry 1 of its kind or of the types.
-#[test]
-fn exports_of_a_component(rt: HostRuntime) -> Result<(), Fail> {
-    let rows = [
-        ("the types are full", 7, Ref::Func(4)),
-        ("one more type may stand", 8, Ref::TypeEq(1)),
-    ];
-    for (name, max_types, gives) in rows {
-        let place = Place {
-            name,
-            max_types,
-            is_import: false,
-            ..IN_A_COMPONENT
-        };
-        is_read(&rt, place, b"\x01\x01\x07", Some(gives), b"\x07")?;
-    }
-    Ok(())
-}
-
-// Inside a type the totals bind nothing. An export chooses among module, type equal, function, component and instance,
-// an import among the same without type equal; then among two of the kind, or among seven types.
-const EXPORTS: &[(&[u8], Ref)] = &[
-    (b"\x00\x01\x07", Ref::Module(2)),
-    (b"\x01\x06\x07", Ref::TypeEq(6)),
-    (b"\x02\x01\x07", Ref::Func(4)),
-    (b"\x03\x00\x07", Ref::Component(1)),
-    (b"\x04\x01\x07", Ref::Instance(5)),
-];
-
-const IMPORTS: &[(&[u8], Ref)] = &[
-    (b"\x04\x00", Ref::Module(0)),
-    (b"\x01\x00", Ref::Func(2)),
-    (b"\x02\x01", Ref::Component(3)),
-    (b"\x03\x00", Ref::Instance(0)),
-];
-
-// No choice among one kind, none among one entry: whether there is an import or an export, among types of which kinds,
-// and of what it is.
-const UNREAD: &[(bool, &[Kind], Option<Ref>)] = &[
-    (true, ONE_INSTANCE, Some(Ref::Instance(1))),
-    (false, &[Kind::Defined], Some(Ref::TypeEq(0))),
-    (true, &[Kind::Defined], None),
-    (false, &[Kind::CoreFunc], None),
-    (false, &[], None),
-    (true, &[], None),
-];
-
-const ONE_INSTANCE: &[Kind] = &[Kind::Defined, Kind::CoreFunc, Kind::Instance];
-
-// Each is read in that place, and that much is left.
-fn are_read<R: Abort + AllocGlobal>(
-    rt: &R,
-    place: Place<'_>,
-    rows: &[(&[u8], Ref)],
-    leaves: &[u8],
-) -> Result<(), Fail> {
-    for (input, gives) in rows {
-        is_read(rt, place, input, Some(*gives), leaves)?;
-    }
-    Ok(())
-}
-
-#[test]
-fn references_inside_types(rt: HostRuntime) -> Result<(), Fail> {
-    let exports = Place {
-        is_import: false,
-        ..IN_A_TYPE
     };
-    are_read(&rt, exports, EXPORTS, b"\x07")?;
-    are_read(&rt, IN_A_TYPE, IMPORTS, b"")?;
-    for (is_import, kinds, gives) in UNREAD {
-        let place = Place {
-            kinds: *kinds,
-            is_import: *is_import,
-            ..IN_A_TYPE
-        };
-        is_read(&rt, place, b"\x01", *gives, b"\x01")?;
+    let totals = RefTotals {
+        modules,
+        funcs,
+        components,
+        instances,
+    };
+    let is_import = matches!(place, Import | InnerImport);
+    let is_in_a_type = matches!(place, InnerImport | InnerExport);
+    let mut u = Unstructured::new(input);
+    let reference = arbitrary_type_ref(&mut u, &config, scopes, totals, is_import, is_in_a_type);
+    assert_eq!(rt; reference, gives, "{place:?}: {input:?}");
+    assert_eq!(rt; Some(u.left()), input.get(reads..), "{place:?}: {gives:?}");
+}
+
+#[test]
+fn references_among_all_kinds(rt: HostRuntime) -> Result<(), Fail> {
+    let scopes = scopes_of(&rt, ALL_KINDS)?;
+    for row in ROWS {
+        is_read(&rt, &scopes, *row);
+    }
+    Ok(())
+}
+
+#[test]
+fn references_that_read_nothing(rt: HostRuntime) -> Result<(), Fail> {
+    for (kinds, place, gives) in UNREAD {
+        let scopes = scopes_of(&rt, *kinds)?;
+        is_read(&rt, &scopes, (*place, FULL, b"\x01", *gives, 0));
     }
     Ok(())
 }

@@ -1,8 +1,7 @@
 //! What the tests share.
 
-use smith_component::{Config, Error};
+use smith_component::Config;
 use std::process::Abort;
-use std::test::Fail;
 
 /// The first eight bytes of each component.
 pub const PREAMBLE: &[u8] = &[0x00, 0x61, 0x73, 0x6d, 0x0d, 0x00, 0x01, 0x00];
@@ -37,12 +36,9 @@ pub fn check_holds<R: Abort>(rt: &R, name: &str, holds: bool) {
     assert!(rt; holds, "{name}");
 }
 
-/// What has this name was refused because memory ran out.
-pub fn check_out_of_memory<R: Abort>(rt: &R, name: &str, error: Error) {
-    assert_eq!(rt; error, Error::OutOfMemory, "{name}");
-}
-
-/// What has this name fails, though there was much memory.
-pub fn is_never_enough<R: Abort>(rt: &R, name: &str) -> Result<(), Fail> {
-    panic!(rt; "{name}: there is never enough memory")
+/// What has this name is the preamble, and these sections.
+pub fn check_component<R: Abort>(rt: &R, name: &str, bytes: &[u8], sections: &[u8]) {
+    assert!(rt; PREAMBLE.len() <= bytes.len(), "{name}");
+    check_bytes(rt, name, &bytes[..PREAMBLE.len()], PREAMBLE);
+    check_bytes(rt, name, &bytes[PREAMBLE.len()..], sections);
 }

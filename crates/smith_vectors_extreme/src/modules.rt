@@ -1,18 +1,11 @@
 //! A core module that is written while memory runs out.
 
 use smith_core::{
-    Code, CompositeType, FuncType, Instructions, MemoryType, ModuleParts, SubType, ValType,
+    Code, CompositeType, FuncType, Instructions, Module, ModuleParts, SubType, ValType,
 };
 use std::alloc::Global;
+use std::process::Abort;
 use std::test::Fail;
-
-/// A memory of one page at least.
-pub const PAGE: MemoryType = MemoryType {
-    minimum: 1,
-    maximum: None,
-    shared: false,
-    memory64: false,
-};
 
 /// A function of nothing, with two variables of i32 and no instructions.
 pub fn one_function(alloc: Global) -> Result<ModuleParts, Fail> {
@@ -36,7 +29,16 @@ pub fn one_function(alloc: Global) -> Result<ModuleParts, Fail> {
     Ok(parts)
 }
 
-/// The bytes of a module of that function alone, after the preamble.
+/// The bytes of a module of that function alone.
 pub const ONE_FUNCTION: &[u8] = &[
-    1, 4, 1, 0x60, 0, 0, 3, 2, 1, 0, 10, 8, 1, 6, 2, 1, 0x7f, 1, 0x7f, 0x0b,
+    0x00, 0x61, 0x73, 0x6d, 1, 0, 0, 0, 1, 4, 1, 0x60, 0, 0, 3, 2, 1, 0, 10, 8, 1, 6, 2, 1, 0x7f,
+    1, 0x7f, 0x0b,
 ];
+
+/// The module of these parts, which agree.
+pub fn module_of<R: Abort + AllocGlobal>(rt: &R, parts: ModuleParts) -> Result<Module, Fail> {
+    let Ok(module) = Module::from_unboxed(rt.alloc(), parts) else {
+        panic!(rt; "the parts disagree");
+    };
+    Ok(module)
+}

@@ -1,7 +1,7 @@
-//! Equal function types of a scope, while memory runs out.
+//! Equal function types of a scope, also while memory runs out.
 
-use crate::common::{check_count, check_holds, check_out_of_memory};
-use crate::scarcity::{LOANS, Scarcity};
+use crate::common::{check_count, check_holds};
+use crate::scarcity::while_memory_runs_out;
 use smith_input::{Error, Unstructured};
 use smith_types::{ComponentValType, DefType, DefinedType, FuncType, PrimitiveValType, Scopes};
 use std::alloc::Global;
@@ -49,14 +49,12 @@ fn check_equals<R: Abort>(
     scopes: &mut Scopes,
     func: &Rc<FuncType>,
     expected: &[Option<u32>],
-) -> Result<(), Fail> {
+) {
     for (byte, expected) in [0, 1, 2, 3].iter().zip(expected) {
         let input = [*byte];
-        let mut u = Unstructured::new(&input);
-        let found = scopes.choose_equal(func, &mut u)?;
-        check_holds(rt, "an equal type", found == *expected);
+        let found = scopes.choose_equal(func, &mut Unstructured::new(&input));
+        check_holds(rt, "an equal type", found == Ok(*expected));
     }
-    Ok(())
 }
 
 fn push<R: Abort>(rt: &R, scopes: &mut Scopes, entry: &Rc<DefType>) -> Result<u32, Error> {
@@ -68,32 +66,50 @@ fn push<R: Abort>(rt: &R, scopes: &mut Scopes, entry: &Rc<DefType>) -> Result<u3
 }
 
 #[test]
+fn equal_function_types_are_found(rt: HostRuntime) -> Result<(), Fail> {
+    let alloc = rt.alloc();
+    let func = Rc::new(alloc, of_char(alloc, "b")?)?;
+    let other = Rc::new(alloc, of_char(alloc, "c")?)?;
+    let mut scopes = two_types(alloc)?;
+    check_places(&rt, &scopes, &func, &[0]);
+    check_equals(&rt, &mut scopes, &func, &[Some(0), Some(0)]);
+    check_equals(&rt, &mut scopes, &other, &[None]);
+    check_places(&rt, &scopes, &other, &[]);
+    let third = shared(alloc, of_char(alloc, "b")?)?;
+    let fourth = shared(alloc, of_char(alloc, "c")?)?;
+    assert_eq!(rt; push(&rt, &mut scopes, &third)?, 2);
+    check_places(&rt, &scopes, &func, &[0, 2]);
+    check_places(&rt, &scopes, &other, &[]);
+    assert_eq!(rt; push(&rt, &mut scopes, &fourth)?, 3);
+    check_places(&rt, &scopes, &other, &[3]);
+    let expected = [Some(0), Some(2), Some(0), Some(2)];
+    check_equals(&rt, &mut scopes, &func, &expected);
+    check_equals(&rt, &mut scopes, &other, &[Some(3), Some(3)]);
+    check_places(&rt, &scopes, &func, &[0, 2]);
+    Ok(())
+}
+
+#[test]
 fn a_push_while_memory_runs_out(rt: HostRuntime) -> Result<(), Fail> {
     let alloc = rt.alloc();
     let func = of_char(alloc, "b")?;
     let mut scopes = Scopes::new(alloc);
     let first = shared(alloc, of_char(alloc, "b")?)?;
-    let mut memory = Scarcity::new(alloc)?;
-    for refused in 0..LOANS {
-        memory.lend();
-        match push(&rt, &mut scopes, &first) {
-            Ok(index) => {
-                check_holds(&rt, "an index", index == 0);
-                check_places(&rt, &scopes, &func, &[0]);
-                check_holds(&rt, "a push", 0 < refused);
-                return Ok(());
-            }
-            Err(error) => {
-                check_out_of_memory(&rt, "a push", error);
-                check_places(&rt, &scopes, &func, &[]);
-                check_count(&rt, "types", scopes.own_len(), 0);
-            }
+    let (index, _) = while_memory_runs_out(&rt, "a push", || {
+        let answer = push(&rt, &mut scopes, &first);
+        if answer.is_err() {
+            check_places(&rt, &scopes, &func, &[]);
+            check_count(&rt, "types", scopes.own_len(), 0);
         }
-    }
-    panic!(rt; "there is never enough memory")
+        answer
+    })?;
+    check_holds(&rt, "an index", index == 0);
+    check_places(&rt, &scopes, &func, &[0]);
+    Ok(())
 }
 
-// No index is in a row twice, however often memory was refused while types were noted.
+// No index is in a row twice, however often memory was refused while types were noted. Once they are, no question needs
+// memory.
 #[test]
 fn equal_function_types_while_memory_runs_out(rt: HostRuntime) -> Result<(), Fail> {
     let alloc = rt.alloc();
@@ -101,18 +117,13 @@ fn equal_function_types_while_memory_runs_out(rt: HostRuntime) -> Result<(), Fai
     let mut scopes = two_types(alloc)?;
     let third = shared(alloc, of_char(alloc, "b")?)?;
     push(&rt, &mut scopes, &third)?;
-    let mut memory = Scarcity::new(alloc)?;
-    for refused in 0..LOANS {
-        memory.lend();
-        let mut u = Unstructured::new(&[1]);
-        match scopes.choose_equal(&func, &mut u) {
-            Ok(_) => {
-                check_holds(&rt, "a question", 0 < refused);
-                let expected = [Some(0), Some(2), Some(0), Some(2)];
-                return check_equals(&rt, &mut scopes, &func, &expected);
-            }
-            Err(error) => check_out_of_memory(&rt, "a question", error),
+    while_memory_runs_out(&rt, "a question", || {
+        let answer = scopes.choose_equal(&func, &mut Unstructured::new(&[1]));
+        if answer.is_ok() {
+            let expected = [Some(0), Some(2), Some(0), Some(2)];
+            check_equals(&rt, &mut scopes, &func, &expected);
         }
-    }
-    panic!(rt; "there is never enough memory")
+        answer
+    })?;
+    Ok(())
 }

@@ -4,23 +4,26 @@
 //! its first allocation fails, then a later one, until there is enough. What the allocator keeps between its own blocks
 //! is lent at each try and can't be taken away.
 
+use smith_input::Error;
 use std::alloc::{AllocError, Global};
+use std::process::Abort;
+use std::test::Fail;
 
-/// How many loans there are: the last is of all but 16 bytes of a block.
-pub const LOANS: usize = 1024;
+// How many loans there are: the last is of all but 16 bytes of a block.
+const LOANS: usize = 1024;
 
-/// What a loan is cut from, in bytes: more than any of the calls takes.
+// What a loan is cut from, in bytes: more than any of the calls takes.
 const BLOCK: usize = 16_384;
 
-/// What a loan has more than the one before, in bytes.
+// What a loan has more than the one before, in bytes.
 const STEP: usize = 16;
 
-/// How many blocks are taken at most.
+// How many blocks are taken at most.
 const MOST: usize = 1_000_000;
 
-/// All memory except what is lent.
+// All memory except what is lent.
 #[derive(Drop)]
-pub struct Scarcity {
+struct Scarcity {
     alloc: Global,
     taken: Vec<Vec<u8>>,
     kept: Vec<Vec<u8>>,
@@ -37,8 +40,8 @@ fn blocks(alloc: Global) -> Result<Vec<Vec<u8>>, AllocError> {
 }
 
 impl Scarcity {
-    /// Takes all memory. The first loan is of nothing.
-    pub fn new(alloc: Global) -> Result<Scarcity, AllocError> {
+    // Takes all memory. The first loan is of nothing.
+    fn new(alloc: Global) -> Result<Scarcity, AllocError> {
         let mut memory = Scarcity {
             alloc,
             kept: blocks(alloc)?,
@@ -74,9 +77,9 @@ impl Scarcity {
         }
     }
 
-    /// Takes back what is free, and lends 16 bytes more than before, including the bytes with which the allocator keeps
-    /// account of a block.
-    pub fn lend(&mut self) {
+    // Takes back what is free, and lends 16 bytes more than before, including the bytes with which the allocator keeps
+    // account of a block.
+    fn lend(&mut self) {
         self.take_small();
         drop(self.kept.pop());
         self.take_one(BLOCK.saturating_sub(self.room));
@@ -89,4 +92,27 @@ impl Scarcity {
             let _ = self.taken.push(block);
         }
     }
+}
+
+/// What the call returns when there is memory for it, and how many tries before were refused with `OutOfMemory`, one at
+/// least. The call has to check what a refusal leaves.
+pub fn while_memory_runs_out<R: Abort + AllocGlobal, T, F: FnMut() -> Result<T, Error>>(
+    rt: &R,
+    name: &str,
+    mut call: F,
+) -> Result<(T, usize), Fail>
+    requires { F.IsAlwaysCallable call }
+{
+    let mut memory = Scarcity::new(rt.alloc())?;
+    for refused in 0..LOANS {
+        memory.lend();
+        match call() {
+            Ok(answer) => {
+                assert!(rt; 0 < refused, "{name}");
+                return Ok((answer, refused));
+            }
+            Err(error) => assert_eq!(rt; error, Error::OutOfMemory, "{name}"),
+        }
+    }
+    panic!(rt; "{name}: there is never enough memory")
 }

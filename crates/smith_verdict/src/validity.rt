@@ -21,8 +21,8 @@ use std::fmt;
 pub enum Validity {
     /// A component that is well formed and meets all demands.
     Valid,
-    /// A well formed component that does not: a demand that it does not meet, and the offset of the entry from which on
-    /// it does not. What precedes that entry meets all demands, and what ends with it does not meet this one. The
+    /// A well formed component that does not: a demand that it does not meet, and the offset of the item from which on
+    /// it does not. What precedes that item meets all demands, and what ends with it does not meet this one. The
     /// offset is always there.
     Invalid {
         demand: Demand,
@@ -65,8 +65,7 @@ fn validity_of(
     match validated(alloc, component)? {
         Judged::Valid => Ok(Validity::Valid),
         Judged::Invalid(shortfall) => {
-            let place = shortfall.place;
-            let offset = offset_of(alloc, bytes, &place.sections, place.entry)?;
+            let offset = offset_of(alloc, bytes, shortfall.item)?;
             Ok(Validity::Invalid {
                 demand: shortfall.demand,
                 offset,

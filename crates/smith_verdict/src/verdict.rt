@@ -20,9 +20,9 @@ use std::fmt;
 pub enum Verdict {
     /// A component that is well formed.
     WellFormed,
-    /// A component that is not: a rule that it breaks, and the offset of the entry that breaks it. What precedes that
-    /// entry is well formed, and what ends with it is not. The offset is always there. Which rule it is, no contract
-    /// says.
+    /// A component that is not: a rule that it breaks, and the offset of the item that breaks it: a custom section, a
+    /// core module, a component in it or an entry of a section that is a list. What precedes that item is well formed,
+    /// and what ends with it is not. The offset is always there. Which rule it is, no contract says.
     IllFormed { rule: Rule, offset: Option<usize> },
     /// No component of the grammar, or one whose scopes are nested more than `MOST_DEPTH` of `smith_read` deep: why,
     /// and the offset at which that was seen, which is at most the length.
@@ -57,8 +57,7 @@ pub(crate) fn check_component(
     match judged(alloc, component)? {
         Judgement::WellFormed => Ok(Verdict::WellFormed),
         Judgement::IllFormed(fault) => {
-            let place = fault.place;
-            let offset = offset_of(alloc, bytes, &place.sections, place.entry)?;
+            let offset = offset_of(alloc, bytes, fault.item)?;
             Ok(Verdict::IllFormed {
                 rule: fault.rule,
                 offset,

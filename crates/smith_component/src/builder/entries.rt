@@ -9,7 +9,7 @@ ghost use Rattle.smith_scopes.specs.Scopes.{own_marked, outer_marked};
 ghost use Rattle.smith_syntax.specs.Marked.{Marked};
 ghost use Rattle.smith_component.specs.BuilderView.{IsSound};
 ghost use Rattle.smith_types.specs.MakingTypes.{CanReadTypes};
-ghost use Rattle.smith_component.specs.EntriesState.{GrowsScope, KeepsAround};
+ghost use Rattle.smith_component.specs.SectionsState.{GrowsScope, KeepsAround};
 ghost use Rattle.smith_component.specs.SectionValues.{ReadsTypeValue, ReadsCoreTypeValue};
 
 use crate::builder::Progress;

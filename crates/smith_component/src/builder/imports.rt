@@ -7,8 +7,7 @@ ghost use Rattle.smith_format.specs.Consistency.{IsConsistent};
 ghost use Rattle.smith_types.specs.Declarations.{NamedExtern};
 ghost use Rattle.smith_scopes.specs.Scopes.{own_marked};
 ghost use Rattle.smith_component.specs.BuilderView.{stack_of, IsSound};
-ghost use Rattle.smith_component.specs.EntriesState.{KeepsAround};
-ghost use Rattle.smith_component.specs.ImportsState.{Imported, ImportsOne, ImportsState};
+ghost use Rattle.smith_component.specs.SectionsState.{Imported, ImportsOne, ImportsState, KeepsAround};
 ghost use Rattle.smith_component.specs.SectionValues.{NoImportValue, ReadsImportValue, externs_of};
 ghost use Rattle.smith_tree.specs.Open.{Open};
 

@@ -35,6 +35,7 @@ impl OpenComponent {
 
     // Adds a section at the end. It is inlined, so that the section is made where it stays.
     #[inline(always)]
+    #[tactic(auto, using(crate::proofs::SectionValues::shown_push))]
     pub(crate) fn push(&mut self, section: Section) -> Result<(), AllocError>
         ensures items { OnOk result (self.new.sections.items ≡ self.old.sections.items ++ section ∷ []) }
         ensures ok { OnOk result (shown_sections self.new.sections.items

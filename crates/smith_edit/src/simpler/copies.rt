@@ -2,23 +2,16 @@
 
 ghost use Rattle.std.specs.Prelude.{◌≡◌, map, IfOk};
 ghost use Rattle.smith_format.specs.Shown.{shown_func};
-ghost use Rattle.smith_syntax.specs.Entries.{CoreEntry, ModuleDecl};
-ghost use Rattle.smith_tree.specs.Tree.{Canon};
-ghost use Rattle.smith_read.specs.Nodes.{shown_core_node, shown_module_node};
-ghost use Rattle.smith_tree.specs.Shown.{shown_canon};
 
+use crate::rows::Row;
 use smith_format::FuncType;
 use smith_read::{CoreNode, Func, ModuleNode};
 use std::alloc::{AllocError, Global};
 
 /// What has no simpler form.
-pub(crate) trait Simplest: Drop {
-    ghost Shown: { Type 0 };
-
-    ghost shown: { Self → Shown };
-
+pub(crate) trait Simplest: Row {
     fn copied(&self, alloc: Global) -> Result<Self, AllocError>
-        ensures { IfOk result (λ x. shown x ≡ shown self.now) };
+        ensures { IfOk result (λ x. Self.shown x ≡ Self.shown self.now) };
 }
 
 fn copy_function(alloc: Global, ty: &FuncType) -> Result<FuncType, AllocError>
@@ -30,10 +23,6 @@ fn copy_function(alloc: Global, ty: &FuncType) -> Result<FuncType, AllocError>
 }
 
 impl Simplest for ModuleNode {
-    ghost Shown = { ModuleDecl };
-
-    ghost shown = { shown_module_node };
-
     fn copied(&self, alloc: Global) -> Result<ModuleNode, AllocError> {
         match self {
             ModuleNode::Func(ty) => Ok(ModuleNode::Func(copy_function(alloc, ty)?)),
@@ -59,10 +48,6 @@ impl Simplest for ModuleNode {
 }
 
 impl Simplest for CoreNode {
-    ghost Shown = { CoreEntry };
-
-    ghost shown = { shown_core_node };
-
     fn copied(&self, alloc: Global) -> Result<CoreNode, AllocError> {
         match self {
             CoreNode::Func(ty) => Ok(CoreNode::Func(copy_function(alloc, ty)?)),
@@ -72,10 +57,6 @@ impl Simplest for CoreNode {
 }
 
 impl Simplest for Func {
-    ghost Shown = { Canon };
-
-    ghost shown = { shown_canon };
-
     fn copied(&self, _alloc: Global) -> Result<Func, AllocError> {
         match self {
             Func::CanonLift {

@@ -1,59 +1,34 @@
 //! What has a name and nothing inside: members of types, imports and exports.
 
-ghost use Rattle.std.specs.Prelude.{◌≡◌, ℕ, List, None, length, map, string_bytes, IfOk, IsSome};
+ghost use Rattle.std.specs.Prelude.{◌≡◌, ℕ, List, None, length, map, refl, string_bytes, IfOk, IsSome};
 ghost use Rattle.std.specs.Option.{option_map};
-ghost use Rattle.smith_syntax.specs.Entries.{Case, Field};
 ghost use Rattle.smith_syntax.specs.Signature.{named};
-ghost use Rattle.smith_edit.specs.Names.{Knows, case_is_renamed, case_is_same, field_is_renamed, field_is_same};
-ghost use Rattle.smith_edit.specs.Names.{label_is_renamed, label_is_same};
+ghost use Rattle.smith_edit.specs.Names.{Knows};
 ghost use Rattle.smith_edit.specs.Search.{past, sought};
-ghost use Rattle.smith_edit.specs.Simpler.{case_renamed, field_renamed, label_renamed, member_renamed, renamed_at};
+ghost use Rattle.smith_edit.specs.Simpler.{label_renamed, member_renamed, pair_renamed, renamed_at};
 
 use crate::names::{Named, Names};
 use crate::simpler::search::Search;
-use smith_syntax::ComponentValType;
 use std::alloc::{AllocError, Global};
 
-impl Named for (String, ComponentValType) {
-    ghost Shown = { Field };
+impl<T: Copy + Drop> Named for (String, T) {
+    ghost Shown = { List ℕ × T };
 
     ghost shown = { named };
 
-    ghost name = { λ f. f.0 };
+    ghost name = { λ p. p.0 };
 
-    ghost rename = { field_renamed };
+    ghost rename = { pair_renamed };
 
-    ghost is_renamed = { field_is_renamed };
+    ghost is_renamed = { λ x text. refl };
 
-    ghost is_same = { field_is_same };
+    ghost is_same = { λ x. refl };
 
     fn label(&self) -> &str {
         self.0.as_str()
     }
 
-    fn renamed(&self, label: String) -> (String, ComponentValType) {
-        (label, self.1)
-    }
-}
-
-impl Named for (String, Option<ComponentValType>) {
-    ghost Shown = { Case };
-
-    ghost shown = { named };
-
-    ghost name = { λ c. c.0 };
-
-    ghost rename = { case_renamed };
-
-    ghost is_renamed = { case_is_renamed };
-
-    ghost is_same = { case_is_same };
-
-    fn label(&self) -> &str {
-        self.0.as_str()
-    }
-
-    fn renamed(&self, label: String) -> (String, Option<ComponentValType>) {
+    fn renamed(&self, label: String) -> (String, T) {
         (label, self.1)
     }
 }
@@ -67,9 +42,9 @@ impl Named for String {
 
     ghost rename = { label_renamed };
 
-    ghost is_renamed = { label_is_renamed };
+    ghost is_renamed = { λ x text. refl };
 
-    ghost is_same = { label_is_same };
+    ghost is_same = { λ x. refl };
 
     fn label(&self) -> &str {
         self.as_str()

@@ -4,11 +4,10 @@ ghost use Rattle.std.specs.Prelude.{◌≡◌, ◌+◌, None, Some, length, map,
 ghost use Rattle.std.specs.Option.{option_map};
 ghost use Rattle.smith_tree.specs.Tree.{exports_of, imports_of, tree_of};
 ghost use Rattle.smith_tree.specs.WellFormed.{export_names, import_names};
-ghost use Rattle.smith_read.specs.Nodes.{shown_core_node};
 ghost use Rattle.smith_read.specs.PartNodes.{shown_import_node, shown_part_node};
-ghost use Rattle.smith_tree.specs.Shown.{shown_canon, shown_export};
+ghost use Rattle.smith_tree.specs.Shown.{shown_export};
 ghost use Rattle.smith_edit.specs.Edits.{export_renamed, import_renamed};
-ghost use Rattle.smith_edit.specs.Items.{core_items, part_items, row_items, tree_items};
+ghost use Rattle.smith_edit.specs.Items.{part_items, row_items, tree_items};
 ghost use Rattle.smith_edit.specs.Search.{past, sought};
 ghost use Rattle.smith_edit.specs.Simpler.{itself_or, part_simplified, renamed_at, sections_of, simpler_part};
 
@@ -19,40 +18,21 @@ use crate::simpler::members::{copy_named, rename_at};
 use crate::simpler::search::Search;
 use crate::simpler::types::simplify_types;
 use smith_core::CORE_PREAMBLE;
-use smith_read::{CoreNode, CustomSection, Export, Func, ImportNode, PartNode};
+use smith_read::{CustomSection, Export, ImportNode, PartNode};
 use std::alloc::{AllocError, Global};
 
-// Core types; none if what is sought is inside one of them, or is one.
-fn copy_core_types(
+// Entries that have no simpler form; none if what is sought is one of them, or inside one.
+fn copy_rows<T: Simplest>(
     alloc: Global,
     search: &mut Search,
-    entries: &[CoreNode],
-) -> Result<Option<Vec<CoreNode>>, AllocError>
-    ensures types { let types = map shown_core_node entries.now in
-        IfOk result (λ r. option_map (λ v. map shown_core_node v.items) r
-        ≡ sought (row_items core_items types) search.old (λ k. None) types) }
+    entries: &[T],
+) -> Result<Option<Vec<T>>, AllocError>
+    ensures entries { let all = map T.shown entries.now in IfOk result (λ r. option_map (λ v. map T.shown v.items) r
+        ≡ sought (row_items T.items all) search.old (λ k. None) all) }
     ensures moved { IfOk result (λ r. IsSome r → search.new
-        ≡ past (row_items core_items (map shown_core_node entries.now)) search.old) }
+        ≡ past (row_items T.items (map T.shown entries.now)) search.old) }
 {
     if search.pass(row_items(entries)?).is_some() {
-        return Ok(None);
-    }
-    Ok(Some(copy_all(alloc, entries)?))
-}
-
-// Canonical functions; none if what is sought is one of them.
-fn copy_canons(
-    alloc: Global,
-    search: &mut Search,
-    entries: &[Func],
-) -> Result<Option<Vec<Func>>, AllocError>
-    ensures canons { let canons = map shown_canon entries.now in
-        IfOk result (λ r. option_map (λ v. map shown_canon v.items) r
-        ≡ sought (length canons) search.old (λ k. None) canons) }
-    ensures moved { IfOk result (λ r. IsSome r → search.new
-        ≡ past (length (map shown_canon entries.now)) search.old) }
-{
-    if search.pass(entries.len()).is_some() {
         return Ok(None);
     }
     Ok(Some(copy_all(alloc, entries)?))
@@ -136,7 +116,7 @@ fn simpler_part(alloc: Global, node: &PartNode) -> Result<Option<PartNode>, Allo
 
 // What is sought inside a section made simpler, in a component with these sections.
 #[cycle(simplifying_parts)]
-#[tactic(auto, using(crate::proofs::PartNodes::part_nodes))]
+#[tactic(auto, using(crate::proofs::PartNodes::part_nodes, crate::proofs::AfterRows::plain_items))]
 fn simplify_inside(
     alloc: Global,
     search: &mut Search,
@@ -158,30 +138,22 @@ fn simplify_inside(
         PartNode::CoreModule(text) => {
             Ok(Some(PartNode::CoreModule(Vec::from_slice(alloc, text)?)))
         }
-        PartNode::CoreTypes(entries) => match copy_core_types(alloc, search, entries)? {
-            Some(entries) => Ok(Some(PartNode::CoreTypes(entries))),
-            None => Ok(None),
-        },
-        PartNode::Component(nodes) => match simplify_parts(alloc, search, nodes)? {
-            Some(nodes) => Ok(Some(PartNode::Component(nodes))),
-            None => Ok(None),
-        },
-        PartNode::Types(entries) => match simplify_types(alloc, search, entries)? {
-            Some(entries) => Ok(Some(PartNode::Types(entries))),
-            None => Ok(None),
-        },
-        PartNode::Canons(entries) => match copy_canons(alloc, search, entries)? {
-            Some(entries) => Ok(Some(PartNode::Canons(entries))),
-            None => Ok(None),
-        },
-        PartNode::Imports(entries) => match simplify_imports(alloc, search, scope, entries)? {
-            Some(entries) => Ok(Some(PartNode::Imports(entries))),
-            None => Ok(None),
-        },
-        PartNode::Exports(entries) => match simplify_exports(alloc, search, scope, entries)? {
-            Some(entries) => Ok(Some(PartNode::Exports(entries))),
-            None => Ok(None),
-        },
+        PartNode::CoreTypes(entries) => Ok(copy_rows(alloc, search, entries)?.map(
+            PartNode::CoreTypes,
+        )),
+        PartNode::Component(nodes) => Ok(simplify_parts(alloc, search, nodes)?.map(
+            PartNode::Component,
+        )),
+        PartNode::Types(entries) => Ok(simplify_types(alloc, search, entries)?.map(
+            PartNode::Types,
+        )),
+        PartNode::Canons(entries) => Ok(copy_rows(alloc, search, entries)?.map(PartNode::Canons)),
+        PartNode::Imports(entries) => Ok(simplify_imports(alloc, search, scope, entries)?.map(
+            PartNode::Imports,
+        )),
+        PartNode::Exports(entries) => Ok(simplify_exports(alloc, search, scope, entries)?.map(
+            PartNode::Exports,
+        )),
     }
 }
 

@@ -42,10 +42,7 @@ fn simpler_type(node: &TypeNode) -> Option<TypeNode>
     ensures { option_map shown_type_node result ≡ simpler_entry (shown_type_node node.now) }
 {
     match node {
-        TypeNode::Defined(ty) => match simpler_value(ty) {
-            Some(ty) => Some(TypeNode::Defined(ty)),
-            None => None,
-        },
+        TypeNode::Defined(ty) => simpler_value(ty).map(TypeNode::Defined),
         TypeNode::Func(_) | TypeNode::Component(_) | TypeNode::Instance(_) => None,
     }
 }
@@ -64,22 +61,14 @@ fn simplify_inside(
         ≡ past (entry_items (shown_type_node node.now)) search.old) }
 {
     match node {
-        TypeNode::Defined(ty) => match simplify_defined(alloc, search, ty)? {
-            Some(ty) => Ok(Some(TypeNode::Defined(ty))),
-            None => Ok(None),
-        },
-        TypeNode::Func(ty) => match simplify_signature(alloc, search, ty)? {
-            Some(ty) => Ok(Some(TypeNode::Func(ty))),
-            None => Ok(None),
-        },
-        TypeNode::Component(nodes) => match simplify_declarations(alloc, search, nodes)? {
-            Some(nodes) => Ok(Some(TypeNode::Component(nodes))),
-            None => Ok(None),
-        },
-        TypeNode::Instance(nodes) => match simplify_declarations(alloc, search, nodes)? {
-            Some(nodes) => Ok(Some(TypeNode::Instance(nodes))),
-            None => Ok(None),
-        },
+        TypeNode::Defined(ty) => Ok(simplify_defined(alloc, search, ty)?.map(TypeNode::Defined)),
+        TypeNode::Func(ty) => Ok(simplify_signature(alloc, search, ty)?.map(TypeNode::Func)),
+        TypeNode::Component(nodes) => Ok(simplify_declarations(alloc, search, nodes)?.map(
+            TypeNode::Component,
+        )),
+        TypeNode::Instance(nodes) => Ok(simplify_declarations(alloc, search, nodes)?.map(
+            TypeNode::Instance,
+        )),
     }
 }
 
@@ -163,23 +152,16 @@ fn simpler_declaration(
         ≡ simpler_decl (names (decl_imports decls)) (names (decl_exports decls)) (shown_decl_node node.now)) }
 {
     match node {
-        DeclNode::Type(ty) => match simpler_type(ty) {
-            Some(ty) => Ok(Some(DeclNode::Type(ty))),
-            None => Ok(None),
-        },
+        DeclNode::Type(ty) => Ok(simpler_type(ty).map(DeclNode::Type)),
         DeclNode::Import { name, to } => {
             let known = take_declared_names(alloc, scope)?.imports;
-            match known.shorter_name(alloc, name.as_str())? {
-                Some(name) => Ok(Some(DeclNode::Import { name, to: *to })),
-                None => Ok(None),
-            }
+            let name = known.shorter_name(alloc, name.as_str())?;
+            Ok(name.map(|name| DeclNode::Import { name, to: *to }))
         }
         DeclNode::Export { name, to } => {
             let known = take_declared_names(alloc, scope)?.exports;
-            match known.shorter_name(alloc, name.as_str())? {
-                Some(name) => Ok(Some(DeclNode::Export { name, to: *to })),
-                None => Ok(None),
-            }
+            let name = known.shorter_name(alloc, name.as_str())?;
+            Ok(name.map(|name| DeclNode::Export { name, to: *to }))
         }
         DeclNode::Core(_) | DeclNode::TypeAlias { .. } | DeclNode::CoreTypeAlias { .. } => Ok(None),
     }
@@ -200,14 +182,8 @@ fn simplify_inside_declaration(
         ≡ past (decl_items (shown_decl_node node.now)) search.old) }
 {
     match node {
-        DeclNode::Core(ty) => match copy_core_type(alloc, search, ty)? {
-            Some(ty) => Ok(Some(DeclNode::Core(ty))),
-            None => Ok(None),
-        },
-        DeclNode::Type(ty) => match simplify_inside(alloc, search, ty)? {
-            Some(ty) => Ok(Some(DeclNode::Type(ty))),
-            None => Ok(None),
-        },
+        DeclNode::Core(ty) => Ok(copy_core_type(alloc, search, ty)?.map(DeclNode::Core)),
+        DeclNode::Type(ty) => Ok(simplify_inside(alloc, search, ty)?.map(DeclNode::Type)),
         DeclNode::TypeAlias { count, index } => Ok(Some(DeclNode::TypeAlias {
             count: *count,
             index: *index,

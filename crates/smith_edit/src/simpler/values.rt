@@ -50,15 +50,15 @@ pub(crate) fn simplify_defined(
 {
     match ty {
         DefinedType::Primitive(ty) => Ok(Some(DefinedType::Primitive(*ty))),
-        DefinedType::Record(ty) => Ok(record_of(simplify_members(alloc, search, &ty.fields)?)),
-        DefinedType::Variant(ty) => Ok(variant_of(simplify_members(alloc, search, &ty.cases)?)),
+        DefinedType::Record(ty) => Ok(simplify_members(alloc, search, &ty.fields)?.map(record_of)),
+        DefinedType::Variant(ty) => Ok(simplify_members(alloc, search, &ty.cases)?.map(variant_of)),
         DefinedType::List(ty) => {
             let elem_ty = ty.elem_ty;
             Ok(Some(DefinedType::List(ListType { elem_ty })))
         }
-        DefinedType::Tuple(ty) => Ok(tuple_of(copy_unnamed(alloc, search, &ty.fields)?)),
-        DefinedType::Flags(ty) => Ok(flags_of(simplify_members(alloc, search, &ty.fields)?)),
-        DefinedType::Enum(ty) => Ok(enum_of(simplify_members(alloc, search, &ty.variants)?)),
+        DefinedType::Tuple(ty) => Ok(copy_unnamed(alloc, search, &ty.fields)?.map(tuple_of)),
+        DefinedType::Flags(ty) => Ok(simplify_members(alloc, search, &ty.fields)?.map(flags_of)),
+        DefinedType::Enum(ty) => Ok(simplify_members(alloc, search, &ty.variants)?.map(enum_of)),
         DefinedType::Option(ty) => {
             let inner_ty = ty.inner_ty;
             Ok(Some(DefinedType::Option(OptionType { inner_ty })))

@@ -27,7 +27,7 @@ impl Scopes {
 
     // The scope of that count (0 is the last).
     #[inline(always)]
-    fn scope(&self, count: u32) -> &Scope<Rc<DefType>, Rc<CoreType>>
+    pub(crate) fn scope(&self, count: usize) -> &Scope<Rc<DefType>, Rc<CoreType>>
         requires { count < length self.now }
         ensures scope { result.now ≡ scope_at self.now count }
         ensures few { length result.now.types ≤ max_u32 }
@@ -56,7 +56,7 @@ impl Scopes {
         ensures lists { result ≡ length (lists_at self.now count).types }
         ensures few { result ≤ max_u32 }
     {
-        self.scope(count).types_len()
+        self.scope(count as usize).types_len()
     }
 
     /// How many core types the scope of that count has (0 is the last).
@@ -66,7 +66,7 @@ impl Scopes {
         ensures lists { result ≡ length (lists_at self.now count).core_types }
         ensures few { result ≤ max_u32 }
     {
-        self.scope(count).core_types_len()
+        self.scope(count as usize).core_types_len()
     }
 
     /// The type with the index `i` in the scope of that count (0 is the last).
@@ -76,7 +76,7 @@ impl Scopes {
         ensures value { slice_get (scope_at self.now count).types i ≡ Some result.now.value }
         ensures lists { slice_get (lists_at self.now count).types i ≡ Some result.now.value }
     {
-        &self.scope(count).types()[i as usize]
+        &self.scope(count as usize).types()[i as usize]
     }
 
     /// The core type with the index `i` in the scope of that count (0 is the last).
@@ -86,7 +86,7 @@ impl Scopes {
         ensures value { slice_get (scope_at self.now count).core_types i ≡ Some result.now.value }
         ensures lists { slice_get (lists_at self.now count).core_types i ≡ Some result.now.value }
     {
-        &self.scope(count).core_types()[i as usize]
+        &self.scope(count as usize).core_types()[i as usize]
     }
 
     /// How many types the last scope has.
@@ -148,7 +148,7 @@ impl Scopes {
         ensures known { (scope_at self.now count).keeps ≡ true → i < length (scope_at self.now count).types
             → slice_get (scope_at self.now count).marks i ≡ Some result }
     {
-        self.scope(count).mark_at(i)
+        self.scope(count as usize).mark_at(i)
     }
 
     /// The size of the core type with the index `i` in the scope of that count (0 is the last): 0 if none is kept.
@@ -158,7 +158,7 @@ impl Scopes {
         ensures known { (scope_at self.now count).keeps ≡ true → i < length (scope_at self.now count).core_types
             → slice_get (scope_at self.now count).core_sizes i ≡ Some result }
     {
-        self.scope(count).core_size_at(i)
+        self.scope(count as usize).core_size_at(i)
     }
 
     /// How many types of the last scope may be used for it: all that can be, if no marks are kept.

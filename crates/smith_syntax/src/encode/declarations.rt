@@ -41,6 +41,7 @@ fn put_outer(out: &mut Vec<u8>, head: &[u8], count: u32, i: u32) -> Result<(), E
     write_u32(out, i)
 }
 
+#[tactic(auto, using(crate::proofs::Declarations::type_alias_is))]
 fn put_alias(out: &mut Vec<u8>, alias: &Alias) -> Result<(), Error>
     ensures { (importing : Bool) → Puts result out.old out.new (decl importing (shown_alias alias.now)) }
 {

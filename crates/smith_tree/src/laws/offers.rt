@@ -34,12 +34,14 @@ ghost use Rattle.std.specs.Prelude.{◌≡◌, ◌≤◌, Bool, List, false, tru
 
 /// If components must validate, every component that can be generated does: each type, import and export of it was
 /// offered.
+#[tactic(auto, using(crate::proofs::Components::valid_tree))]
 pub fn offered_components_validate()
     ensures { (config : Config) (tree : Tree) → config.must_validate ≡ true
         → IsConsistent config → CanBeGenerated config tree → Validates tree }
 {}
 
 /// A core type within the limits is valid if those before it are within them, and every module type is small.
+#[tactic(auto, using(crate::proofs::OfferedCores::small_core, crate::proofs::OfferedCores::valid_core))]
 pub fn core_types_are_offered()
     ensures valid { (config : Config) (around : List CoreEntry) (e : CoreEntry)
         → AllByRecursion (CoreLimits config) around
@@ -85,6 +87,7 @@ pub fn instances_that_name_their_own_are_offered()
 {}
 
 /// If components need not validate, everything is offered.
+#[tactic(auto, using(crate::proofs::Everything::everything_offered))]
 pub fn everything_is_offered()
     ensures { (config : Config) (tree : Tree) → config.must_validate ≡ false → IsOffered config tree }
 {}
@@ -99,6 +102,7 @@ pub fn nothing_is_kept()
 {}
 
 /// Whatever is kept, a scope has the same types and core types as without it.
+#[tactic(auto, using(crate::proofs::Marking::scope_marked, crate::proofs::Unmarked::scope_after))]
 pub fn scopes_are_kept_whole()
     ensures components { (config : Config) (outer : List Tree) (inner : Tree)
         → scope_in (marked_inner config outer inner) ≡ scope_of inner }
@@ -122,6 +126,7 @@ pub fn all_of_a_kind_are_offered()
 {}
 
 /// If no number of sections is asked of finished components, any component may be finished.
+#[tactic(auto, using(crate::proofs::Everything::components_finishable, crate::proofs::Everything::finish_offered))]
 pub fn any_component_may_be_finished()
     ensures finishable { (config : Config) (tree : Tree) → config.finish_after ≡ 0 → AreFinishable config tree }
     ensures offered { (config : Config) (tree : Tree) → config.finish_after ≡ 0

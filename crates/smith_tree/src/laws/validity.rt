@@ -16,11 +16,13 @@ ghost use Rattle.smith_tree.specs.Demands.{Demands};
 ghost use Rattle.smith_tree.specs.Validates.{ValidTree, Validates};
 
 /// What validates meets the demands that are asked, whichever they are.
+#[tactic(auto, using(crate::proofs::Weaker::weaker_tree))]
 pub fn any_demands_are_met()
     ensures { (demands : Demands) (tree : Tree) → Validates tree → ValidTree demands tree }
 {}
 
 /// A core module of a memory section alone has few memories exactly if it counts at most 100.
+#[tactic(auto, using(crate::proofs::CoreModules::memories_counted))]
 pub fn memories_of_core_modules_are_counted()
     ensures { (count : ℕ) (memories text : List ℕ)
         → bytes core_preamble ⊕ sized 5 (u count ⊕ bytes memories) ≡ Some text

@@ -1,13 +1,13 @@
 //! Declarations of component types and instance types, from the input, except for the types in them.
 
-ghost use Rattle.std.specs.Prelude.{◌≡◌, ◌<◌, ◌≤◌, List, [], ◌∷◌, ◌++◌, true, length, nat_lt};
+ghost use Rattle.std.specs.Prelude.{◌≡◌, ◌<◌, ◌≤◌, List, ◌∷◌, ◌++◌, true, length};
 ghost use Rattle.std.specs.Prelude.{IfOk, OnOk, IfErr};
 ghost use Rattle.smith_input.specs.Choices.{ReadsAmong};
 ghost use Rattle.smith_input.specs.Consumes.{Consumes};
 ghost use Rattle.smith_syntax.specs.ShownDecls.{full_alias, full_instance_decl};
 ghost use Rattle.smith_syntax.specs.WellFormed.{FormedRef};
 ghost use Rattle.smith_types.specs.Declarations.{NamedExtern, ReadsAlias, ReadsExportDecl};
-ghost use Rattle.smith_tree.specs.TypeOffers.{declaration_items, has_export, has_reference, occupied};
+ghost use Rattle.smith_tree.specs.TypeOffers.{declaration_items, has_export, occupied};
 ghost use Rattle.smith_types.specs.MakingTypes.{DeclaresInLast, ExportsOnly, HasAtMost, HasRoom, HasTarget};
 ghost use Rattle.smith_types.specs.MakingTypes.{HoldsExterns, IsNameless, MadeCoreTypeDecl, MaybeImport, SameOuter};
 ghost use Rattle.smith_types.specs.MakingTypes.{IsAliased, imported_by, shown_import_decl};
@@ -20,9 +20,9 @@ use super::references::arbitrary_type_ref;
 use smith_core_types::arbitrary_core_type;
 use smith_format::Config;
 use smith_input::{Error, Unstructured, choose_offered};
-use smith_scopes::{Kind, Scopes};
+use smith_scopes::{Scopes, occupied, offered_declarations};
 use smith_syntax::{Alias, ComponentTypeRef, Import, InstanceTypeDecl, OuterAliasKind};
-use smith_tree::{DeclarationItem, RefKind, RefTotals, declaration_offers};
+use smith_tree::{DeclarationItem, RefTotals};
 use std::alloc::Global;
 
 // Nothing is counted within types.
@@ -33,41 +33,6 @@ const UNCOUNTED: RefTotals = RefTotals {
     instances: 0,
 };
 
-// The counts of the scopes that have an entry, innermost first.
-fn occupied_scopes(alloc: Global, scopes: &Scopes) -> Result<Vec<u32>, Error>
-    requires { length scopes.now ≤ 1002 }
-    ensures counts { IfOk result (λ v. v.items ≡ occupied (inward_marked scopes.now)) }
-    ensures memory { IfErr result (λ e. e ≡ Error.OutOfMemory) }
-{
-    let mut counts = Vec::with_capacity(alloc, scopes.depth())?;
-    for count in 0..scopes.depth() as u32 {
-        if scopes.len(count) + scopes.len_core(count) > 0 {
-            counts.push(count)?;
-        }
-    }
-    Ok(counts)
-}
-
-// Does one of the scopes have an entry?
-fn has_entry(scopes: &Scopes) -> bool
-    requires { length scopes.now ≤ 1002 }
-    ensures { result ≡ nat_lt 0 (length (occupied (own_marked scopes.now ∷ outer_marked scopes.now))) }
-{
-    for count in 0..scopes.depth() as u32 {
-        if scopes.len(count) + scopes.len_core(count) > 0 {
-            return true;
-        }
-    }
-    false
-}
-
-// May one more scope nest?
-fn may_nest(config: &Config, scopes: &Scopes) -> bool
-    ensures { result ≡ nat_lt (length (own_marked scopes.now ∷ outer_marked scopes.now)) config.now.max_nesting_depth }
-{
-    scopes.depth() < config.max_nesting_depth
-}
-
 // What sort of declaration is read.
 #[inline(always)]
 pub(super) fn declaration_item(
@@ -75,15 +40,11 @@ pub(super) fn declaration_item(
     config: &Config,
     scopes: &Scopes,
 ) -> DeclarationItem
-    requires { length scopes.now ≤ 1002 }
     ensures reads { ReadsAmong (declaration_items config.now (outer_marked scopes.now) (own_marked scopes.now))
         u.old result u.new }
     ensures possible { HasTarget config.now (own_marked scopes.now) (outer_marked scopes.now) result }
 {
-    let with_export = scopes.last().has_export();
-    let with_alias = has_entry(scopes);
-    let with_type = may_nest(config, scopes);
-    let offers = declaration_offers(with_export, with_alias, with_type);
+    let offers = offered_declarations(scopes, config);
     choose_offered(u, &offers).unwrap_or(DeclarationItem::CoreType)
 }
 
@@ -155,14 +116,15 @@ pub(super) fn export(
 }
 
 // An outer alias of an entry of one of these scopes.
-fn alias_choice(u: &mut Unstructured, scopes: &Scopes, counts: &[u32]) -> Result<Alias, Error>
+fn alias_choice(u: &mut Unstructured, scopes: &Scopes, counts: &[usize]) -> Result<Alias, Error>
+    requires few { length scopes.now ≤ 1002 }
     requires places { counts.now ≡ occupied (inward_marked scopes.now) }
     requires some { 0 < length counts.now }
     ensures reads { IfOk result (λ a. ReadsAlias (inward_marked scopes.now) u.old (full_alias a) u.new) }
     ensures scope { IfOk result (λ a. a.count < length scopes.now) }
     ensures input { Consumes result u.old u.new }
 {
-    let count = *u.choose(counts);
+    let count = *u.choose(counts) as u32;
     let types = scopes.len(count);
     let place = u.choose_index(types + scopes.len_core(count));
     if place < types {
@@ -199,6 +161,7 @@ fn add_aliased(scopes: &mut Scopes, alias: &Alias) -> Result<(), Error>
 }
 
 // An outer alias, which keeps what it names.
+#[tactic(auto, using(crate::proofs::ReadsDeclarations::alias_kept))]
 pub(super) fn outer_alias(
     alloc: Global,
     u: &mut Unstructured,
@@ -211,7 +174,7 @@ pub(super) fn outer_alias(
     ensures scopes { DeclaresInLast result full_instance_decl scopes.old scopes.new }
     ensures input { Consumes result u.old u.new }
 {
-    let counts = occupied_scopes(alloc, scopes)?;
+    let counts = occupied(alloc, scopes)?;
     let alias = alias_choice(u, scopes, &counts)?;
     add_aliased(scopes, &alias)?;
     Ok(InstanceTypeDecl::Alias(alias))

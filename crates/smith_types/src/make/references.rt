@@ -35,6 +35,7 @@ fn offer_of(kind: RefKind, for_import: bool) -> Option<Offer>
 }
 
 // How many entries of a kind may be imported or exported.
+#[tactic(auto, using(smith_scopes::proofs::Stack::own_scope_is, crate::proofs::References::places_of_modules))]
 fn place_count(scopes: &Scopes, kind: RefKind, for_import: bool) -> usize
     ensures count { result ≡ length (ref_places (own_marked scopes.now) for_import kind) }
     ensures few { result ≤ max_u32 }

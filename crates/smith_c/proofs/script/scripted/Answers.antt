@@ -1,4 +1,4 @@
-use Rattle.std.proofs.Common.{◌≡◌, ◌∙◌, sym, ap, subst}
+use Rattle.std.proofs.Common.{arith, ◌≡◌, ◌∙◌, sym, ap, subst}
 use Rattle.smith_format.specs.declared.config.Config.{Config}
 use Rattle.smith_format.specs.Consistency.{IsConsistent}
 use Rattle.smith_tree.specs.Script.{Within}
@@ -20,3 +20,9 @@ returns-in-Err-clause-plans c config plan told consistent within spells =
     let same : config ≡ own = limits_once config own (sym told ∙ c.in-Some.ensures.told) in
     let memory = c.in-Err.ensures.plans plan spells (subst IsConsistent same consistent) (subst (λ k. Within k plan) same within) in
     c.refusal_of.ensures.status ∙ ap status_of memory
+
+pub returns-in-Ok-clause-limits : goal.returns-in-Ok-clause-limits
+returns-in-Ok-clause-limits c config told bad =
+    let same : config ≡ c.in-Some.config = limits_once config c.in-Some.config (sym told ∙ c.in-Some.ensures.told) in
+    let fits : ¬ IsConsistent c.in-Some.config = subst (λ k. ¬ IsConsistent k) same bad in
+    grind (arith, fits)

@@ -1,6 +1,4 @@
-use Rattle.std.proofs.Common.{sym}
 use Rattle.smith_format.proofs.Framing.{contents_exit, section_exit}
-use Rattle.smith_format.proofs.Steps.{gains_then}
 use Rattle.smith_component.proofs.encode.put_listed.Goals as goal
 
 pub returns-in_err-start : goal.returns-in_err-start
@@ -13,8 +11,3 @@ returns-in_err-put_many g c =
     let failed = c.in_err-put_many.ensures {u = tt} in
     contents_exit c.from_residual-in_err-put_many.result _ c.args.out.now c.begin_section.new.out c.put_many.new.out c.args.id _
     c.from_residual-in_err-put_many.ensures.1 (c.in_ok-start.ensures {u = tt}).begins failed.0 failed.1
-
-pub returns : goal.returns
-returns g c =
-    let begun = c.in_ok-start.ensures {u = tt} in
-    c.end_section.ensures c.args.out.now c.args.id _ (sym begun.place) (gains_then begun.begins (c.in_ok-put_many.ensures {u = tt}))

@@ -1,5 +1,4 @@
-use Rattle.std.proofs.Common.{sym, ap, arith, ◌∷◌, []}
-use Rattle.smith_format.specs.Writing.{piece_length}
+use Rattle.std.proofs.Common.{arith, ◌∷◌, []}
 use Rattle.smith_format.proofs.Framing.{contents_exit, section_exit}
 use Rattle.smith_format.proofs.Piece.{joined}
 use Rattle.smith_format.proofs.Steps.{gains_then, keeps_begins}
@@ -17,11 +16,7 @@ returns-in_err-write c =
     c.from_residual-in_err-write.ensures.1 (c.in_ok-start.ensures {u = tt}).begins (keeps_begins failed.0) failed.1
 
 pub end_section-requires : goal.end_section-requires
-end_section-requires c =
-    let begun = c.in_ok-start.ensures {u = tt} in
-    omega (arith, begun.place, begun.begins.length, (c.in_ok-write.ensures {u = tt}).length, ap piece_length (joined (1 ∷ []) (0 ∷ [])))
+end_section-requires c = grind (arith, joined)
 
 pub returns : goal.returns
-returns c =
-    let begun = c.in_ok-start.ensures {u = tt} in
-    c.end_section.ensures c.args.out.now 1 _ (sym begun.place) (gains_then begun.begins (c.in_ok-write.ensures {u = tt}))
+returns c = grind (arith, gains_then)

@@ -1,4 +1,4 @@
-use Rattle.std.proofs.Common.{◌≡◌, sym}
+use Rattle.std.proofs.Common.{arith, ◌≡◌}
 use Rattle.smith_input.specs.declared.error.Error.{Error}
 use Rattle.smith_input.specs.declared.error.Error.TheVariants.{OutOfMemory}
 use Rattle.smith_component.proofs.Finishing.{refused}
@@ -7,28 +7,10 @@ use Rattle.smith_component.proofs.Plans.{plan_lacks_none, plan_refuses_no_module
 use Rattle.smith_component.proofs.generation.generate.Goals as goal
 
 pub returns-clause-generated : goal.returns-clause-generated
-returns-clause-generated c =
-    let image = c.in_ok-component.ensures.made.image in
-    record { reading = c.in_ok-bytes.ensures.reading; formed = image.formed; limits = image.limits; sizes = image.sized }
-
-pub returns-clause-made : goal.returns-clause-made
-returns-clause-made c = c.in_ok-component.ensures.made
-
-pub returns-clause-validates : goal.returns-clause-validates
-returns-clause-validates c valid = c.in_ok-component.ensures.validates valid
-
-pub returns-clause-input : goal.returns-clause-input
-returns-clause-input c = record {
-  accepts = c.in_ok-component.ensures.input.accepts;
-  refuses = tt;
-  unread = c.new.ensures.input.unread;
-  tail = c.new.ensures.input.tail;
-}
+returns-clause-generated c = grind arith
 
 pub returns-clause-reach : goal.returns-clause-reach
-returns-clause-reach c plan rest w e =
-    let r = c.in_ok-component.ensures.reach plan rest w e in
-    (r.0, (c.in_ok-bytes.ensures.reading plan).1 (sym r.0), r.1)
+returns-clause-reach c plan rest w e = grind arith
 
 pub returns-in_err-component-clause-answers : goal.returns-in_err-component-clause-answers
 returns-in_err-component-clause-answers c plan rest consistent w e =

@@ -1,4 +1,4 @@
-use Rattle.smith_component.proofs.Exact.{exact}
+use Rattle.smith_component.proofs.Plans.{exact}
 use Rattle.smith_component.proofs.laws.components_are_exact.Goals as goal
 
 pub returns : goal.returns

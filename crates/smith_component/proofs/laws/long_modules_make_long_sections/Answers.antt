@@ -1,4 +1,4 @@
-use Rattle.smith_component.proofs.TooLong.{embedded_none}
+use Rattle.smith_component.proofs.Grammar.{embedded_none}
 use Rattle.smith_component.proofs.laws.long_modules_make_long_sections.Goals as goal
 
 pub returns : goal.returns

@@ -1,6 +1,6 @@
 use Rattle.smith_component.proofs.Planned.{part_stands}
 use Rattle.smith_component.proofs.Script.{part_turn}
-use Rattle.smith_component.proofs.WellFormed.{formed_front}
+use Rattle.smith_component.proofs.Tree.{formed_front}
 use Rattle.smith_tree.specs.Open.{scopes_in}
 use Rattle.smith_tree.specs.Tree.{ends}
 use Rattle.smith_component.proofs.laws.scripted_parts_are_added.Goals as goal

@@ -84,6 +84,7 @@ fn put_sub_prefix(out: &mut Vec<u8>, is_final: bool, supertype: Option<u32>) -> 
     }
 }
 
+#[tactic(auto, using(crate::proofs::SubTypes::takes_supertype, crate::proofs::SubTypes::takes_open))]
 fn sub_prefix_len(is_final: bool, supertype: Option<u32>) -> u32
     ensures length { Takes result (sub_prefix is_final supertype) }
     ensures most { result ≤ 7 }
@@ -129,6 +130,7 @@ fn rec_type_len(types: &[SubType]) -> Option<u32>
 }
 
 // The recursion groups of these types.
+#[tactic(auto, using(crate::proofs::Tiles::tiles_within, smith_format::proofs::Steps::writing))]
 pub(in crate::module) fn put_groups(
     out: &mut Vec<u8>,
     types: &[SubType],
@@ -144,6 +146,7 @@ pub(in crate::module) fn put_groups(
     Ok(())
 }
 
+#[tactic(auto, using(crate::proofs::Tiles::tiles_within, smith_format::proofs::Sizes::measuring))]
 pub(in crate::module) fn groups_len(types: &[SubType], groups: &[(usize, usize)]) -> Option<u32>
     requires { Tiles groups.now 0 (length types.now) }
     ensures { IsLengthOf result (many (λ g. rec_type (slice_range types.now g.0 g.1)) groups.now) }

@@ -8,9 +8,8 @@ use Rattle.smith_syntax.specs.Places.{own_of}
 use Rattle.smith_scopes.specs.Scopes.{inward}
 use Rattle.smith_syntax.specs.Shown.{shown_decl}
 use Rattle.smith_syntax.specs.declared.core_types.ModuleTypeDef.TheVariants as decl
-use Rattle.smith_core_types.proofs.KeptAliases.{keep_more}
+use Rattle.smith_core_types.proofs.MakingCore.{keep_more, alias_adds, same_state}
 use Rattle.smith_scopes.proofs.Plain.{pushed}
-use Rattle.smith_core_types.proofs.MakingCore.{alias_adds, same_state}
 use Rattle.smith_core_types.proofs.aliases.add_alias.Goals as goal
 
 pub returns-clause-adds : goal.returns-clause-adds
@@ -19,7 +18,7 @@ returns-clause-adds c config fuel =
     let old = c.args.declared.now in
     let N : List _ → Type 0 = λ own. aliased (own_of (inward c.args.scopes.now)).core_types (shown_funcs own) a.count a.i ≡ Some (shown_func a.ty.value) in
     let R : List _ → Type 0 = λ own. ReadsAmong (choices_among (own_of (inward c.args.scopes.now)) (shown_funcs own)) c.args.u.now (a.count, a.i)
-    c.alias_choice.new.u in
+    c.read_alias.new.u in
     let kept = c.deref.ensures.value in
     let one = alias_adds (own_of (inward c.args.scopes.now)).core_types (shown_funcs old.own.items) a.count a.i (shown_func a.ty.value)
     (subst N kept a.ensures.named) in

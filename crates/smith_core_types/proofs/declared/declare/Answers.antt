@@ -2,7 +2,7 @@ use Rattle.std.proofs.Common.{◌++◌, [], ◌∷◌, ap, ◌∙◌}
 use Rattle.smith_format.specs.Shown.{shown_func}
 use Rattle.smith_core_types.specs.MakingCore.{shown_funcs}
 use Rattle.smith_syntax.specs.declared.core_types.ModuleTypeDef.TheVariants as decl
-use Rattle.smith_core_types.proofs.KeptAliases.{keep_more}
+use Rattle.smith_core_types.proofs.MakingCore.{keep_more}
 use Rattle.smith_scopes.proofs.Plain.{pushed}
 use Rattle.smith_core_types.proofs.declared.declare.Goals as goal
 

@@ -6,10 +6,9 @@ use Rattle.smith_format.specs.declared.types.EntityType.TheVariants.{Func}
 use Rattle.smith_syntax.specs.Entries.{declares, exports}
 use Rattle.smith_core_types.specs.MakingCore.{shown_funcs}
 use Rattle.smith_syntax.specs.Shown.{shown_decl}
-use Rattle.smith_core_types.proofs.KeptAliases.{keep_more}
+use Rattle.smith_core_types.proofs.MakingCore.{keep_more, ratio_false, ratio_true, same_state}
 use Rattle.smith_scopes.proofs.Plain.{pushed}
 use Rattle.smith_core_types.specs.MadeCore.{not_allowed, declined, taken}
-use Rattle.smith_core_types.proofs.MakingCore.{ratio_false, ratio_true, same_state}
 use Rattle.smith_core_types.proofs.front.function_line.Goals as goal
 
 pub returns-then-not-allows_line-clause-reads : goal.returns-then-not-allows_line-clause-reads

@@ -3,9 +3,8 @@ use Rattle.std.proofs.lemmas.Bool.Decides.{nat_tests}
 use Rattle.smith_core_types.specs.MakingCore.{shown_funcs}
 use Rattle.smith_core_types.specs.MadeCore.{not_allowed, declined, taken}
 use Rattle.smith_syntax.specs.Shown.{shown_decl}
-use Rattle.smith_core_types.proofs.KeptAliases.{keep_more}
+use Rattle.smith_core_types.proofs.MakingCore.{keep_more, ratio_false, ratio_true, same_state}
 use Rattle.smith_scopes.proofs.Plain.{pushed}
-use Rattle.smith_core_types.proofs.MakingCore.{ratio_false, ratio_true, same_state}
 use Rattle.smith_core_types.proofs.front.memory_line.Goals as goal
 
 pub returns-then-making-eq0-clause-reads : goal.returns-then-making-eq0-clause-reads

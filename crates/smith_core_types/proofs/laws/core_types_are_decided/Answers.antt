@@ -1,4 +1,4 @@
-use Rattle.smith_core_types.proofs.MadeCore.{made_core_same}
+use Rattle.smith_core_types.proofs.MadeCoreSame.{made_core_same}
 use Rattle.smith_core_types.proofs.laws.core_types_are_decided.Goals as goal
 
 pub returns : goal.returns

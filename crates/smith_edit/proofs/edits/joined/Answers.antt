@@ -3,28 +3,10 @@ use Rattle.smith_read.specs.PartNodes.{shown_part_node}
 use Rattle.smith_tree.specs.Spaces.{spaces_of}
 use Rattle.smith_tree.specs.Tree.{Part, Tree, exports_in, exports_of, imports_in, imports_of, parts_of, tree_of}
 use Rattle.smith_tree.specs.WellFormed.{export_names, import_names}
-use Rattle.smith_edit.specs.Edited.{tree_edited}
-use Rattle.smith_edit.specs.Edits.{following, moved, renamed}
+use Rattle.smith_edit.specs.Edits.{moved, renamed}
 use Rattle.smith_edit.specs.Walk.{Walk, shown_walk}
-use Rattle.smith_edit.specs.declared.removal.Removal.TheVariants.{Nothing}
-use Rattle.smith_edit.specs.declared.scope.Scope.{Scope}
 use Rattle.smith_edit.proofs.Joining.{joined_end, joined_step, parts_same, unremoved_after}
 use Rattle.smith_edit.proofs.edits.joined.Goals as goal
-
-pub loop-node-init : goal.loop-node-init
-loop-node-init c =
-    let left : Tree = tree_of (map shown_part_node c.args.left.parts.items) in
-    let right : Tree = tree_of (map shown_part_node c.deref-node-items.result.now) in
-    let own : c.in_ok-own.own ≡ following (spaces_of left) = c.in_ok-own.ensures (spaces_of left) (rw c.deref.ensures.value at c.in_ok-count_entries.ensures) in
-    let walk : shown_walk c.new-walk.result ≡ record { removal = Nothing; own = following (spaces_of left); outer = [] } =
-    c.new-walk.ensures ∙ ap (λ (s : Scope). record { removal = Nothing; own = s; outer = [] }) own in (
-      import_names (imports_of left),
-      export_names (exports_of left),
-      rw c.deref-2.ensures.value at c.in_ok-taken.ensures,
-      ap (λ w. w.removal) c.new-walk.ensures,
-      ap (λ w. map shown_part_node c.args.left.parts.items
-          ++ parts_of (renamed (tree_edited right w) (import_names (imports_of left)) (export_names (exports_of left)))) walk,
-    )
 
 pub loop-node-preserved : goal.loop-node-preserved
 loop-node-preserved c =

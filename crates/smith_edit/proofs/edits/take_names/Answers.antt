@@ -1,14 +1,10 @@
-use Rattle.std.proofs.Common.{◌++◌, [], map, refl, subst}
+use Rattle.std.proofs.Common.{◌++◌, []}
 use Rattle.smith_read.specs.PartNodes.{shown_part_node}
-use Rattle.smith_tree.specs.Tree.{exports_in, imports_in, imports_of, tree_of}
+use Rattle.smith_tree.specs.Tree.{exports_in, imports_in}
 use Rattle.smith_tree.specs.WellFormed.{export_names, import_names}
-use Rattle.smith_edit.specs.Names.{KnowsBoth}
 use Rattle.smith_edit.proofs.Joining.{exported, exported_more, imported, imported_more}
-use Rattle.smith_edit.proofs.Lists.{gathered_end, gathered_step}
+use Rattle.smith_edit.proofs.Sublists.{gathered_step}
 use Rattle.smith_edit.proofs.edits.take_names.Goals as goal
-
-pub loop-part-init : goal.loop-part-init
-loop-part-init c = ([], [], c.new-taken.ensures, refl, refl)
 
 pub loop-part-preserved : goal.loop-part-preserved
 loop-part-preserved c =
@@ -22,13 +18,3 @@ loop-part-preserved c =
       gathered_step shown_part_node exported (λ q. export_names (exports_in q)) exported_more es _ c.args.parts.now c.loop-part.part-index
           c.part-item.result c.loop-part-test.true c.part-item.is exports,
     )
-
-pub returns : goal.returns
-returns c =
-    let (is, es, knows, imports, exports) = c.loop-part.invariant in
-    subst (λ ns. KnowsBoth c.loop-part.taken (import_names (imports_of (tree_of (map shown_part_node c.args.parts.now)))) ns)
-    (gathered_end shown_part_node exported (λ q. export_names (exports_in q)) exported_more refl es _ c.args.parts.now c.loop-part.part-index
-    c.loop-part-test.false exports)
-    (subst (λ ns. KnowsBoth c.loop-part.taken ns es)
-    (gathered_end shown_part_node imported (λ q. import_names (imports_in q)) imported_more refl is _ c.args.parts.now c.loop-part.part-index
-    c.loop-part-test.false imports) knows)

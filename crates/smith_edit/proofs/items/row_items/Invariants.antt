@@ -4,5 +4,5 @@ use Rattle.smith_edit.proofs.items.row_items.Given as goal
 
 abbrev pub invariant-loop-item : goal.invariant-loop-item
 invariant-loop-item g l =
-    l.count + row_items g.T.HasItems.inside (map g.T.HasItems.shown (drop l.item-index l.items))
-    ≡ row_items g.T.HasItems.inside (map g.T.HasItems.shown l.items)
+    l.count + row_items g.T.Row.items (map g.T.Row.shown (drop l.item-index l.items))
+    ≡ row_items g.T.Row.items (map g.T.Row.shown l.items)

@@ -1,9 +1,6 @@
 use Rattle.std.proofs.lemmas.List.{get_or_default}
-use Rattle.smith_format.proofs.Many.{put_none, put_next, loop_done, loop_exit}
+use Rattle.smith_format.proofs.Many.{put_next, loop_done, loop_exit}
 use Rattle.smith_format.proofs.encode.put_values.Goals as goal
-
-pub loop-ty-init : goal.loop-ty-init
-loop-ty-init c = put_none _ _ _
 
 pub returns-in_err-put_core_val : goal.returns-in_err-put_core_val
 returns-in_err-put_core_val c =

@@ -2,8 +2,5 @@ use Rattle.smith_format.specs.Piece.{bytes}
 use Rattle.smith_format.proofs.Clear.{clear_sized, exact_bytes}
 use Rattle.smith_format.proofs.laws.sections_are_clear.Goals as goal
 
-pub returns-clause-sections : goal.returns-clause-sections
-returns-clause-sections g c = λ id f x. clear_sized f x id
-
 pub returns-clause-contents : goal.returns-clause-contents
 returns-clause-contents g c = λ id. clear_sized bytes exact_bytes id

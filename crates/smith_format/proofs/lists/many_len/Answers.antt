@@ -1,9 +1,6 @@
 use Rattle.std.proofs.Common.{arith}
-use Rattle.smith_format.proofs.Sizes.{sum_none, sum_next, sum_all, each_too_much, each_reaches, many_too_much, length_then}
+use Rattle.smith_format.proofs.Sizes.{sum_next, sum_all, each_too_much, each_reaches, many_too_much, length_then}
 use Rattle.smith_format.proofs.lists.many_len.Goals as goal
-
-pub loop-item-init : goal.loop-item-init
-loop-item-init g c = sum_none _ _
 
 pub returns-in_err-spelled_len : goal.returns-in_err-spelled_len
 returns-in_err-spelled_len g c =

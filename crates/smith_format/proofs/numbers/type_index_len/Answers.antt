@@ -11,6 +11,3 @@ returns-clause-most c =
     let f : FitsSigned w64 c.from.result = search rules in
     let n = ap (λ m. length (signed m)) (to_z-of_z w64 c.from.result f ∙ c.from.ensures) in
     omega (arith, c.s64_len.ensures.length, signed_index_short c.args.index c.ranges.index.fits)
-
-pub returns-clause-length : goal.returns-clause-length
-returns-clause-length c = search rules

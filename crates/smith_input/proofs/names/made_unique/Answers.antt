@@ -1,4 +1,4 @@
-use Rattle.std.proofs.Common.{◌≡◌, suc, length, refl, sym, ap, ◌∙◌, arith, string_bytes, decimal, length-append, true, ◌++◌, ⊎_elim, rules}
+use Rattle.std.proofs.Common.{◌≡◌, suc, length, refl, sym, ap, ◌∙◌, arith, string_bytes, decimal, length-append, true, ◌++◌, ⊎_elim}
 use Rattle.std.proofs.lemmas.Bool.{cases_lt}
 use Rattle.smith_input.specs.NewNames.{appended, is_among}
 use Rattle.smith_input.proofs.Digits.{are_digits, digits_in_word}
@@ -46,6 +46,3 @@ loop-alloc-preserved g c =
           (cases_lt n c.loop-alloc.invariant.times);
       kebab = λ k. rw longer (kebab_more all (digits_in_word all (are_digits (length texts))) (c.loop-alloc.invariant.kebab k));
     }
-
-pub loop-alloc-init : goal.loop-alloc-init
-loop-alloc-init g c = search rules

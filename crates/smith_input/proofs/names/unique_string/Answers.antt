@@ -9,14 +9,5 @@ returns-clause-read c =
 pub returns-clause-gained : goal.returns-clause-gained
 returns-clause-gained c =
     let r = c.in_ok-name.ensures.read in
-    gains
-    c.in_ok-clone.field-0
-    _
-    c.args.names.now
-    c.insert.new.self
-    c.in_ok-insert.field-0
-    c.in_ok-clone.ensures.cases
-    (unique_in_set c.args.names.now _ _ r.unique).is_new
-    c.in_ok-insert.ensures.updates
-    c.in_ok-insert.ensures.added
-    c.in_ok-insert.ensures.len
+    gains c.in_ok-clone.field-0 c.in_ok-clone.ensures.cases (unique_in_set _ _ _ r.unique).is_new c.in_ok-insert.ensures.updates
+    c.in_ok-insert.ensures.added c.in_ok-insert.ensures.len

@@ -16,15 +16,5 @@ returns-clause-read c =
       r.reads,
       unique,
       c.in_ok-path.ensures.kebab,
-      gains
-          c.in_ok-path.path
-          _
-          c.args.names.now
-          c.insert.new.self
-          c.in_ok-insert.field-0
-          refl
-          unique.is_new
-          c.in_ok-insert.ensures.updates
-          c.in_ok-insert.ensures.added
-          c.in_ok-insert.ensures.len,
+      gains c.in_ok-path.path refl unique.is_new c.in_ok-insert.ensures.updates c.in_ok-insert.ensures.added c.in_ok-insert.ensures.len,
     )

@@ -1,17 +1,7 @@
 use Rattle.std.proofs.Common.{◌≡◌, ◌+◌, ◌*◌, ◌/◌, arith, sym}
-use Rattle.std.proofs.Math.Nat.{div-le_self, div-mul-le_self, mod-eq-sub-div-mul}
-use Rattle.std.proofs.lemmas.Nat.{mul-le}
+use Rattle.std.proofs.Math.Nat.{div-mul-le_self, mod-eq-sub-div-mul}
 use Rattle.smith_input.proofs.Widths.{quotient_is, reciprocal}
 use Rattle.smith_input.proofs.unstructured.remainder.Goals as goal
-
-pub overflow_mul-quotient : goal.overflow_mul-quotient
-overflow_mul-quotient c =
-    let few = div-le_self 65536 (c.args.last + 1) in
-    omega (
-      arith,
-      mul-le c.from-dividend.result c.reciprocal_of.result 255 65537 (omega (arith, c.from-dividend.ensures, c.ranges.byte))
-          (omega (arith, c.reciprocal_of.ensures, few)),
-    )
 
 pub overflow_sub-result : goal.overflow_sub-result
 overflow_sub-result c =

@@ -1,5 +1,5 @@
-use Rattle.std.proofs.Common.{arith, ◌+◌, rules}
-use borrow.Author.Count.{below_more, below_none}
+use Rattle.std.proofs.Common.{arith, ◌+◌}
+use borrow.Author.Count.{below_more}
 use Rattle.smith_input.proofs.Widths.{power_more, powers_rise}
 use Rattle.smith_input.proofs.unstructured.width_of.Goals as goal
 
@@ -9,9 +9,3 @@ loop-width-preserved c = record {
   small = omega (arith, power_more c.loop-width.width, c.loop-width.invariant.power, powers_rise (c.loop-width.width + 1) 8 (omega arith));
   below = below_more _ _ c.loop-width.invariant.below (omega (arith, c.loop-width.invariant.power));
 }
-
-pub returns-then-from-reach-clause-width : goal.returns-then-from-reach-clause-width
-returns-then-from-reach-clause-width c = search rules
-
-pub loop-width-init : goal.loop-width-init
-loop-width-init c = record { power = omega arith; small = omega arith; below = below_none _ }

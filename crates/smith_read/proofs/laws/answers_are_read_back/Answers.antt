@@ -1,13 +1,11 @@
-use Rattle.std.proofs.Common.{◌≡◌, ℕ, ◌≤◌, List, arith, refl}
+use Rattle.std.proofs.Common.{◌≡◌, ℕ, ◌≤◌, List, arith}
 use Rattle.std.specs.Prelude.{Result, Ok, Err, IfOk}
-use Rattle.smith_tree.specs.Depths.{scope_depth}
 use Rattle.smith_tree.specs.Generates.{Generates}
 use Rattle.smith_tree.specs.Grammar.{Spells}
 use Rattle.smith_tree.specs.Tree.{Tree}
 use Rattle.smith_tree.proofs.Depths.{scopes_within}
 use Rattle.smith_format.specs.declared.config.Config.{Config}
 use Rattle.smith_read.specs.PartNodes.{shown_tree}
-use Rattle.smith_read.specs.Reads.{most_depth}
 use Rattle.smith_read.specs.declared.error.ReadError.{ReadError}
 use Rattle.smith_read.specs.declared.nodes.ComponentTree.{ComponentTree}
 use Rattle.smith_read.proofs.laws.answers_are_read_back.Goals as goal
@@ -18,6 +16,4 @@ is_it g (Ok t) s = (g.reading (shown_tree t)).0 s
 is_it g (Err e) s = s
 
 pub returns : goal.returns
-returns c config component bytes result consistent g reads =
-    let few : scope_depth component ≤ most_depth = omega (arith, scopes_within config component g.limits.maxima, consistent.nesting) in
-    (is_it g result reads.spelled, reads.answers component few ((g.reading component).1 refl))
+returns c config component bytes result consistent g reads = grind (arith, scopes_within, is_it)

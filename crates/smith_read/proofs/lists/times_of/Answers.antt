@@ -1,13 +1,11 @@
-use Rattle.std.proofs.Common.{◌≡◌, ◌++◌, ◌∷◌, [], map}
+use Rattle.std.proofs.Common.{arith, ◌≡◌, ◌++◌, ◌∷◌, [], map}
 use Rattle.std.proofs.lemmas.List.{map_push}
 use Rattle.smith_read.proofs.Digits.{passes}
 use Rattle.smith_read.proofs.Loops.{goes_on, stops, is_done}
 use Rattle.smith_read.proofs.lists.times_of.Goals as goal
 
 pub returns-in_err-item : goal.returns-in_err-item
-returns-in_err-item g c =
-    passes _ c.from_residual.result _ _ _ c.from_residual.ensures.1 c.in_err-item.ensures
-    (stops g.T.Readable.reading _ _ _ _ _ c.loop-test.true c.loop.invariant)
+returns-in_err-item g c = grind (arith, passes, stops)
 
 pub loop-preserved : goal.loop-preserved
 loop-preserved g c =

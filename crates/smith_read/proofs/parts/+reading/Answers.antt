@@ -7,9 +7,7 @@ use Rattle.smith_read.proofs.parts.+reading.Goals.{parts_of-else-loop-test, part
 use Rattle.smith_read.proofs.parts.+reading.Goals as goal
 
 pub parts_of-returns-in_err-part : goal.parts_of-returns-in_err-part
-parts_of-returns-in_err-part t c =
-    let l : 0 < length c.loop.rest.now = search rules in
-    passes _ c.from_residual.result _ _ _ c.from_residual.ensures.1 c.in_err-part.ensures (parts_stop _ _ _ _ _ _ _ c.loop-test.true l c.loop.invariant)
+parts_of-returns-in_err-part t c = grind (arith, passes, parts_stop)
 
 pub parts_of-loop-preserved : goal.parts_of-loop-preserved
 parts_of-loop-preserved t c =
@@ -19,14 +17,7 @@ parts_of-loop-preserved t c =
     rw e (parts_next _ _ _ _ _ _ _ _ _ c.loop-test.true l c.in_ok-part.ensures c.loop.invariant)
 
 pub parts_of-returns-then-not-is_empty : goal.parts_of-returns-then-not-is_empty
-parts_of-returns-then-not-is_empty t c =
-    let l : 0 < length c.loop.rest.now = search rules in
-    elim c.loop-test.branch [
-      | parts_of-else-loop-test w ↦ fails _ _ c.malformed.ensures (parts_left _ _ _ _ _ _ _ w.loop-test.false l c.loop.invariant)
-      | parts_of-then-loop-test+then-is_empty w ↦
-          let e : length c.loop.rest.now ≡ 0 = search rules in
-          absurd (omega arith)
-    ]
+parts_of-returns-then-not-is_empty t c = grind (arith, parts_of-else-loop-test, fails, parts_left)
 
 pub parts_of-returns : goal.parts_of-returns
 parts_of-returns t c =

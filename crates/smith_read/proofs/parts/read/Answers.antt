@@ -1,6 +1,4 @@
-use Rattle.std.proofs.Common.{sym, subst, Err}
-use Rattle.smith_read.specs.Reads.{Reads}
-use Rattle.smith_read.specs.declared.error.ReadError.{ReadError}
+use Rattle.std.proofs.Common.{arith}
 use Rattle.smith_read.proofs.Answering.{reads_found, reads_unread}
 use Rattle.smith_read.proofs.parts.read.Goals as goal
 
@@ -8,6 +6,4 @@ pub returns-in-Ok-clause-reads : goal.returns-in-Ok-clause-reads
 returns-in-Ok-clause-reads c = reads_found c.args.bytes.now (record { parts = c.in-Ok.parts }) (c.in-Ok.ensures {u = tt})
 
 pub returns-in-Err-clause-reads : goal.returns-in-Err-clause-reads
-returns-in-Err-clause-reads c =
-    subst (λ (e : ReadError). Reads (Err e) c.args.bytes.now) (sym c.placed.ensures)
-    (reads_unread c.args.bytes.now c.in-Err.unread (c.in-Err.ensures {u = tt}))
+returns-in-Err-clause-reads c = grind (arith, reads_unread)

@@ -3,7 +3,7 @@ use Rattle.std.specs.List.{flat_map}
 use Rattle.std.specs.Option.{option_to_list}
 use Rattle.smith_syntax.specs.Marks.{sizes, value_reach}
 use Rattle.smith_syntax.specs.Sizes.{value_size}
-use Rattle.smith_scopes.proofs.Parts.{items_all, items_more, reach_more, size_more}
+use Rattle.smith_scopes.proofs.Parts.{items_more, reach_more, size_more}
 use Rattle.smith_scopes.proofs.members.parts_of.Goals as goal
 
 pub loop-item-preserved : goal.loop-item-preserved
@@ -20,11 +20,3 @@ loop-item-preserved g c =
           (flat_map (λ y. option_to_list (g.T.Valued.value y)) (take (i + 1) xs)) (option_to_list (g.T.Valued.value x)) c.loop-item.parts.size
           c.add_some-parts.result.size more c.loop-item.invariant.1 (λ s. rw (← c.value.ensures) (c.add_some-parts.ensures.size s)),
     )
-
-pub returns-clause-reach : goal.returns-clause-reach
-returns-clause-reach g c =
-    rw (← items_all (λ y. option_to_list (g.T.Valued.value y)) c.args.items.now c.loop-item.item-index c.loop-item-test.false) c.loop-item.invariant.0
-
-pub returns-clause-size : goal.returns-clause-size
-returns-clause-size g c =
-    rw (← items_all (λ y. option_to_list (g.T.Valued.value y)) c.args.items.now c.loop-item.item-index c.loop-item-test.false) c.loop-item.invariant.1

@@ -1,11 +1,9 @@
-use Rattle.std.proofs.Common.{map}
-use Rattle.smith_scopes.proofs.ModuleSteps.{left_all, left_at, left_end, left_more, left_small, size_none}
+use Rattle.std.proofs.Common.{arith, map}
+use Rattle.smith_scopes.proofs.ModuleSteps.{left_all, left_at, left_more, left_small}
 use Rattle.smith_scopes.proofs.module_sizes.module_size.Goals as goal
 
 pub loop-decl-init : goal.loop-decl-init
-loop-decl-init g c =
-    left_all (map g.C.Tree.CoreTree.plain (map g.C.CoreTyped.tree c.args.around.now)) (map g.D.ModuleTree.plain c.args.decls.now) c.new-module.result
-    c.new-module.ensures.own c.new-module.ensures.size
+loop-decl-init g c = grind (arith, left_all)
 
 pub loop-decl-preserved : goal.loop-decl-preserved
 loop-decl-preserved g c =
@@ -15,9 +13,3 @@ loop-decl-preserved g c =
     let l = left_at g.D.ModuleTree.plain around ds c.loop-decl.module i c.decl-item.result c.loop-decl-test.true c.decl-item.is c.loop-decl.invariant in
     let done = c.in_ok-add.ensures {u = tt} in
     left_more around _ _ _ _ l c.add.new.self (done.size l.fs l.own_is (left_small around _ _ _ _ l)) (done.own l.fs l.own_is)
-
-pub returns : goal.returns
-returns g c =
-    let around = map g.C.Tree.CoreTree.plain (map g.C.CoreTyped.tree c.args.around.now) in
-    size_none around _ _
-    (left_end g.D.ModuleTree.plain around c.args.decls.now c.loop-decl.module c.loop-decl.decl-index c.loop-decl-test.false c.loop-decl.invariant)

@@ -1,5 +1,5 @@
 use Rattle.smith_script_core.proofs.Saying.{gives_up, towards_exit, unsaid_left, unsaid_right}
-use Rattle.smith_script.proofs.Steps.{params_at}
+use Rattle.smith_script.proofs.Turns.{params_at}
 use Rattle.smith_script.proofs.lifts.say_params.Goals as goal
 
 pub returns-in_err-say_name : goal.returns-in_err-say_name

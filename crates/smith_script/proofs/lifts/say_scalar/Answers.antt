@@ -1,5 +1,5 @@
 use Rattle.std.proofs.Common.{sym}
-use Rattle.smith_script.proofs.Scalars.{scalar_same}
+use Rattle.smith_script.proofs.Same.{scalar_same}
 use Rattle.smith_script.proofs.lifts.say_scalar.Goals as goal
 
 pub returns-in-Primitive : goal.returns-in-Primitive

@@ -13,7 +13,7 @@ use Rattle.smith_script_core.proofs.Saying.{gives_up, towards_done, towards_exit
 use Rattle.smith_tree.specs.declared.choices.Item.TheVariants as item
 use Rattle.smith_script.specs.Preceding.{IsAfter, Preceding, preceding, totals_in}
 use Rattle.smith_script.proofs.Keeps.{section_keeps}
-use Rattle.smith_script.proofs.Turns.{closes, item_said, last_said, opened_formed, opens, reached_next, section_after}
+use Rattle.smith_script.proofs.Turns.{closes, depth_is, item_said, last_said, opened_formed, opens, reached_next, section_after}
 use Rattle.smith_script.proofs.Turns.{section_said, this_formed, this_said}
 use Rattle.smith_script.proofs.parts.+parts.Goals as goal
 
@@ -64,12 +64,12 @@ say_parts-loop-part-preserved t c =
     let depth = c.loop-part.invariant.depth in
     record {
       outer = c.in_ok-say_part.ensures.outer ∙ invariant.outer;
-      depth = depth ∙ sym c.in_ok-turn.ensures.next.0;
+      depth = depth;
       keeps = c.in_ok-say_part.ensures.keeps ∙ invariant.keeps;
       reached = λ outer after formed.
           let r = invariant.reached outer after formed in
           let here = this_formed r c.part-item.result c.loop-part-test.true c.part-item.is in
-          reached_next r c.part-item.result c.loop-part-test.true c.part-item.is c.in_ok-turn.ensures.next.1
+          reached_next r c.part-item.result c.loop-part-test.true c.part-item.is c.in_ok-turn.ensures.more
           (subst (Adds _ _) (item_said r.after _ _ r.sections)
           ((rw c.item_of.ensures at (c.in_ok-say_item.ensures {u = tt})) (own_marked_in c.loop-part.scopes) (outer_marked_in c.args.scopes.now) depth))
           ((rw invariant.outer at c.in_ok-say_part.ensures.said) outer _ r.after here)
@@ -122,10 +122,10 @@ say_parts-loop-part-init t c =
     record {
       outer = refl;
       keeps = ap (λ (o : Marked). o.keeps) c.requires;
-      depth = c.first-turn.ensures.depth;
+      depth = depth_is c.args.scopes.now c.len.result (c.len.ensures ∙ c.args.scopes.now.nest.outer.ok.0);
       reached = λ outer after formed. record {
         after = subst (IsAfter c.args.given.config.now outer ends (outer_marked_in c.args.scopes.now)) (sym here) after;
-        sections = c.first-turn.ensures.none;
+        sections = refl;
         formed = formed;
         said = towards_start c.args.out.now _;
       };

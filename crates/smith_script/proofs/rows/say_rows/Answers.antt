@@ -1,5 +1,5 @@
 use Rattle.smith_script_core.proofs.Saying.{gives_up, towards_exit, unsaid_right}
-use Rattle.smith_script.proofs.Steps.{rows_at}
+use Rattle.smith_script.proofs.Turns.{rows_at}
 use Rattle.smith_script.proofs.rows.say_rows.Goals as goal
 
 pub returns-in_err-say-clause-said : goal.returns-in_err-say-clause-said

@@ -12,13 +12,15 @@ invariant-loop-row g l = record {
   outer : outer_marked_in l.scopes ≡ outer_marked_in l.initial.scopes;
   said : Towards l.initial.out l.out (
       rows_say (g.T.Row.says l.given.config.now (outer_marked_in l.initial.scopes)) (g.T.Row.after (outer_marked_in l.initial.scopes))
-      l.max (preceding (own_marked_in l.initial.scopes) l.initial.here)
-      (map g.T.Row.shown l.rows)
+      l.section.max (preceding (own_marked_in l.initial.scopes) l.initial.here)
+      (map g.T.Row.shown l.section.rows.now)
       ) (
       script_loop (g.T.Row.says l.given.config.now (outer_marked_in l.initial.scopes)) (g.T.Row.after (outer_marked_in l.initial.scopes))
-      0 l.max l.done (preceding (own_marked_in l.scopes) l.here)
-      (map g.T.Row.shown (drop l.row-index l.rows))
+      0 l.section.max l.done (preceding (own_marked_in l.scopes) l.here)
+      (map g.T.Row.shown (drop l.row-index l.section.rows.now))
       );
-  added : fold (g.T.Row.after (outer_marked_in l.initial.scopes)) (preceding (own_marked_in l.scopes) l.here) (map g.T.Row.shown (drop l.row-index l.rows))
-      ≡ fold (g.T.Row.after (outer_marked_in l.initial.scopes)) (preceding (own_marked_in l.initial.scopes) l.initial.here) (map g.T.Row.shown l.rows);
+  added : fold (g.T.Row.after (outer_marked_in l.initial.scopes)) (preceding (own_marked_in l.scopes) l.here)
+      (map g.T.Row.shown (drop l.row-index l.section.rows.now))
+      ≡ fold (g.T.Row.after (outer_marked_in l.initial.scopes)) (preceding (own_marked_in l.initial.scopes) l.initial.here)
+      (map g.T.Row.shown l.section.rows.now);
 }

@@ -1,6 +1,6 @@
 use Rattle.std.proofs.Common.{◌≡◌, ◌∙◌, ◌+◌, ◌-◌, [], sym, arith, refl}
 use Rattle.smith_script_core.proofs.Saying.{adds_then, gives_up, towards_done, towards_exit, towards_step, unsaid_left, unsaid_right}
-use Rattle.smith_script_core.proofs.StandIns.{functions_left, functions_over, functions_said}
+use Rattle.smith_script_core.proofs.Saying.{functions_left, functions_over, functions_said}
 use Rattle.smith_script_core.proofs.stand_ins.say_functions.Goals as goal
 
 pub returns-in_err-say_more-clause-said : goal.returns-in_err-say_more-clause-said

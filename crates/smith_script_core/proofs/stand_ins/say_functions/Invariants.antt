@@ -1,7 +1,7 @@
 use Rattle.std.proofs.Common.{◌≡◌, ◌-◌}
 use Rattle.smith_core.specs.StandInScript.{functions_from}
 use Rattle.smith_script_core.proofs.Saying.{Towards}
-use Rattle.smith_script_core.specs.StandIns.{script_functions}
+use Rattle.smith_script_core.specs.Fronts.{script_functions}
 use Rattle.smith_script_core.proofs.stand_ins.say_functions.Given as goal
 
 abbrev pub invariant-loop-done : goal.invariant-loop-done

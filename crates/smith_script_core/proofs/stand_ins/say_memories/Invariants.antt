@@ -1,7 +1,7 @@
 use Rattle.std.proofs.Common.{◌+◌, ◌≤◌, length}
 use Rattle.smith_core.specs.StandInScript.{all_memories}
 use Rattle.smith_script_core.proofs.Saying.{Towards}
-use Rattle.smith_script_core.specs.StandIns.{script_memories}
+use Rattle.smith_script_core.specs.Fronts.{script_memories}
 use Rattle.smith_script_core.proofs.stand_ins.say_memories.Given as goal
 
 abbrev pub invariant-loop-minimum : goal.invariant-loop-minimum

@@ -3,7 +3,7 @@ use Rattle.std.proofs.lemmas.List.{length-map}
 use Rattle.smith_format.specs.Shown.{shown_func}
 use Rattle.smith_syntax.specs.ModuleTypes.{is_tag_type}
 use Rattle.smith_script_types.proofs.Ranks.{index_among, places_rise}
-use Rattle.smith_script_types.specs.Modules.{so_far}
+use Rattle.smith_script_types.specs.Places.{so_far}
 use Rattle.smith_script_types.specs.Tables.{functions_in}
 use Rattle.smith_script_types.proofs.entities.say_entity_of.Goals as goal
 

@@ -2,7 +2,7 @@ use Rattle.std.proofs.Common.{ap, arith, length}
 use Rattle.std.proofs.lemmas.List.{length-map}
 use Rattle.smith_core_types.proofs.MakingCore.{choices_count}
 use Rattle.smith_format.specs.Shown.{shown_func}
-use Rattle.smith_script_types.specs.Modules.{so_far}
+use Rattle.smith_script_types.specs.Places.{so_far}
 use Rattle.smith_script_types.specs.Places.{plain_at}
 use Rattle.smith_script_types.proofs.modules.alias_count.Goals as goal
 

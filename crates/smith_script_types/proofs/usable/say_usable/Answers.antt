@@ -1,6 +1,6 @@
 use Rattle.std.proofs.Common.{sym}
 use Rattle.smith_scopes.specs.Nodes.{shown_marked}
-use Rattle.smith_script_types.proofs.UsableTypes.{among_all}
+use Rattle.smith_script_types.proofs.Ranks.{among_all}
 use Rattle.smith_script_types.proofs.usable.say_usable.Goals as goal
 
 pub returns-in-None : goal.returns-in-None

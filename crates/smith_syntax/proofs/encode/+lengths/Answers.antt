@@ -56,21 +56,13 @@ declarations::instance_decls_len-returns t c =
     (sum_all _ _ _ _ c.loop-declared.invariant c.loop-declared-test.false)
 
 pub type_len-returns-in_err-component_decls_len-in-Component : goal.type_len-returns-in_err-component_decls_len-in-Component
-type_len-returns-in_err-component_decls_len-in-Component t c =
-    let d = rw c.deref-in-Component.ensures.value at (c.in_err-component_decls_len-in-Component.ensures {u = tt}) in
-    rw (c.from_residual.ensures, c.in-Component.is, entry_component c.in-Component.ty) (too_much_right _ d)
+type_len-returns-in_err-component_decls_len-in-Component t c = grind (arith, entry_component, too_much_right)
 
 pub type_len-returns-in_ok-component_decls_len-in-Component : goal.type_len-returns-in_ok-component_decls_len-in-Component
-type_len-returns-in_ok-component_decls_len-in-Component t c =
-    let d = rw c.deref-in-Component.ensures.value at (c.in_ok-component_decls_len-in-Component.ensures {u = tt}) in
-    rw (c.in-Component.is, entry_component c.in-Component.ty) (length_behind c.checked_add.result _ c.checked_add.ensures d.0)
+type_len-returns-in_ok-component_decls_len-in-Component t c = grind (arith, entry_component, length_behind)
 
 pub type_len-returns-in_err-instance_decls_len-in-Instance : goal.type_len-returns-in_err-instance_decls_len-in-Instance
-type_len-returns-in_err-instance_decls_len-in-Instance t c =
-    let d = rw c.deref-in-Instance.ensures.value at (c.in_err-instance_decls_len-in-Instance.ensures {u = tt}) in
-    rw (c.from_residual-in_err-instance_decls_len-in-Instance.ensures, c.in-Instance.is, entry_instance c.in-Instance.ty) (too_much_right _ d)
+type_len-returns-in_err-instance_decls_len-in-Instance t c = grind (arith, entry_instance, too_much_right)
 
 pub type_len-returns-in_ok-instance_decls_len-in-Instance : goal.type_len-returns-in_ok-instance_decls_len-in-Instance
-type_len-returns-in_ok-instance_decls_len-in-Instance t c =
-    let d = rw c.deref-in-Instance.ensures.value at (c.in_ok-instance_decls_len-in-Instance.ensures {u = tt}) in
-    rw (c.in-Instance.is, entry_instance c.in-Instance.ty) (length_behind c.checked_add-in-Instance.result _ c.checked_add-in-Instance.ensures d.0)
+type_len-returns-in_ok-instance_decls_len-in-Instance t c = grind (arith, entry_instance, length_behind)

@@ -1,3 +1,4 @@
+use Rattle.std.proofs.Common.{arith}
 use Rattle.smith_format.proofs.Many.{put_none, put_next, loop_done, loop_exit}
 use Rattle.smith_format.proofs.Steps.{due_left, ends, exits, keeps_begins}
 use Rattle.smith_syntax.proofs.Declarations.{entry_component, entry_instance}
@@ -41,10 +42,7 @@ put_type-returns-in_err-write_byte-in-Component t c =
     rw (c.in-Component.is, entry_component c.in-Component.ty) (exits _ _ c.from_residual.ensures.1 (keeps_begins d.0) (due_left _ d.1))
 
 pub put_type-returns-in_ok-write_byte-in-Component : goal.put_type-returns-in_ok-write_byte-in-Component
-put_type-returns-in_ok-write_byte-in-Component t c =
-    rw (c.in-Component.is, entry_component c.in-Component.ty)
-    (ends c.put_component_decls.result _ _ (c.in_ok-write_byte-in-Component.ensures {u = tt})
-    (rw c.deref-in-Component.ensures.value at c.put_component_decls.ensures))
+put_type-returns-in_ok-write_byte-in-Component t c = grind (arith, entry_component, ends)
 
 pub put_type-returns-in_err-write_byte-in-Instance : goal.put_type-returns-in_err-write_byte-in-Instance
 put_type-returns-in_err-write_byte-in-Instance t c =
@@ -53,7 +51,4 @@ put_type-returns-in_err-write_byte-in-Instance t c =
     (due_left _ d.1))
 
 pub put_type-returns-in_ok-write_byte-in-Instance : goal.put_type-returns-in_ok-write_byte-in-Instance
-put_type-returns-in_ok-write_byte-in-Instance t c =
-    rw (c.in-Instance.is, entry_instance c.in-Instance.ty)
-    (ends c.put_instance_decls.result _ _ (c.in_ok-write_byte-in-Instance.ensures {u = tt})
-    (rw c.deref-in-Instance.ensures.value at c.put_instance_decls.ensures))
+put_type-returns-in_ok-write_byte-in-Instance t c = grind (arith, entry_instance, ends)

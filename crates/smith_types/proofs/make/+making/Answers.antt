@@ -15,7 +15,7 @@ use Rattle.smith_types.specs.MakingTypes.{AddsDeclaration, Declares, HoldsNames,
 use Rattle.smith_types.specs.declared.make.scoped.TypeBody.{TypeBody}
 use Rattle.smith_types.specs.declared.make.scoped.TypeBody.TheVariants.{Component, Instance}
 use Rattle.smith_types.proofs.Declaring.{closed_again, import_declared, length-last_types, same_changed, same_trans, type_declared}
-use Rattle.smith_types.proofs.MadeTypes.{declaration_size}
+use Rattle.smith_types.proofs.MadeFits.{declaration_fits}
 use Rattle.smith_types.proofs.MakingTypes.{alias_within, exports_nothing, names_stay, scoped_marked, type_made}
 use Rattle.smith_types.proofs.Progressing.{adds_to_component, adds_to_instance, stops, spends, is_full, goes_on}
 use Rattle.smith_scopes.proofs.Stack.{keeps_last, length-inward_marked}
@@ -107,7 +107,7 @@ pub scoped::declarations-loop-done-preserved : goal.scoped::declarations-loop-do
 scoped::declarations-loop-done-preserved t c =
     let p = c.loop-done.invariant.progress in
     let adds = c.in_ok-declare.ensures.made p.so_far p.own_is p.names in
-    let size = declaration_size _ _ _ _ _ _ _ _ _ adds.made in
+    let size = (declaration_fits adds.made).takes.within in
     record {
       progress = goes_on p _ _ c.more.result c.burn.new.fuel _ _ _ c.more.ensures c.if-not-more.false c.burn.ensures (omega (arith, c.if-fuel-eq0.false)) adds;
       outer = same_trans c.loop-done.invariant.outer c.in_ok-declare.ensures.outer;

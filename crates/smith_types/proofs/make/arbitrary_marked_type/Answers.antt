@@ -7,8 +7,7 @@ use Rattle.smith_syntax.specs.Shown.{full_type, shown_shared}
 use Rattle.smith_syntax.specs.WellFormed.{FormedEntry}
 use Rattle.smith_scopes.specs.Scopes.{inward_marked, outer_marked, outer_scopes, own_marked}
 use Rattle.smith_scopes.proofs.Stack.{length-inward_marked, outer_scopes_are, own_scope_is}
-use Rattle.smith_types.proofs.MadeFormed.{made_formed, made_offered}
-use Rattle.smith_types.proofs.MadeTypes.{made_limits, made_size, stack_nesting}
+use Rattle.smith_types.proofs.MadeFits.{made_fits, nesting_within}
 use Rattle.smith_types.proofs.MarkedPlain.{mark_plain}
 use Rattle.smith_types.proofs.ScopedScript.{type_scripted}
 use Rattle.smith_types.proofs.make.arbitrary_marked_type.Goals as goal
@@ -18,17 +17,18 @@ returns-clause-made c =
     let scopes = c.args.scopes.now in
     let config = c.args.config.now in
     let made = c.in_ok-made.ensures.made in
+    let fits = made_fits made in
     let e = shown_shared c.in_ok-made.made.0 in
     let Own : Scope → Type 0 = λ s. FormedEntry e s (outer_scopes scopes) in
     let Outer : List Scope → Type 0 = λ ss. FormedEntry e (scope_in (own_marked scopes)) ss in
     let Nests : ℕ → Type 0 = λ n. n + nesting e ≤ max (n + 1) config.max_nesting_depth in
     record {
       made = made;
-      formed = subst Own (sym (own_scope_is scopes)) (subst Outer (sym (outer_scopes_are scopes)) (made_formed _ _ _ _ _ _ _ _ made));
-      offered = made_offered _ _ _ _ _ _ _ _ made;
-      limits = made_limits _ _ _ _ _ _ _ _ made;
-      nesting = subst Nests (length-inward_marked scopes) (stack_nesting config (inward_marked scopes) _ _ _ _ _ made);
-      size = made_size _ _ _ _ _ _ _ _ made;
+      formed = subst Own (sym (own_scope_is scopes)) (subst Outer (sym (outer_scopes_are scopes)) fits.is.0);
+      offered = fits.is.1;
+      limits = fits.limits;
+      nesting = subst Nests (length-inward_marked scopes) (nesting_within config (inward_marked scopes) e fits.nests);
+      size = fits.takes.within;
     }
 
 pub returns-clause-mark : goal.returns-clause-mark

@@ -1,6 +1,5 @@
-use Rattle.std.proofs.Common.{◌≡◌, true, false, refl, sym, subst, ◌∙◌}
+use Rattle.std.proofs.Common.{arith, ◌≡◌, true, false, refl, sym, ◌∙◌}
 use Rattle.std.proofs.lemmas.Option.{MatchOption-at_none, MatchOption-at_some}
-use Rattle.smith_tree.specs.CoreModules.{HasFewMemories}
 use Rattle.smith_tree.proofs.CoreModules.{few_after, few_first, few_module, few_next, few_none, few_other, few_sections}
 use Rattle.smith_validate.proofs.core_modules.has_few_memories.Goals as goal
 
@@ -8,10 +7,7 @@ pub returns-in_default : goal.returns-in_default
 returns-in_default c = (λ yes. few_other c.args.text.now (λ rest e. c.in_default.ensures (rest, e)), λ few. refl)
 
 pub loop-id-init : goal.loop-id-init
-loop-id-init c = (
-  λ few. subst HasFewMemories (sym c.in-Some.ensures) (few_module c.in-Some.sections.now few),
-  λ few. few_sections c.in-Some.sections.now (subst HasFewMemories c.in-Some.ensures few),
-)
+loop-id-init c = grind (arith, few_module, few_sections)
 
 pub returns-then-not-branch : goal.returns-then-not-branch
 returns-then-not-branch c =

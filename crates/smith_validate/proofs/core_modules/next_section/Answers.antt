@@ -1,6 +1,5 @@
-use Rattle.std.proofs.Common.{Some, sym, subst, ◌∙◌, ap}
+use Rattle.std.proofs.Common.{arith, Some, sym, subst, ◌∙◌, ap}
 use Rattle.std.proofs.lemmas.List.{nil_from_length}
-use Rattle.smith_read.specs.Reading.{frame_at}
 use Rattle.smith_validate.specs.CoreModules.{HasNoSection}
 use Rattle.smith_validate.proofs.CoreModules.{a_section, no_section, no_section_at_end, shorter, unread}
 use Rattle.smith_validate.proofs.core_modules.next_section.Goals as goal
@@ -17,6 +16,4 @@ returns-in-Ok-clause-less c =
     shorter c.in-Some.id.now c.in-Ok.contents.now c.in-Ok.after.now c.args.sections.now (returns-in-Ok-clause-first c)
 
 pub returns-in-Err-Malformed-clause-first : goal.returns-in-Err-Malformed-clause-first
-returns-in-Err-Malformed-clause-first c =
-    let none = unread (frame_at c.in-Some.rest.now) c.in-Err-Malformed.field-0-is c.in-Err-Malformed.ensures in
-    subst HasNoSection (sym c.in-Some.ensures.cases.0) (no_section c.in-Some.id.now c.in-Some.rest.now none)
+returns-in-Err-Malformed-clause-first c = grind (arith, unread, no_section)

@@ -1,5 +1,4 @@
-use Rattle.std.proofs.Common.{refl}
-use Rattle.smith_read.specs.Reading.{u_at}
+use Rattle.std.proofs.Common.{arith}
 use Rattle.smith_validate.proofs.CoreModules.{counts_are_few, counts_none, unread}
 use Rattle.smith_validate.proofs.core_modules.section_is_few.Goals as goal
 
@@ -9,7 +8,4 @@ returns-in-Ok c =
     (λ yes same. is.0 yes, λ few. is.1 (few c.if-id-ne-MEMORY_SECTION.false))
 
 pub returns-in-Err-Malformed : goal.returns-in-Err-Malformed
-returns-in-Err-Malformed c = (
-  λ yes same. counts_none c.args.contents.now (unread (u_at c.args.contents.now) c.in-Err-Malformed.field-0-is c.in-Err-Malformed.ensures),
-  λ few. refl,
-)
+returns-in-Err-Malformed c = grind (arith, counts_none, unread)

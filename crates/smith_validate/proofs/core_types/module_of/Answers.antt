@@ -1,14 +1,7 @@
-use Rattle.std.proofs.Common.{map}
-use Rattle.smith_read.specs.Nodes.{shown_module_node}
 use Rattle.smith_validate.specs.Modules.{entries_in}
 use Rattle.smith_validate.proofs.Judging.{passed_on}
-use Rattle.smith_validate.proofs.ModuleSteps.{left_all, left_at, left_end, left_exit, left_more, left_none, size_none}
+use Rattle.smith_validate.proofs.ModuleSteps.{left_at, left_exit, left_more}
 use Rattle.smith_validate.proofs.core_types.module_of.Goals as goal
-
-pub loop-decl-init : goal.loop-decl-init
-loop-decl-init c = λ own k.
-    left_all (entries_in own) (map shown_module_node c.args.decls.now) c.new-module.result c.new-module.ensures.own c.new-module.ensures.size
-    c.new-module.ensures.memories c.new-module.ensures.tables
 
 pub loop-decl-preserved : goal.loop-decl-preserved
 loop-decl-preserved c = λ own k.
@@ -24,13 +17,3 @@ returns-in_err-add-clause-judged c = λ own k.
     let i = c.loop-decl.decl-index in
     let l = left_at (entries_in own) ds c.loop-decl.module i c.decl-item.result c.loop-decl-test.true c.decl-item.is (c.loop-decl.invariant own k) in
     passed_on _ _ c.from_residual.ensures.1 (left_exit (entries_in own) _ _ _ _ l ((c.in_err-add.ensures {u = tt}).judged l.fs l.own_is l.small))
-
-pub returns-clause-judged : goal.returns-clause-judged
-returns-clause-judged c = λ own k.
-    left_none (entries_in own) _ _
-    (left_end (entries_in own) c.args.decls.now c.loop-decl.module c.loop-decl.decl-index c.loop-decl-test.false (c.loop-decl.invariant own k))
-
-pub returns-clause-size : goal.returns-clause-size
-returns-clause-size c = λ own k.
-    size_none (entries_in own) _ _
-    (left_end (entries_in own) c.args.decls.now c.loop-decl.module c.loop-decl.decl-index c.loop-decl-test.false (c.loop-decl.invariant own k))

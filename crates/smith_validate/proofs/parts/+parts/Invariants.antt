@@ -1,19 +1,16 @@
-use Rattle.std.proofs.Common.{◌≡◌, [], ◌∷◌, ◌++◌}
+use Rattle.std.proofs.Common.{◌≡◌, ◌+◌, map, take}
+use Rattle.smith_tree.specs.Tree.{tree_of}
+use Rattle.smith_read.specs.Items.{items}
 use Rattle.smith_read.specs.PartNodes.{shown_part_node}
 use Rattle.smith_validate.specs.Parts.{IsOpen, IsOpenBoth}
-use Rattle.smith_validate.specs.Steps.{Later}
-use Rattle.smith_check.specs.Tracks.{path_of}
-use Rattle.smith_validate.proofs.PartsExactly.{usual_parts}
-use Rattle.smith_validate.proofs.PartRows.{parts_row}
-use Rattle.smith_validate.proofs.Walking.{ExactLeft, RowsLeft}
+use Rattle.smith_validate.proofs.RowSteps.{parts_row}
+use Rattle.smith_validate.proofs.Walking.{AreExact, AreJudged}
 use Rattle.smith_validate.proofs.parts.+parts.Given as goal
 
 abbrev pub invariant-add_parts-loop-part : goal.invariant-add_parts-loop-part
 invariant-add_parts-loop-part l = record {
-  path : path_of l.track ≡ path_of l.fn.track ++ l.part-index ∷ [];
-  entry : l.track.place.entry ≡ 0;
+  item : l.item ≡ l.fn.item + items (tree_of (map shown_part_node (take l.part-index l.parts)));
   outer : l.known.scopes.outer.items ≡ l.fn.known.scopes.outer.items;
-  left : RowsLeft parts_row shown_part_node l.parts (IsOpen l.initial.known l.initial.here) (Later (IsOpen l.known l.here)) l.part-index;
-  exact : ExactLeft parts_row usual_parts shown_part_node l.parts (IsOpenBoth l.initial.known l.initial.here) (Later (IsOpenBoth l.known l.here))
-      l.part-index;
+  judged : AreJudged parts_row shown_part_node l.parts (IsOpen l.initial.known l.initial.here) (IsOpen l.known l.here) l.part-index;
+  exact : AreExact parts_row shown_part_node l.parts (IsOpenBoth l.initial.known l.initial.here) (IsOpenBoth l.known l.here) l.part-index;
 }

@@ -8,7 +8,6 @@ use Rattle.smith_validate.specs.Bodies.{IsIn, IsRole}
 use Rattle.smith_validate.specs.Counted.{counted}
 use Rattle.smith_validate.proofs.Judging.{judged_by, keeps_by, on_by, on_judged}
 use Rattle.smith_validate.proofs.Names.{names_append}
-use Rattle.smith_validate.specs.Exact.{IsKeptBody}
 use Rattle.smith_validate.proofs.ExportSteps.{export_exactly}
 use Rattle.smith_validate.proofs.references.add_export.Goals as goal
 
@@ -62,13 +61,4 @@ returns-clause-added c = λ asks b outer names table s.
     (c.add_exported.ensures.judged b.own outer here names table s.scopes valid)
 
 pub returns-clause-exact : goal.returns-clause-exact
-returns-clause-exact c = λ asks b outer named table h.
-    let k = c.args.known.now in
-    let to = c.args.to in
-    let named_then = (c.in_ok-name_export.ensures {u = tt}).exact asks b outer named table h in
-    let role = (c.in_ok-add_size.ensures {u = tt}).role in
-    on_by c.add_exported.result
-    (λ types. subst (λ r. IsKeptBody asks c.add_exported.new.known r (after_export outer b to) outer named table) (sym role)
-    (export_exactly asks k c.args.body.now.role b outer named table h c.add_exported.new.known c.name_export.new.role to
-    c.add_exported.ensures.beside.outer c.add_exported.ensures.beside.instances types named_then))
-    c.add_exported.ensures.types
+returns-clause-exact c = grind (arith, on_by, export_exactly)

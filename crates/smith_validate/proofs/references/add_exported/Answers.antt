@@ -1,4 +1,4 @@
-use Rattle.std.proofs.Common.{◌∷◌, ◌++◌, [], ap, sym, ◌∙◌, length, subst, true, ◌≡◌}
+use Rattle.std.proofs.Common.{arith, ◌∷◌, ◌++◌, [], ap, sym, ◌∙◌, length, subst, true, ◌≡◌}
 use Rattle.smith_input.specs.NewNames.{is_among}
 use Rattle.smith_tree.specs.Bodies.{equal_facts, exported_facts, externs_at}
 use Rattle.smith_tree.specs.Counts.{ValidCounts, with_type_count}
@@ -12,14 +12,11 @@ use Rattle.smith_syntax.specs.declared.deftype.ComponentTypeRef.TheVariants as t
 use Rattle.smith_validate.proofs.Judging.{on_by, on_both, passed_on, refuted_at}
 use Rattle.smith_validate.proofs.Names.{among_itself, sub_left, sub_right}
 use Rattle.smith_validate.proofs.ScopeSteps.{count_none, exported_none, exported_one, in_none, in_one, kept_named, named_one, none_exported, size_at}
-use Rattle.smith_validate.proofs.Valued.{beside, none_beside}
+use Rattle.smith_validate.proofs.Zips.{beside, none_beside}
 use Rattle.smith_validate.proofs.references.add_exported.Goals as goal
 
 pub returns-in_default-clause-judged : goal.returns-in_default-clause-judged
-returns-in_default-clause-judged c = λ own outer here names table s v.
-    let none = none_exported own outer c.args.to c.in_default.not-TypeEq in
-    subst (λ fs. ValidCounts (with_type_count (counted c.args.counts.now) (length fs))) (sym none)
-    (subst ValidCounts (count_none (counted c.args.counts.now)) v)
+returns-in_default-clause-judged c = grind (arith, none_exported, count_none)
 
 pub returns-in_default-clause-added : goal.returns-in_default-clause-added
 returns-in_default-clause-added c = λ own outer here names table s.
@@ -27,17 +24,10 @@ returns-in_default-clause-added c = λ own outer here names table s.
     in_none c.args.known.now own outer here (here ++ ids) names table s (sub_left here ids) _ (none_exported own outer c.args.to c.in_default.not-TypeEq)
 
 pub returns-in_default-clause-counts : goal.returns-in_default-clause-counts
-returns-in_default-clause-counts c = λ own outer here names table s.
-    count_none (counted c.args.counts.now)
-    ∙ ap (λ fs. with_type_count (counted c.args.counts.now) (length fs)) (sym (none_exported own outer c.args.to c.in_default.not-TypeEq))
+returns-in_default-clause-counts c = grind (arith, count_none, none_exported)
 
 pub returns-in_default-type_at-clause-judged : goal.returns-in_default-type_at-clause-judged
-returns-in_default-type_at-clause-judged c = λ own outer here names table s v.
-    let i = c.in-TypeEq.index in
-    let none = none_beside (IsKept table (here ∷ names)) c.args.known.now.scopes.own.types.items own.types i s.types_are.0 c.in_default-type_at.ensures.facts in
-    rw (c.in-TypeEq.is)
-    (subst (λ fs. ValidCounts (with_type_count (counted c.args.counts.now) (length fs))) (sym (exported_none own outer i none))
-    (subst ValidCounts (count_none (counted c.args.counts.now)) v))
+returns-in_default-type_at-clause-judged c = grind (arith, none_beside, exported_none, count_none)
 
 pub returns-in_default-type_at-clause-added : goal.returns-in_default-type_at-clause-added
 returns-in_default-type_at-clause-added c = λ own outer here names table s.
@@ -48,12 +38,7 @@ returns-in_default-type_at-clause-added c = λ own outer here names table s.
     in_none c.args.known.now own outer here (here ++ ids) names table s (sub_left here ids) _ (exported_none own outer i none))
 
 pub returns-in_default-type_at-clause-counts : goal.returns-in_default-type_at-clause-counts
-returns-in_default-type_at-clause-counts c = λ own outer here names table s.
-    let i = c.in-TypeEq.index in
-    let none = none_beside (IsKept table (here ∷ names)) c.args.known.now.scopes.own.types.items own.types i s.types_are.0 c.in_default-type_at.ensures.facts in
-    rw (c.in-TypeEq.is)
-    (count_none (counted c.args.counts.now)
-    ∙ ap (λ fs. with_type_count (counted c.args.counts.now) (length fs)) (sym (exported_none own outer i none)))
+returns-in_default-type_at-clause-counts c = grind (arith, none_beside, count_none, exported_none)
 
 pub returns-in_err-add_type-clause-judged : goal.returns-in_err-add_type-clause-judged
 returns-in_err-add_type-clause-judged c = λ own outer here names table s v.

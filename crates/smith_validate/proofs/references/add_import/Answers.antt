@@ -5,7 +5,6 @@ use Rattle.smith_tree.specs.Facts.{sizes}
 use Rattle.smith_validate.specs.Bodies.{IsRole}
 use Rattle.smith_validate.specs.Counted.{counted}
 use Rattle.smith_validate.proofs.Judging.{judged_by, keeps_by, on_any, on_judged}
-use Rattle.smith_validate.specs.Exact.{IsKeptBody}
 use Rattle.smith_validate.proofs.ExportSteps.{import_exactly}
 use Rattle.smith_validate.proofs.references.add_import.Goals as goal
 
@@ -41,9 +40,4 @@ returns-clause-added c = λ asks b outer names table s.
     (c.add_size.ensures.size n size) (c.add_size.ensures.size n size) (c.add_size.ensures.judged n size)
 
 pub returns-clause-exact : goal.returns-clause-exact
-returns-clause-exact c = λ asks b outer named table h usual.
-    let k = c.args.known.now in
-    on_any c.add_size.result
-    (subst (λ r. IsKeptBody asks k r (after_import outer b c.args.to) outer named table) (sym c.add_size.ensures.role)
-    (import_exactly asks k c.args.body.now.role b outer named table h c.name_import.new.role c.args.to usual.1
-    ((c.in_ok-name_import.ensures {u = tt}).exact asks b outer named table h usual)))
+returns-clause-exact c = grind (arith, on_any, import_exactly)

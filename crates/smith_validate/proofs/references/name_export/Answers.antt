@@ -1,4 +1,4 @@
-use Rattle.std.proofs.Common.{◌∷◌, ◌++◌, ◌+◌, ap, refl, ◌∙◌, sym, subst}
+use Rattle.std.proofs.Common.{arith, ◌∷◌, ◌++◌, ◌+◌, ap, refl, ◌∙◌, sym, subst}
 use Rattle.smith_tree.specs.Bodies.{after_export, externs_at}
 use Rattle.smith_tree.specs.Validates.{exported, names_of}
 use Rattle.smith_validate.specs.Externs.{IsAsked, with_exports}
@@ -34,9 +34,7 @@ returns-in-Exports-clause-named c = λ asks b outer names table s r.
     c.export-in-Exports.ensures.refers c.export-in-Exports.ensures.uses c.export-in-Exports.ensures.any
 
 pub returns-in_default-clause-exact : goal.returns-in_default-clause-exact
-returns-in_default-clause-exact c = λ asks b outer named table h.
-    role_exported_none asks c.args.known.now c.args.role.now b outer named table h c.args.to
-    (piece_none asks c.args.known.now c.args.role.now b outer named table h c.args.to c.in_default.ensures.marks)
+returns-in_default-clause-exact c = grind (arith, role_exported_none, piece_none)
 
 pub returns-in-Names-clause-exact : goal.returns-in-Names-clause-exact
 returns-in-Names-clause-exact c = λ asks b outer named table h.

@@ -1,4 +1,4 @@
-use Rattle.std.proofs.Common.{◌∷◌, ◌++◌, refl}
+use Rattle.std.proofs.Common.{arith, ◌∷◌, ◌++◌, refl}
 use Rattle.smith_tree.specs.Bodies.{after_import, externs_at}
 use Rattle.smith_tree.specs.Validates.{names_of}
 use Rattle.smith_validate.specs.Externs.{with_imports}
@@ -19,9 +19,7 @@ returns-in-Names-clause-named c = λ asks b outer names table s r.
     ((rw c.deref.ensures.value at (c.import.ensures.named table (names_of b.exports ∷ names) b xs)) s.instances_are found role.1)
 
 pub returns-in_default-clause-exact : goal.returns-in_default-clause-exact
-returns-in_default-clause-exact c = λ asks b outer named table h usual.
-    role_imported_none asks c.args.known.now c.args.role.now b outer named table h c.args.to
-    (piece_none asks c.args.known.now c.args.role.now b outer named table h c.args.to c.in_default.ensures.marks)
+returns-in_default-clause-exact c = grind (arith, role_imported_none, piece_none)
 
 pub returns-in-Names-clause-exact : goal.returns-in-Names-clause-exact
 returns-in-Names-clause-exact c = λ asks b outer named table h usual.

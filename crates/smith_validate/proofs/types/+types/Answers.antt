@@ -1,4 +1,5 @@
-use Rattle.std.proofs.Common.{◌∷◌, ◌++◌, [], ap, refl, sym, subst, ◌∙◌, true, false, map, length}
+use Rattle.std.proofs.Common.{arith, ◌∷◌, ◌++◌, [], ap, refl, sym, subst, ◌∙◌, true, false, map, length}
+use Rattle.std.proofs.lemmas.List.{take_all}
 use Rattle.std.specs.Option.{option_to_list}
 use Rattle.std.specs.Prelude.{string_bytes}
 use Rattle.smith_syntax.specs.Entries.{in_order}
@@ -6,28 +7,34 @@ use Rattle.smith_read.specs.Nodes.{shown_core_node}
 use Rattle.smith_read.specs.TypeNodes.{shown_decl_node, shown_type_node}
 use Rattle.smith_read.proofs.ShownNodes.{shown_alias, shown_component, shown_core, shown_core_alias, shown_declared, shown_export, shown_function}
 use Rattle.smith_read.proofs.ShownNodes.{shown_import, shown_instance, shown_values}
-use Rattle.smith_tree.specs.Bodies.{after_decls, core_facts, empty_body, facts, named_in, with_core_facts, with_facts}
+use Rattle.smith_tree.specs.Bodies.{Body, after_decl, after_decls, core_facts, empty_body, facts, named_in, with_core_facts, with_facts}
 use Rattle.smith_syntax.specs.Shown.{shown_defined}
-use Rattle.smith_tree.specs.Facts.{Facts, id_at, members}
-use Rattle.smith_tree.specs.Sizes.{signature_members}
+use Rattle.smith_tree.specs.Facts.{FactScope, Facts, id_at, members}
+use Rattle.smith_tree.specs.Demands.{everything}
 use Rattle.smith_tree.specs.Validates.{names_of}
-use Rattle.smith_syntax.specs.Entries.{component_type, defined, function, instance_type}
-use Rattle.smith_validate.specs.Exact.{IsKeptExactly}
+use Rattle.smith_syntax.specs.Entries.{component_type, defined, instance_type}
+use Rattle.smith_validate.specs.Exact.{IsBodyExactlyNow, IsJudgedExactly, IsKeptExactly}
 use Rattle.smith_validate.specs.Tables.{names_in}
 use Rattle.std.specs.List.{AllZip}
 use Rattle.smith_validate.specs.Bodies.{IsBody, IsFresh}
 use Rattle.smith_validate.specs.Instances.{AreKept}
 use Rattle.smith_validate.specs.Kept.{kept_core, named_at, types_in}
 use Rattle.smith_syntax.specs.Sizes.{capped}
-use Rattle.smith_validate.proofs.DeclSteps.{decls_at, decls_begin, decls_end, decls_exit, decls_judged, decls_last, decls_more}
-use Rattle.smith_validate.proofs.DeclSteps.{last_same, named_kept, scopes_kept}
-use Rattle.smith_validate.proofs.Declaring.{body_alias, body_declared_exactly, declared_component, declared_values, exactly_at, exactly_begin}
-use Rattle.smith_validate.proofs.Declaring.{exactly_judged, exactly_last, exactly_more, exactly_refused, exactly_now}
-use Rattle.smith_validate.proofs.Judging.{export_judged, judged_by, later_none, ok_by, on_by, passed_on, refused_on, refute_by}
+use Rattle.smith_validate.specs.Nested.{IsJudged}
+use Rattle.smith_validate.specs.Outcome.{asking}
+use Rattle.smith_validate.specs.Steps.{Later}
+use Rattle.smith_validate.specs.declared.error.Demand.TheVariants.{Named as Demanded}
+use Rattle.smith_validate.specs.declared.known.Known.{Known}
+use Rattle.smith_validate.proofs.DeclSteps.{decls_all, decls_are, decls_before, decls_row, empty_is, in_entered, judged_is, last_same, named_kept}
+use Rattle.smith_validate.proofs.DeclSteps.{scopes_kept}
+use Rattle.smith_validate.proofs.Declaring.{body_alias, body_declared_exactly, declared_component, declared_values, exactly_begin, exactly_judged}
+use Rattle.smith_validate.proofs.Declaring.{exactly_now, exactly_then}
+use Rattle.smith_validate.proofs.RowSteps.{before_next, usual_at, valid_at, valid_next}
+use Rattle.smith_validate.proofs.Judging.{export_judged, judged_by, later_more, later_none, ok_by, on_by, passed_on, refused_on, refute_by}
 use Rattle.smith_validate.proofs.BodySteps.{body_as}
-use Rattle.smith_validate.proofs.Typing.{alias_zip}
 use Rattle.smith_validate.proofs.TypeSteps.{alias_kept, body_declared, declared_more, declared_now}
 use Rattle.smith_validate.proofs.Valued.{plain_kept}
+use Rattle.smith_validate.proofs.Zips.{zip_within}
 use Rattle.smith_validate.proofs.types.+types.Goals as goal
 
 pub add_decl-returns-in_err-facts-in-Type-clause-judged : goal.add_decl-returns-in_err-facts-in-Type-clause-judged
@@ -151,60 +158,78 @@ add_decl-returns-in-Export-clause-added t c = λ asks b outer names table s.
 
 pub add_decls-loop-decl-init : goal.add_decls-loop-decl-init
 add_decls-loop-decl-init t c =
+    let k = c.args.known.now in
+    let o = c.args.body.now in
     let entered = c.in_ok-enter.ensures {u = tt} in
     record {
       outer = entered.outer;
-      left = λ asks own outer here names table s e f.
-          decls_begin asks own outer _ here names table c.args.known.now _ c.args.body.now s e f entered.own entered.types entered.outer entered.instances;
+      judged = λ asks own outer here names table s e f. (
+        tt,
+        later_none (IsBody asks c.enter.new.self o) empty_body (own ∷ outer) (here ∷ names) table
+            (empty_is asks c.enter.new.self o (own ∷ outer) (here ∷ names) table
+            (in_entered k c.enter.new.self own outer here names table s entered.own entered.types entered.outer entered.instances) e f),
+      );
       exact = λ asks own outer named table h d f u.
-          exactly_begin asks own outer named table _ c.args.known.now _ c.args.body.now h d f u entered.types entered.outer entered.instances;
+          exactly_begin asks own outer named table k c.enter.new.self o h d f entered.types entered.outer entered.instances;
     }
 
 pub add_decls-loop-decl-preserved : goal.add_decls-loop-decl-preserved
 add_decls-loop-decl-preserved t c =
+    let l = c.loop-decl in
+    let ds = c.args.decls.now in
+    let x = c.decl-item.result in
+    let new = c.add_decl.new in
     let done = c.in_ok-add_decl.ensures {u = tt} in
     record {
-      outer = done.outer ∙ c.loop-decl.invariant.outer;
-      left = λ asks own outer here names table s e f.
-          let ns = here ∷ names in
-          let l = decls_at asks own outer ns table c.args.decls.now c.loop-decl.known c.loop-decl.body c.loop-decl.decl-index c.decl-item.result
-          c.loop-decl-test.true c.decl-item.is (c.loop-decl.invariant.left asks own outer here names table s e f) in
-          decls_more asks own outer _ ns table _ _ _ _ l c.add_decl.new.known c.add_decl.new.body
-          (done.judged asks l.b (own ∷ outer) ns (table ++ l.more) l.is)
-          (done.added asks l.b (own ∷ outer) ns (table ++ l.more) l.is);
+      outer = done.outer ∙ l.invariant.outer;
+      judged = λ asks own outer here names table s e f.
+          let (v, m) = l.invariant.judged asks own outer here names table s e f in
+          let r = decls_row asks (own ∷ outer) in
+          let is = decls_are asks (own ∷ outer) in
+          let b = decls_before asks (own ∷ outer) ds l.decl-index in
+          let j = done.judged asks b (own ∷ outer) (here ∷ names) (table ++ m.0) m.1 in
+          let V : Body → Type 0 = λ c. Later (IsBody asks new.known new.body) c (own ∷ outer) (here ∷ names) table in (
+            (valid_next r is shown_decl_node ds empty_body l.decl-index x c.loop-decl-test.true c.decl-item.is everything).1 (v, j),
+            subst V (before_next r is shown_decl_node ds empty_body l.decl-index x c.loop-decl-test.true c.decl-item.is)
+                (later_more (IsBody asks new.known new.body) (after_decl (shown_decl_node x) (own ∷ outer) b) (own ∷ outer) (here ∷ names) table m.0
+                (done.added asks b (own ∷ outer) (here ∷ names) (table ++ m.0) m.1)),
+          );
       exact = λ asks own outer named table h d f u.
-          let l = exactly_at asks own outer named table c.args.decls.now c.loop-decl.known c.loop-decl.body c.loop-decl.decl-index c.decl-item.result
-          c.loop-decl-test.true c.decl-item.is (c.loop-decl.invariant.exact asks own outer named table h d f u) in
-          exactly_more asks own outer named table _ _ _ _ _ l c.add_decl.new.known c.add_decl.new.body
-          (done.exact asks l.b (own ∷ outer) named l.new l.is l.usual.0);
+          let n = l.invariant.exact asks own outer named table h d f u in
+          let r = decls_row asks (own ∷ outer) in
+          let is = decls_are asks (own ∷ outer) in
+          let b = decls_before asks (own ∷ outer) ds l.decl-index in
+          subst (λ c. IsBodyExactlyNow asks new.known new.body c (own ∷ outer) named (id_at (own ∷ outer)) table)
+          (before_next r is shown_decl_node ds empty_body l.decl-index x c.loop-decl-test.true c.decl-item.is)
+          (exactly_then asks l.known new.known l.body new.body b (after_decl (shown_decl_node x) (own ∷ outer) b) (own ∷ outer) named table n
+          (done.exact asks b (own ∷ outer) named n.new n.is
+          (usual_at r is shown_decl_node ds empty_body l.decl-index x c.loop-decl-test.true c.decl-item.is u)));
     }
 
 pub add_decls-returns-in_err-add_decl-clause-judged : goal.add_decls-returns-in_err-add_decl-clause-judged
 add_decls-returns-in_err-add_decl-clause-judged t c = λ asks own outer here names table s e f.
-    let ns = here ∷ names in
-    let l = decls_at asks own outer ns table c.args.decls.now c.loop-decl.known c.loop-decl.body c.loop-decl.decl-index c.decl-item.result
-    c.loop-decl-test.true c.decl-item.is (c.loop-decl.invariant.left asks own outer here names table s e f) in
+    let l = c.loop-decl in
+    let ds = c.args.decls.now in
+    let m = (l.invariant.judged asks own outer here names table s e f).1 in
     passed_on _ _ c.from_residual-in_err-add_decl.ensures.1
-    (decls_exit asks own outer _ ns table _ _ _ _ l ((c.in_err-add_decl.ensures {u = tt}).judged asks l.b (own ∷ outer) ns (table ++ l.more) l.is))
+    (refute_by
+    (λ d. valid_at (decls_row asks (own ∷ outer)) (decls_are asks (own ∷ outer)) shown_decl_node ds empty_body l.decl-index c.decl-item.result
+    c.loop-decl-test.true c.decl-item.is d)
+    ((c.in_err-add_decl.ensures {u = tt}).judged asks (decls_before asks (own ∷ outer) ds l.decl-index) (own ∷ outer) (here ∷ names) (table ++ m.0) m.1))
 
 pub add_decls-returns-clause-judged : goal.add_decls-returns-clause-judged
-add_decls-returns-clause-judged t c = λ asks own outer here names table s e f.
-    decls_end asks own outer _ (here ∷ names) table _ _
-    (decls_last asks own outer (here ∷ names) table c.args.decls.now c.loop-decl.known c.loop-decl.body c.loop-decl.decl-index c.loop-decl-test.false
-    (c.loop-decl.invariant.left asks own outer here names table s e f))
+add_decls-returns-clause-judged t c = grind (arith, take_all)
 
 pub add_decls-returns-clause-added : goal.add_decls-returns-clause-added
 add_decls-returns-clause-added t c = λ asks own outer here names table s e f.
-    decls_judged asks own outer _ (here ∷ names) table _ _
-    (decls_last asks own outer (here ∷ names) table c.args.decls.now c.loop-decl.known c.loop-decl.body c.loop-decl.decl-index c.loop-decl-test.false
-    (c.loop-decl.invariant.left asks own outer here names table s e f))
-    _ refl
+    let l = c.loop-decl in
+    let new : Known = record { scopes = c.leave.new.self; instances = l.known.instances } in
+    subst (λ b. IsJudged asks new l.body b (here ∷ names) table)
+    (decls_all asks (own ∷ outer) c.args.decls.now l.decl-index c.loop-decl-test.false)
+    (judged_is asks l.known new l.body _ (own ∷ outer) (here ∷ names) table (l.invariant.judged asks own outer here names table s e f).1 refl)
 
 pub add_decls-returns-clause-scopes : goal.add_decls-returns-clause-scopes
-add_decls-returns-clause-scopes t c =
-    let back = last_same c.leave.new.self.outer.items c.args.known.now.scopes.outer.items c.leave.new.self.own c.args.known.now.scopes.own
-    (sym c.leave.ensures ∙ c.loop-decl.invariant.outer) in
-    record { own = back.0; outer = back.1 }
+add_decls-returns-clause-scopes t c = grind (arith, last_same)
 
 pub type_facts-returns-in_err-add_decls-in-Component-clause-judged : goal.type_facts-returns-in_err-add_decls-in-Component-clause-judged
 type_facts-returns-in_err-add_decls-in-Component-clause-judged t c = λ own outer here names table s.
@@ -227,11 +252,7 @@ type_facts-returns-in-Func-clause-kept t c = λ own outer here names table s.
     (c.function_facts.ensures.kept (id_at (own ∷ outer)) own.types (here ∷ names) table s.types_are.0))
 
 pub type_facts-returns-in_ok-add_decls-in-Component-clause-judged : goal.type_facts-returns-in_ok-add_decls-in-Component-clause-judged
-type_facts-returns-in_ok-add_decls-in-Component-clause-judged t c = λ own outer here names table s.
-    let fresh = subst (λ r. IsFresh true r) (sym c.new-body.ensures.role) c.new.ensures in
-    rw (c.in-Component.is, shown_component c.in-Component.decls)
-    (rw c.deref.ensures.value at
-    ((c.in_ok-add_decls-in-Component.ensures {u = tt}).judged true own outer here names table s c.new-body.ensures.empty fresh))
+type_facts-returns-in_ok-add_decls-in-Component-clause-judged t c = grind (arith, shown_component)
 
 pub type_facts-returns-in_ok-add_decls-in-Component-clause-size : goal.type_facts-returns-in_ok-add_decls-in-Component-clause-size
 type_facts-returns-in_ok-add_decls-in-Component-clause-size t c = λ own outer here names table s.
@@ -275,29 +296,27 @@ type_facts-returns-in_ok-add_decls-in-Instance-clause-kept t c = λ own outer he
 
 pub add_decls-returns-in_err-add_decl-clause-refused : goal.add_decls-returns-in_err-add_decl-clause-refused
 add_decls-returns-in_err-add_decl-clause-refused t c = λ asks own outer named table h d f u.
-    let l = exactly_at asks own outer named table c.args.decls.now c.loop-decl.known c.loop-decl.body c.loop-decl.decl-index c.decl-item.result
-    c.loop-decl-test.true c.decl-item.is (c.loop-decl.invariant.exact asks own outer named table h d f u) in
+    let l = c.loop-decl in
+    let ds = c.args.decls.now in
+    let x = c.decl-item.result in
+    let n = l.invariant.exact asks own outer named table h d f u in
+    let r = decls_row asks (own ∷ outer) in
+    let is = decls_are asks (own ∷ outer) in
     refused_on _ _ c.from_residual-in_err-add_decl.ensures.1
-    (λ e. exactly_refused asks own outer named table _ _ _ _ _ l
-    ((c.in_err-add_decl.ensures {u = tt}).refused asks l.b (own ∷ outer) named l.new l.is l.usual.0 e))
+    (λ e q. (c.in_err-add_decl.ensures {u = tt}).refused asks (decls_before asks (own ∷ outer) ds l.decl-index) (own ∷ outer) named n.new n.is
+    (usual_at r is shown_decl_node ds empty_body l.decl-index x c.loop-decl-test.true c.decl-item.is u) e
+    (valid_at r is shown_decl_node ds empty_body l.decl-index x c.loop-decl-test.true c.decl-item.is (asking Demanded) q).0)
 
 pub add_decls-returns-clause-exact : goal.add_decls-returns-clause-exact
 add_decls-returns-clause-exact t c = λ asks own outer named table h d f u.
-    exactly_judged asks own outer named table _ _ _
-    (exactly_last asks own outer named table c.args.decls.now c.loop-decl.known c.loop-decl.body c.loop-decl.decl-index c.loop-decl-test.false
-    (c.loop-decl.invariant.exact asks own outer named table h d f u))
-    _ refl
+    let l = c.loop-decl in
+    let new : Known = record { scopes = c.leave.new.self; instances = l.known.instances } in
+    subst (λ b. IsJudgedExactly asks new l.body b (own ∷ outer) named table)
+    (decls_all asks (own ∷ outer) c.args.decls.now l.decl-index c.loop-decl-test.false)
+    (exactly_judged asks l.known new l.body _ (own ∷ outer) named table (l.invariant.exact asks own outer named table h d f u) refl)
 
 pub add_decl-returns-in_ok-facts-in-Core-clause-exact : goal.add_decl-returns-in_ok-facts-in-Core-clause-exact
-add_decl-returns-in_ok-facts-in-Core-clause-exact t c = λ asks b outer named table h usual.
-    let k = c.args.known.now in
-    let o = c.args.body.now in
-    rw (c.in-Core.is, shown_core c.in-Core.ty)
-    (on_by c.add_core_type.result
-    (λ types. body_as asks k o b outer named table h c.add_core_type.new.known c.add_core_type.new.body c.add_core_type.ensures.leaves.beside.outer
-    c.add_core_type.ensures.leaves.role
-    (with_core_facts b (core_facts (shown_core_node c.in-Core.ty) b.own ∷ [])) types c.add_core_type.ensures.leaves.beside.instances refl refl refl)
-    c.add_core_type.ensures.types)
+add_decl-returns-in_ok-facts-in-Core-clause-exact t c = grind (arith, shown_core, on_by, body_as)
 
 pub add_decl-returns-in_ok-facts-in-Type-clause-exact : goal.add_decl-returns-in_ok-facts-in-Type-clause-exact
 add_decl-returns-in_ok-facts-in-Type-clause-exact t c = λ asks b outer named table h usual.
@@ -319,7 +338,7 @@ add_decl-returns-in-TypeAlias-clause-exact t c = λ asks b outer named table h u
     let R = IsKeptExactly table (id_at (b.own ∷ outer)) ((names_of b.exports ++ named) ++ names_in table) in
     let zip : AllZip R (option_to_list c.type_named-facts.result) (option_to_list f) =
     subst (λ o. AllZip R (option_to_list o) (option_to_list f)) (sym c.type_named-facts.ensures.facts)
-    (alias_zip R (types_in k) (b.own ∷ outer) count i h.known.types_are) in
+    (zip_within R (λ ks. ks) (λ (s : FactScope). s.types) (types_in k) (b.own ∷ outer) count i h.known.types_are) in
     rw (c.in-TypeAlias.is, shown_alias count i)
     (on_by c.add_named.result
     (λ types. body_alias asks k c.args.body.now b outer named table h c.add_named.new.known c.add_named.new.body c.add_named.ensures.leaves.beside.outer
@@ -327,32 +346,13 @@ add_decl-returns-in-TypeAlias-clause-exact t c = λ asks b outer named table h u
     c.add_named.ensures.types)
 
 pub add_decl-returns-in-CoreTypeAlias-clause-exact : goal.add_decl-returns-in-CoreTypeAlias-clause-exact
-add_decl-returns-in-CoreTypeAlias-clause-exact t c = λ asks b outer named table h usual.
-    let count = c.in-CoreTypeAlias.count in
-    let i = c.in-CoreTypeAlias.index in
-    rw (c.in-CoreTypeAlias.is, shown_core_alias count i)
-    (on_by c.add_core_named.result
-    (λ types. body_as asks c.args.known.now c.args.body.now b outer named table h c.add_core_named.new.known c.add_core_named.new.body
-    c.add_core_named.ensures.leaves.beside.outer c.add_core_named.ensures.leaves.role
-    (with_core_facts b (option_to_list (named_in (λ o. o.core_types) (b.own ∷ outer) count i))) types c.add_core_named.ensures.leaves.beside.instances refl
-    refl refl)
-    c.add_core_named.ensures.types)
+add_decl-returns-in-CoreTypeAlias-clause-exact t c = grind (arith, shown_core_alias, on_by, body_as)
 
 pub add_decl-returns-in-Import-clause-exact : goal.add_decl-returns-in-Import-clause-exact
-add_decl-returns-in-Import-clause-exact t c = λ asks b outer named table h usual.
-    let name = string_bytes c.in-Import.name in
-    let to = c.in-Import.to in
-    rw (c.in-Import.is, shown_import c.in-Import.name c.in-Import.to)
-    (on_by c.add_import.result
-    (λ n. exactly_now asks c.args.known.now c.add_import.new.body _ outer named (id_at (b.own ∷ outer)) table n)
-    (c.add_import.ensures.exact asks b outer named table h (rw (c.in-Import.is, shown_import c.in-Import.name c.in-Import.to) at usual)))
+add_decl-returns-in-Import-clause-exact t c = grind (arith, shown_import, on_by, exactly_now)
 
 pub add_decl-returns-in-Export-clause-exact : goal.add_decl-returns-in-Export-clause-exact
-add_decl-returns-in-Export-clause-exact t c = λ asks b outer named table h usual.
-    rw (c.in-Export.is, shown_export c.in-Export.name c.in-Export.to)
-    (on_by c.add_export.result
-    (λ n. exactly_now asks c.add_export.new.known c.add_export.new.body _ outer named (id_at (b.own ∷ outer)) table n)
-    (c.add_export.ensures.exact asks b outer named table h))
+add_decl-returns-in-Export-clause-exact t c = grind (arith, shown_export, on_by, exactly_now)
 
 pub type_facts-returns-in-Defined-clause-exact : goal.type_facts-returns-in-Defined-clause-exact
 type_facts-returns-in-Defined-clause-exact t c = λ own outer named table h d usual.
@@ -364,13 +364,7 @@ type_facts-returns-in-Defined-clause-exact t c = λ own outer named table h d us
     c.defined_facts.ensures.marks)
 
 pub type_facts-returns-in-Func-clause-exact : goal.type_facts-returns-in-Func-clause-exact
-type_facts-returns-in-Func-clause-exact t c = λ own outer named table h d usual.
-    let u = rw (c.in-Func.is, shown_function c.in-Func.ty) at usual in
-    let f = facts (function c.in-Func.ty) own outer in
-    rw (c.in-Func.is, shown_function c.in-Func.ty)
-    (ok_by c.function_facts.result
-    (λ g m. declared_values c.args.known.now own outer named table h g f (signature_members c.in-Func.ty) u m refl refl refl)
-    c.function_facts.ensures.marks)
+type_facts-returns-in-Func-clause-exact t c = grind (arith, shown_function, ok_by, declared_values)
 
 pub type_facts-returns-in_ok-add_decls-in-Component-clause-exact : goal.type_facts-returns-in_ok-add_decls-in-Component-clause-exact
 type_facts-returns-in_ok-add_decls-in-Component-clause-exact t c = λ own outer named table h d usual.
@@ -383,13 +377,7 @@ type_facts-returns-in_ok-add_decls-in-Component-clause-exact t c = λ own outer 
     (declared_component true _ _ (after_decls ds (own ∷ outer) empty_body) own outer named table _ (facts (component_type ds) own outer) j refl refl refl refl)
 
 pub type_facts-returns-in_err-add_decls-in-Component-clause-refused : goal.type_facts-returns-in_err-add_decls-in-Component-clause-refused
-type_facts-returns-in_err-add_decls-in-Component-clause-refused t c = λ own outer named table h d usual.
-    let u = rw (c.in-Component.is, shown_component c.in-Component.decls) at usual in
-    let fresh = subst (λ r. IsFresh true r) (sym c.new-body.ensures.role) c.new.ensures in
-    rw (c.in-Component.is, shown_component c.in-Component.decls)
-    (refused_on _ _ c.from_residual.ensures.1
-    ((rw c.deref.ensures.value at
-    ((c.in_err-add_decls-in-Component.ensures {u = tt}).refused true own outer named table h d fresh)) u))
+type_facts-returns-in_err-add_decls-in-Component-clause-refused t c = grind (arith, shown_component, refused_on)
 
 pub type_facts-returns-in_err-add_decls-in-Instance-clause-judged : goal.type_facts-returns-in_err-add_decls-in-Instance-clause-judged
 type_facts-returns-in_err-add_decls-in-Instance-clause-judged t c = λ own outer here names table s.

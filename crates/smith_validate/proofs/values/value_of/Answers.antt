@@ -1,19 +1,13 @@
-use Rattle.std.proofs.Common.{ap, sym, ◌∙◌}
-use Rattle.std.specs.Prelude.{slice_get}
-use Rattle.smith_syntax.specs.Sizes.{capped}
+use Rattle.std.proofs.Common.{arith, ◌∙◌}
 use Rattle.smith_validate.proofs.ScopeSteps.{size_found, size_missing}
 use Rattle.smith_validate.proofs.Valued.{value_found, value_missing}
 use Rattle.smith_validate.proofs.values.value_of.Goals as goal
 
 pub returns-in-Some-clause-size : goal.returns-in-Some-clause-size
-returns-in-Some-clause-size c = λ own k.
-    rw (c.in-Indexed.is)
-    (size_found own.types c.in-Indexed.index 1 c.in-Some.facts.size (c.in-Some.ensures.size ∙ ap (λ o. slice_get o.types c.in-Indexed.index) k))
+returns-in-Some-clause-size c = grind (arith, size_found)
 
 pub returns-in-None-clause-size : goal.returns-in-None-clause-size
-returns-in-None-clause-size c = λ own k.
-    rw (c.in-Indexed.is)
-    (sym (ap capped (size_missing own.types c.in-Indexed.index 1 (c.in-None.ensures.size ∙ ap (λ o. slice_get o.types c.in-Indexed.index) k))))
+returns-in-None-clause-size c = grind (arith, size_missing)
 
 pub returns-in-Some-clause-needs : goal.returns-in-Some-clause-needs
 returns-in-Some-clause-needs c = λ types names table are.

@@ -8,5 +8,5 @@ returns-in_ok-offset-in-Invalid c =
     let t = shown_tree c.args.component.now in
     let short = rw c.in-Invalid.is at (c.in_ok-validated.ensures {u = tt}) in
     let formed = (c.in_ok-verdict.ensures {u = tt}).formed (search rules) in
-    found_short c.args.bytes.now t c.in-Invalid.shortfall.demand _ _ _ c.requires.spelled formed short
-    (rw c.deref.ensures.value at ((c.in_ok-offset-in-Invalid.ensures {u = tt}).found t c.requires.shallow c.requires.spelled))
+    found_short c.args.bytes.now t c.in-Invalid.shortfall.demand _ _ c.requires.spelled formed short
+    ((c.in_ok-offset-in-Invalid.ensures {u = tt}).found t c.requires.shallow c.requires.spelled)

@@ -1,22 +1,15 @@
 use Rattle.std.proofs.Common.{refl}
 use Rattle.smith_format.specs.Shown.{shown_func}
 use Rattle.smith_syntax.specs.Entries.{aliases, declares}
-use Rattle.smith_check.proofs.ModuleSteps.{export_held, export_judged, import_held, import_judged, quiet_held, quiet_new}
+use Rattle.smith_check.proofs.ModuleSteps.{export_judged, import_judged, quiet_new}
 use Rattle.smith_check.proofs.modules.ModuleNames.add.Goals as goal
 
 pub returns-in-Func-clause-judged : goal.returns-in-Func-clause-judged
 returns-in-Func-clause-judged c = λ before h n. rw c.in-Func.is (quiet_new before (declares (shown_func c.in-Func._ty)) refl refl n)
 
-pub returns-in-Func-clause-added : goal.returns-in-Func-clause-added
-returns-in-Func-clause-added c = λ before h. rw c.in-Func.is (quiet_held before (declares (shown_func c.in-Func._ty)) refl refl c.args.self.now h)
-
 pub returns-in-OuterAlias-clause-judged : goal.returns-in-OuterAlias-clause-judged
 returns-in-OuterAlias-clause-judged c = λ before h n.
     rw c.in-OuterAlias.is (quiet_new before (aliases c.in-OuterAlias._count c.in-OuterAlias._index) refl refl n)
-
-pub returns-in-OuterAlias-clause-added : goal.returns-in-OuterAlias-clause-added
-returns-in-OuterAlias-clause-added c = λ before h.
-    rw c.in-OuterAlias.is (quiet_held before (aliases c.in-OuterAlias._count c.in-OuterAlias._index) refl refl c.args.self.now h)
 
 pub returns-in-Import-clause-judged : goal.returns-in-Import-clause-judged
 returns-in-Import-clause-judged c = λ before h n.
@@ -24,20 +17,8 @@ returns-in-Import-clause-judged c = λ before h n.
     c.add_import.ensures.fresh c.add_import.ensures.refused in
     rw c.in-Import.is (rw (c.deref.ensures, c.deref-in-Import.ensures) at j)
 
-pub returns-in-Import-clause-added : goal.returns-in-Import-clause-added
-returns-in-Import-clause-added c = λ before h.
-    let j = import_held c.add_import.result c.args.self.now c.add_import.new.self c.deref.result c.deref-in-Import.result c.in-Import._entity before h
-    c.add_import.ensures.added c.add_import.ensures.exports in
-    rw c.in-Import.is (rw (c.deref.ensures, c.deref-in-Import.ensures) at j)
-
 pub returns-in-Export-clause-judged : goal.returns-in-Export-clause-judged
 returns-in-Export-clause-judged c = λ before h n.
     rw c.in-Export.is
     (export_judged c.add_new.result c.args.self.now _ c.in-Export._entity before n
     (rw c.deref-in-Export.ensures at (c.add_new.ensures.judged _ h.exports n.exported)))
-
-pub returns-in-Export-clause-added : goal.returns-in-Export-clause-added
-returns-in-Export-clause-added c = λ before h.
-    rw c.in-Export.is
-    (export_held c.add_new.result c.args.self.now _ _ c.in-Export._entity before h
-    (rw c.deref-in-Export.ensures at (c.add_new.ensures.added _ h.exports)) refl)

@@ -1,36 +1,20 @@
-use Rattle.std.proofs.Common.{◌≡◌, Some, true, sym, subst}
-use Rattle.smith_input.specs.declared.error.Error.{Error}
-use Rattle.smith_input.specs.declared.error.Error.TheVariants.{MinimumNotMet}
+use Rattle.std.proofs.Common.{arith, ◌≡◌, Some, true, sym, subst}
 use Rattle.smith_component.specs.Building.{Building}
 use Rattle.smith_component.specs.BuilderView.{building_of, stack_of}
-use Rattle.smith_component.specs.Refusals.{IsStepRefusal}
 use Rattle.smith_component.specs.Steps.{next_of, step_of, IsTurn, SoundUnlessDone}
 use Rattle.smith_component.specs.Turn.{Turn}
 use Rattle.smith_component.proofs.Finishing.{refused}
 use Rattle.smith_component.proofs.Refusals.{never_minimum}
 use Rattle.smith_component.proofs.RunsTo.{open_few}
-use Rattle.smith_component.proofs.Stepped.{read_after, step_after, step_validates}
+use Rattle.smith_component.proofs.RunsReadable.{read_after, step_after, step_validates}
 use Rattle.smith_component.proofs.Turn.{falls}
 use Rattle.smith_component.proofs.builder.Builder.step.Goals as goal
 
 pub returns-in_err-done-clause-refusals : goal.returns-in_err-done-clause-refusals
-returns-in_err-done-clause-refusals c =
-    let b = c.self.inside.progress in
-    let i = c.self.invariant.sound in
-    let e = c.in_err-done.ensures in
-    let P : Error → Type 0 = λ x. IsStepRefusal b.config (stack_of b) c.args.u.now x c.turn.new.u in
-    rw (← c.self.view_is) (record {
-      refuses = refused _ _ P c.from_residual.ensures.1 e.refuses;
-      alone = λ ready. absurd (e.alone ready);
-      fills = λ can. refused _ _ (λ x. x ≡ MinimumNotMet → ⊥) c.from_residual.ensures.1
-          (never_minimum b.config (stack_of b) c.args.u.now c.turn.new.u i.0.sound i.1.0.tabled.grounded can _ e.refuses);
-    })
+returns-in_err-done-clause-refusals c = grind (arith, refused, never_minimum)
 
 pub returns-in-None-clause-steps : goal.returns-in-None-clause-steps
-returns-in-None-clause-steps c =
-    let b = c.self.inside.progress in
-    let turn = subst (λ d. IsTurn (building_of b) c.args.u.now (step_of c.turn.new.self d) c.turn.new.u) c.in-None.is c.in_ok-done.ensures.steps in
-    rw (← c.self.view_is) (step_after (building_of b) c.args.u.now _ c.turn.new.u c.self.invariant.so_far turn)
+returns-in-None-clause-steps c = grind (arith, step_after)
 
 pub returns-in-Some-clause-steps : goal.returns-in-Some-clause-steps
 returns-in-Some-clause-steps c =

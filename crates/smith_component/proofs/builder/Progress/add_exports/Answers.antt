@@ -12,26 +12,22 @@ use Rattle.smith_types.specs.MakingTypes.{HoldsExterns}
 use Rattle.smith_scopes.specs.Scopes.{own_marked, own_scope}
 use Rattle.smith_component.specs.BuilderView.{IsSound, stack_of}
 use Rattle.smith_component.specs.Exports.{NoExport, ReadsExport, ReadsExports}
-use Rattle.smith_component.specs.ExportsState.{ExportsState}
+use Rattle.smith_component.specs.SectionsState.{ExportsState}
 use Rattle.smith_tree.specs.Open.{Open, with_inner}
 use Rattle.smith_component.specs.SectionValues.{externs_of}
-use Rattle.smith_component.specs.Shown.{shown_sections}
 use Rattle.smith_tree.specs.Shown.{shown_export}
 use Rattle.smith_component.specs.Sound.{Sound}
 use Rattle.smith_tree.specs.Spaces.{types_of}
-use Rattle.smith_component.specs.Tables.{IsTabled, Tabled}
-use Rattle.smith_tree.specs.Tree.{ExportEntry, Tree, exports, exports_in, exports_of}
-use Rattle.smith_tree.specs.Offers.{with_exports}
+use Rattle.smith_tree.specs.Tree.{ExportEntry, Tree, exports, exports_of}
 use Rattle.smith_component.specs.declared.component.Section.{Section}
 use Rattle.smith_tree.specs.WellFormed.{scope_of}
 use Rattle.smith_component.specs.declared.builder.Progress.{Progress}
-use Rattle.smith_component.specs.declared.builder.tables.Tables.{Tables}
 use Rattle.smith_component.specs.declared.component.Section.TheVariants.{Exports}
 use Rattle.smith_tree.specs.declared.choices.Item.TheVariants as item
 use Rattle.smith_component.proofs.Growth.{functions_counted, spaces-add}
 use Rattle.smith_component.proofs.Items.{grown_does, grows, part_added}
 use Rattle.smith_component.proofs.ReadsExports.{exports_addable}
-use Rattle.smith_component.proofs.SectionValues.{externs_push}
+use Rattle.smith_component.proofs.SectionValues.{externs_push, tabled_as}
 use Rattle.smith_component.proofs.Sound.{own_limits_of, part_sound, totalled_part}
 use Rattle.smith_component.proofs.Tables.{own_bare, tabled_quiet}
 use Rattle.smith_component.proofs.Tree.{function_count-add}
@@ -43,15 +39,7 @@ names_held b i = i.1.0.tabled.exports.size ∙ length-map (exports_of (stack_of 
 
 -- before the first export
 first : (b : Progress) → IsSound b → ExportsState b.config (stack_of b).outer (stack_of b).inner [] (own_marked b.scopes) b.inner.tables
-first b i =
-    let inner : Tree = (stack_of b).inner in
-    let e = spaces-add inner (exports []) in
-    record {
-      scope_is = ap first_marked i.0.scopes_are ∙ sym (marked_add b.config (marked_in b.config (stack_of b).outer) inner (exports []));
-      tabled =
-          tabled_quiet inner (with_exports inner []) i.1.0.tabled (ap (λ z. z.types) e) (ap (λ z. z.functions) e) (ap (λ z. z.core_functions) e)
-          (omega (arith, function_count-add inner (exports []))) (own_bare exports_in inner (exports []) refl);
-    }
+first b i = grind (arith, spaces-add, marked_add, tabled_quiet, function_count-add, own_bare)
 
 pub overflow_sub-room : goal.overflow_sub-room
 overflow_sub-room c =
@@ -105,12 +93,7 @@ returns-clause-does c =
     (part_sound b.config stack (exports es) (exports_addable b.config stack i.0.sound reads) i.0.sound) in
     let totalled = totalled_part b.config stack.outer stack.inner _ b.totals b.totals (exports es) refl new (omega arith) (omega arith) (omega arith)
     i.0.totalled in
-    let tabled : IsTabled c.push.new.self = record {
-      tabled = subst (λ tb. Tabled tb (shown_sections c.push.new.self.sections.items)) (sym c.push.ensures.tables)
-          (subst (Tabled c.read_exports.new.tables) (sym new) after.tabled);
-      externs = subst (λ (tb : Tables). HoldsExterns tb.imports (externs_of c.push.new.self.sections.items)) (sym c.push.ensures.tables)
-          (subst (HoldsExterns c.read_exports.new.tables.imports) (sym same) held);
-    } in
+    let tabled = tabled_as c.push.new.self c.read_exports.new.tables _ _ c.push.ensures.tables new same after.tabled held in
     let grown = grows b scopes b.totals c.push.new.self (section ∷ []) i c.in_ok-push.ensures.items sound own c.in_ok-exports.ensures.around totalled tabled in
     grown_does item.Exports b made c.args.u.now c.read_exports.new.u grown
     (es, reads, part_added b made section (record { grows = grown; last = c.in_ok-push.ensures.items })) tt

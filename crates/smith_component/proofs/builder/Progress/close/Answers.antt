@@ -1,4 +1,4 @@
-use Rattle.std.proofs.Common.{◌≡◌, ◌++◌, ◌∷◌, [], List, map, sym, subst, ap, ◌∙◌, refl, arith, length, length-append, append-nil, inl}
+use Rattle.std.proofs.Common.{◌≡◌, ◌++◌, ◌∷◌, [], List, map, sym, subst, ap, ◌∙◌, refl, arith, length, length-append, append-nil}
 use Rattle.std.proofs.lemmas.List.{map-append}
 use Rattle.std.specs.List.{AllByRecursion}
 use Rattle.smith_scopes.specs.Scopes.{last_of}
@@ -8,14 +8,12 @@ use Rattle.smith_tree.specs.Marking.{marked_in, marked_inner}
 use Rattle.smith_tree.proofs.Marking.{marked_add}
 use Rattle.smith_component.specs.Shown.{shown_sections}
 use Rattle.smith_component.specs.Sound.{Sound}
-use Rattle.smith_component.specs.Turn.{answered}
 use Rattle.smith_tree.specs.Tree.{Tree, add, component}
 use Rattle.smith_component.specs.declared.builder.open.OpenComponent.{OpenComponent}
 use Rattle.smith_component.specs.declared.component.Section.{Section}
 use Rattle.smith_component.specs.declared.component.Section.TheVariants.{Component as inner_section}
-use Rattle.smith_component.proofs.Shown.{none_open, outer_popped, trees_of}
+use Rattle.smith_component.proofs.SectionValues.{none_open, outer_popped, trees_of, is_tabled_added}
 use Rattle.smith_component.proofs.Sound.{root_kept, sound_close, totalled_close, closes, marked_in-snoc, length-marked_from, same_tail}
-use Rattle.smith_component.proofs.SectionValues.{is_tabled_added}
 use Rattle.smith_scopes.proofs.Plain.{all_back, all_front}
 use Rattle.smith_component.proofs.builder.Progress.close.Goals as goal
 
@@ -92,13 +90,4 @@ returns-in_ok-push-in-Some-clause-closes c =
     }
 
 pub returns-in-None-clause-closes : goal.returns-in-None-clause-closes
-returns-in-None-clause-closes c =
-    let b = c.args.self.now in
-    let is = c.of.ensures ∙ ap (λ v. shown_sections v.items) c.replace-root.ensures.value in
-    let alone : length b.outer.items ≡ 0 = omega (arith, b.outer.ok.0, c.in-None.ensures.cases.0) in
-    record {
-      closes = inl (none_open _ alone, ap answered is);
-      sound = tt;
-      keeps = root_kept _ _ _ c.of.result (none_open _ alone) (sym is) c.requires.minima c.requires.sound.0.sound;
-      sections = (none_around b.outer.items alone, [], is ∙ ap shown_sections (sym (append-nil b.inner.sections.items)));
-    }
+returns-in-None-clause-closes c = grind (arith, closes, none_open, root_kept, none_around, append-nil)

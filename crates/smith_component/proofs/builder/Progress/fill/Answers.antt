@@ -1,5 +1,4 @@
-use Rattle.std.proofs.Common.{◌≡◌, ◌≤◌, ◌<◌, List, ℕ, sym, subst, ◌∙◌, length}
-use Rattle.smith_input.proofs.Reading.{tail_trans}
+use Rattle.std.proofs.Common.{arith, ◌≡◌, ◌≤◌, ◌<◌, List, ℕ, sym, subst, ◌∙◌, length}
 use Rattle.smith_input.specs.declared.error.Error.{Error}
 use Rattle.smith_format.specs.declared.config.Config.{Config}
 use Rattle.smith_component.specs.BuilderView.{building_of, stack_of}
@@ -32,13 +31,6 @@ returns-in_err-check_minimum-clause-refuses c =
     let P : Error → Type 0 = λ x. IsFillRefusal v.config (open_of v) c.args.u.now x c.fill_one-2.new.u in
     refused _ _ P c.from_residual-in_err-check_minimum.ensures.1 (subst P (sym e.0) (of_imports t.filled filled few))
 
-pub returns-in_err-check_minimum-clause-tail : goal.returns-in_err-check_minimum-clause-tail
-returns-in_err-check_minimum-clause-tail c = tail_trans c.in_ok-fill_one-2.ensures.input.tail c.in_ok-fill_one.ensures.input.tail
-
-pub returns-in_err-fill_one-3-clause-tail : goal.returns-in_err-fill_one-3-clause-tail
-returns-in_err-fill_one-3-clause-tail c =
-    tail_trans c.in_err-fill_one-3.ensures.input.tail (tail_trans c.in_ok-fill_one-2.ensures.input.tail c.in_ok-fill_one.ensures.input.tail)
-
 pub returns-in_err-check_minimum-2-clause-refuses : goal.returns-in_err-check_minimum-2-clause-refuses
 returns-in_err-check_minimum-2-clause-refuses c =
     let v = building_of c.args.self.now in
@@ -57,43 +49,10 @@ returns-in_err-check_minimum-2-clause-refuses c =
     let P : Error → Type 0 = λ x. IsFillRefusal v.config (open_of v) c.args.u.now x c.fill_one-3.new.u in
     refused _ _ P c.from_residual-in_err-check_minimum-2.ensures.1 (subst P (sym e.0) (of_functions t.filled is enough fs few))
 
-pub returns-in_err-check_minimum-2-clause-tail : goal.returns-in_err-check_minimum-2-clause-tail
-returns-in_err-check_minimum-2-clause-tail c = tail_trans c.in_ok-fill_one-3.ensures.input.tail
-    (tail_trans c.in_ok-fill_one-2.ensures.input.tail c.in_ok-fill_one.ensures.input.tail)
-
 -- all that is filled, at the end
 all_filled : (c : goal.In_ok-check_minimum-2) → FillsAll c.args.self.now.config (stack_of c.args.self.now) c.args.u.now (stack_of c.fill_one-3.new.self).inner
     c.fill_one-3.new.u
-all_filled c =
-    let v = building_of c.args.self.now in
-    let typed = building_of c.fill_one.new.self in
-    let imported = building_of c.fill_one-2.new.self in
-    let full = building_of c.fill_one-3.new.self in
-    let t = c.in_ok-fill_one.ensures in
-    let i = c.in_ok-fill_one-2.ensures in
-    let f = c.in_ok-fill_one-3.ensures in
-    let is = from_first counted.Imports v typed t.grows.keeps t.grows.sections.outer i.filled in
-    let fs = from_first counted.Functions v imported (i.grows.keeps ∙ t.grows.keeps) (i.grows.sections.outer ∙ t.grows.sections.outer) f.filled in
-    record {
-      typed = (open_of typed).inner;
-      mid = c.fill_one.new.u;
-      imported = (open_of imported).inner;
-      low = c.fill_one-2.new.u;
-      types = t.filled;
-      imports = is;
-      enough_imports = subst (λ (k : Config). k.min_imports ≤ length (imports_of (open_of imported).inner)) (i.grows.keeps ∙ t.grows.keeps)
-          c.in_ok-check_minimum.ensures;
-      functions = fs;
-      enough_functions = subst (λ (k : Config). k.min_funcs ≤ function_count (open_of full).inner) (f.grows.keeps ∙ (i.grows.keeps ∙ t.grows.keeps))
-          c.in_ok-check_minimum-2.ensures;
-    }
+all_filled c = grind (arith, from_first)
 
 pub returns-clause-fills : goal.returns-clause-fills
-returns-clause-fills c = record {
-  filled = all_filled c;
-  minima = filled_minima _ _ _ _ _ c.requires.sound.0.sound.consistent (all_filled c);
-  grows = grows_trans c.in_ok-fill_one.ensures.grows (grows_trans c.in_ok-fill_one-2.ensures.grows c.in_ok-fill_one-3.ensures.grows);
-}
-
-pub returns-clause-tail : goal.returns-clause-tail
-returns-clause-tail c = tail_trans c.in_ok-fill_one-3.ensures.input.tail (tail_trans c.in_ok-fill_one-2.ensures.input.tail c.in_ok-fill_one.ensures.input.tail)
+returns-clause-fills c = grind (arith, all_filled, filled_minima, grows_trans)

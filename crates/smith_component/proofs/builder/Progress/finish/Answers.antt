@@ -1,14 +1,9 @@
-use Rattle.std.proofs.Common.{sym, subst}
-use Rattle.smith_format.specs.declared.config.Config.{Config}
-use Rattle.smith_component.specs.BuilderView.{stack_of}
-use Rattle.smith_tree.specs.Limits.{Minima}
+use Rattle.std.proofs.Common.{arith}
 use Rattle.smith_component.proofs.Items.{finish_does}
 use Rattle.smith_component.proofs.builder.Progress.finish.Goals as goal
 
 pub close-requires : goal.close-requires
-close-requires c =
-    let f = c.in_ok-fill.ensures.fills in
-    record { sound = f.grows.sound; minima = subst (λ (k : Config). Minima k (stack_of c.fill.new.self).inner) (sym f.grows.keeps) f.minima }
+close-requires c = grind arith
 
 pub returns-clause-does : goal.returns-clause-does
 returns-clause-does c =

@@ -13,17 +13,13 @@ use Rattle.smith_component.specs.Tables.{IsTabled}
 use Rattle.smith_component.specs.Turn.{building}
 use Rattle.smith_component.specs.declared.builder.open.OpenComponent.{OpenComponent}
 use Rattle.smith_component.specs.declared.component.Section.{Section}
-use Rattle.smith_component.proofs.Shown.{outer_popped, trees_of}
+use Rattle.smith_component.proofs.SectionValues.{outer_popped, trees_of}
 use Rattle.smith_component.proofs.Sound.{sound_open, totalled_open, component_offered_is, marked_in-snoc}
 use Rattle.smith_scopes.proofs.Plain.{all_both}
 use Rattle.smith_component.proofs.builder.Progress.open_component.Goals as goal
 
 pub overflow_add-self : goal.overflow_add-self
-overflow_add-self c =
-    let b = c.args.self.now in
-    let stack = stack_of b in
-    let o = component_offered_is b.config stack c.requires.offered in
-    omega (arith, o.1, c.requires.sound.0.totalled.components, c.requires.sound.0.sound.consistent.components)
+overflow_add-self c = grind (arith, component_offered_is)
 
 pub returns-clause-does : goal.returns-clause-does
 returns-clause-does c bytes =

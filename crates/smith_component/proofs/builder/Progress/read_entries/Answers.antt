@@ -1,38 +1,28 @@
-use Rattle.std.proofs.Common.{List, subst, refl, arith, rules}
+use Rattle.std.proofs.Common.{List, subst, arith, rules}
 use Rattle.smith_input.proofs.Loops.{begins, stops, ends_full, goes_on}
-use Rattle.smith_input.proofs.Reading.{tail_same, tail_trans, more_tail}
+use Rattle.smith_input.proofs.Reading.{tail_same}
 use Rattle.smith_syntax.specs.Marked.{Marked}
 use Rattle.smith_scopes.specs.Scopes.{own_marked}
 use Rattle.smith_scopes.proofs.Stack.{length-inward_marked}
-use Rattle.smith_component.proofs.EntriesState.{around_then}
+use Rattle.smith_component.proofs.SectionsState.{around_then}
+use Rattle.smith_component.proofs.Loops.{turn_left}
 use Rattle.smith_component.proofs.Sound.{scopes_few}
 use Rattle.smith_component.proofs.builder.Progress.read_entries.Goals as goal
 
 pub loop-done-init : goal.loop-done-init
-loop-done-init g c = record {
-  tail = tail_same c.args.u.now;
-  count = omega arith;
-  around = record { outer = refl; depth = refl };
-  onward = begins _ _ _ _ _ _ _ c.new-entries.ensures.items;
-}
+loop-done-init g c = grind (arith, tail_same, begins)
 
 pub returns-then-not-more-clause-entries : goal.returns-then-not-more-clause-entries
 returns-then-not-more-clause-entries g c = stops _ _ _ _ _ _ _ _ _ _ _ _ c.if-not-more.true c.more.ensures c.loop-done.invariant.onward
 
-pub returns-then-not-more-clause-scopes : goal.returns-then-not-more-clause-scopes
-returns-then-not-more-clause-scopes g c = record { only = refl; around = c.loop-done.invariant.around }
-
 pub returns-in_err-push-clause-input : goal.returns-in_err-push-clause-input
 returns-in_err-push-clause-input g c = record {
-  tail = tail_trans c.read.ensures.input.tail (tail_trans (more_tail c.more.ensures) c.loop-done.invariant.tail);
+  tail = turn_left c.read.ensures.input.tail c.more.ensures c.loop-done.invariant.tail;
   memory = search rules;
 }
 
 pub returns-clause-entries : goal.returns-clause-entries
 returns-clause-entries g c = ends_full _ _ _ _ _ _ _ _ _ _ c.loop-done-test.false c.loop-done.invariant.onward
-
-pub returns-clause-scopes : goal.returns-clause-scopes
-returns-clause-scopes g c = record { only = refl; around = c.loop-done.invariant.around }
 
 pub read-requires : goal.read-requires
 read-requires g c =
@@ -56,20 +46,8 @@ loop-done-preserved g c =
     let R : List Marked → Type 0 = λ o. E.reads c.args.self.now.config o (own_marked c.loop-done.scopes) c.more.new.self entry c.read.new.u
     (own_marked c.read.new.scopes) in
     record {
-      tail = tail_trans c.read.ensures.input.tail (tail_trans (more_tail c.more.ensures) i.tail);
+      tail = turn_left c.read.ensures.input.tail c.more.ensures i.tail;
       count = omega (arith, e.count, i.count);
       around = around_then i.around e.around;
       onward = goes_on _ _ _ _ _ _ _ _ _ _ _ _ _ _ _ _ c.if-not-more.false c.more.ensures (subst R i.around.outer e.read) c.in_ok-push.ensures.items i.onward;
     }
-
-pub returns-then-not-more-clause-input : goal.returns-then-not-more-clause-input
-returns-then-not-more-clause-input g c = record { tail = tail_trans (more_tail c.more.ensures) c.loop-done.invariant.tail; memory = tt }
-
-pub returns-in_err-entry-clause-input : goal.returns-in_err-entry-clause-input
-returns-in_err-entry-clause-input g c = record {
-  tail = tail_trans c.read.ensures.input.tail (tail_trans (more_tail c.more.ensures) c.loop-done.invariant.tail);
-  memory = search rules;
-}
-
-pub returns-clause-input : goal.returns-clause-input
-returns-clause-input g c = record { tail = c.loop-done.invariant.tail; memory = tt }

@@ -3,7 +3,7 @@ use Rattle.smith_input.specs.Loops.{Never}
 use Rattle.smith_input.specs.Reading.{IsTail}
 use Rattle.smith_input.proofs.Loops.{Onward}
 use Rattle.smith_scopes.specs.Scopes.{own_marked, outer_marked}
-use Rattle.smith_component.specs.EntriesState.{KeepsAround}
+use Rattle.smith_component.specs.SectionsState.{KeepsAround}
 use Rattle.smith_component.proofs.builder.Progress.read_entries.Given as goal
 
 -- The last scope has as many more as were read.

@@ -1,7 +1,7 @@
 use Rattle.std.proofs.Common.{◌∙◌, List, [], length, refl, sym, subst, ap, arith, append-nil, rules}
 use Rattle.std.specs.Prelude.{Option}
 use Rattle.smith_input.proofs.Loops.{Onward, begins, ends_early, ends_full, goes_on, stops}
-use Rattle.smith_input.proofs.Reading.{more_tail, tail_same, tail_trans}
+use Rattle.smith_input.proofs.Reading.{tail_same}
 use Rattle.smith_scopes.specs.Scopes.{own_marked}
 use Rattle.smith_syntax.specs.Marked.{first_marked}
 use Rattle.smith_tree.proofs.Marking.{marked_add}
@@ -9,13 +9,14 @@ use Rattle.smith_tree.specs.Marking.{marked_in}
 use Rattle.smith_syntax.specs.declared.deftype.Import.{Import}
 use Rattle.smith_types.specs.MakingTypes.{HoldsExterns}
 use Rattle.smith_component.specs.BuilderView.{IsSound, stack_of}
-use Rattle.smith_component.specs.ImportsState.{ImportsOne, ImportsState}
+use Rattle.smith_component.specs.SectionsState.{ImportsOne, ImportsState}
 use Rattle.smith_tree.specs.Open.{Open}
 use Rattle.smith_component.specs.SectionValues.{NoImportValue, ReadsImportValue, externs_of}
 use Rattle.smith_tree.specs.Tree.{imports}
 use Rattle.smith_component.specs.declared.builder.Progress.{Progress}
-use Rattle.smith_component.proofs.EntriesState.{around_then}
+use Rattle.smith_component.proofs.SectionsState.{around_then}
 use Rattle.smith_component.proofs.Growth.{functions_counted}
+use Rattle.smith_component.proofs.Loops.{turn_left}
 use Rattle.smith_component.proofs.Sound.{own_limits_of, totalled_part}
 use Rattle.smith_component.proofs.TracksStack.{tabled_added}
 use Rattle.smith_component.proofs.builder.Progress.read_imports.Goals as goal
@@ -53,14 +54,8 @@ loop-done-init c =
       importing = subst S (sym none) (first b i);
     }
 
-pub read_import-requires : goal.read_import-requires
-read_import-requires c = record { consistent = c.requires.sound.0.sound.consistent; within = c.loop-done.invariant.within }
-
 pub returns-then-not-more-clause-reads : goal.returns-then-not-more-clause-reads
 returns-then-not-more-clause-reads c = stops _ _ _ _ _ _ _ _ _ _ _ _ c.if-not-more.true c.more.ensures c.loop-done.invariant.onward
-
-pub returns-then-not-more-clause-counts : goal.returns-then-not-more-clause-counts
-returns-then-not-more-clause-counts c = record { only = refl; around = c.loop-done.invariant.around; counted = c.loop-done.invariant.importing }
 
 pub returns-in_default-clause-reads : goal.returns-in_default-clause-reads
 returns-in_default-clause-reads c =
@@ -90,15 +85,24 @@ returns-in_default-clause-counts c =
 
 pub returns-in_err-push-clause-input : goal.returns-in_err-push-clause-input
 returns-in_err-push-clause-input c = record {
-  tail = tail_trans c.in_ok-import.ensures.input.tail (tail_trans (more_tail c.more.ensures) c.loop-done.invariant.tail);
+  tail = turn_left c.in_ok-import.ensures.input.tail c.more.ensures c.loop-done.invariant.tail;
   memory = search rules;
+}
+
+pub returns-in_err-import-clause-input : goal.returns-in_err-import-clause-input
+returns-in_err-import-clause-input c = record {
+  tail = turn_left c.read_import.ensures.input.tail c.more.ensures c.loop-done.invariant.tail;
+  memory = search rules;
+}
+
+pub returns-in_default-clause-input : goal.returns-in_default-clause-input
+returns-in_default-clause-input c = record {
+  tail = turn_left c.read_import.ensures.input.tail c.more.ensures c.loop-done.invariant.tail;
+  memory = tt;
 }
 
 pub returns-clause-reads : goal.returns-clause-reads
 returns-clause-reads c = ends_full _ _ _ _ _ _ _ _ _ _ c.loop-done-test.false c.loop-done.invariant.onward
-
-pub returns-clause-counts : goal.returns-clause-counts
-returns-clause-counts c = record { only = refl; around = c.loop-done.invariant.around; counted = c.loop-done.invariant.importing }
 
 pub loop-done-preserved : goal.loop-done-preserved
 loop-done-preserved c =
@@ -114,28 +118,10 @@ loop-done-preserved c =
     let one = subst P c.in-Some.is (c.in_ok-import.ensures.imports stack before so_far l.invariant.importing) in
     let R : List Import → Type 0 = λ z. ReadsImportValue b.config stack before so_far c.more.new.self c.in-Some.import c.read_import.new.u z in
     record {
-      tail = tail_trans c.in_ok-import.ensures.input.tail (tail_trans (more_tail c.more.ensures) l.invariant.tail);
+      tail = turn_left c.in_ok-import.ensures.input.tail c.more.ensures l.invariant.tail;
       within = c.in_ok-import.ensures.within;
       onward = goes_on _ _ _ _ _ _ _ _ _ _ _ _ _ _ _ _ c.if-not-more.false c.more.ensures (subst R (sym all) one.0) all l.invariant.onward;
       around = around_then l.invariant.around c.in_ok-import.ensures.around;
       importing = subst (λ z. ImportsState b.config stack before z (own_marked c.read_import.new.scopes) c.read_import.new.totals c.read_import.new.tables)
           (sym all) one.1;
     }
-
-pub returns-then-not-more-clause-input : goal.returns-then-not-more-clause-input
-returns-then-not-more-clause-input c = record { tail = tail_trans (more_tail c.more.ensures) c.loop-done.invariant.tail; memory = tt }
-
-pub returns-in_err-import-clause-input : goal.returns-in_err-import-clause-input
-returns-in_err-import-clause-input c = record {
-  tail = tail_trans c.read_import.ensures.input.tail (tail_trans (more_tail c.more.ensures) c.loop-done.invariant.tail);
-  memory = search rules;
-}
-
-pub returns-in_default-clause-input : goal.returns-in_default-clause-input
-returns-in_default-clause-input c = record {
-  tail = tail_trans c.read_import.ensures.input.tail (tail_trans (more_tail c.more.ensures) c.loop-done.invariant.tail);
-  memory = tt;
-}
-
-pub returns-clause-input : goal.returns-clause-input
-returns-clause-input c = record { tail = c.loop-done.invariant.tail; memory = tt }

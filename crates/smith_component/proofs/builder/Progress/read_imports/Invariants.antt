@@ -3,8 +3,7 @@ use Rattle.smith_input.specs.Reading.{IsTail}
 use Rattle.smith_input.proofs.Loops.{Onward}
 use Rattle.smith_scopes.specs.Scopes.{own_marked}
 use Rattle.smith_component.specs.BuilderView.{stack_of}
-use Rattle.smith_component.specs.EntriesState.{KeepsAround}
-use Rattle.smith_component.specs.ImportsState.{ImportsState}
+use Rattle.smith_component.specs.SectionsState.{KeepsAround, ImportsState}
 use Rattle.smith_component.specs.SectionValues.{NoImportValue, ReadsImportValue, externs_of}
 use Rattle.smith_component.proofs.builder.Progress.read_imports.Given as goal
 

@@ -1,8 +1,7 @@
-use Rattle.std.proofs.Common.{◌≡◌, ℕ, ◌<◌, List, [], ◌∷◌, length, length-append, arith, ap, refl, subst, sym, ◌∙◌, rules}
+use Rattle.std.proofs.Common.{◌≡◌, ℕ, ◌<◌, List, [], ◌∷◌, length, length-append, arith, ap, refl, subst, sym, ◌∙◌}
 use Rattle.std.proofs.lemmas.Grind.{common_steps}
 use Rattle.std.proofs.lemmas.Option.{slice_get-get_or}
 use Rattle.std.specs.Prelude.{Some, false, nat_le, slice_get}
-use Rattle.smith_input.proofs.Reading.{reads_tail, tail_same, tail_trans}
 use Rattle.smith_scopes.proofs.Marking.{grown_export, length-changed, same_export}
 use Rattle.smith_scopes.proofs.Stack.{own_marked_last, own_scope_is}
 use Rattle.smith_scopes.specs.Scopes.{Changes, Contents, last_of, own_marked, own_scope}
@@ -15,14 +14,12 @@ use Rattle.smith_component.specs.Tables.{AddsFunction, IsKnown}
 use Rattle.smith_tree.specs.Shown.{shown_export}
 use Rattle.smith_component.specs.declared.builder.tables.Tables.{Tables}
 use Rattle.smith_tree.specs.declared.entries.Export.{Export}
-use Rattle.smith_component.proofs.ExportsState.{export_is_kept, export_is_read, known_at, known_more, no_room, none_there}
+use Rattle.smith_component.proofs.SectionsState.{export_is_kept, export_is_read, known_at, known_more, no_room, none_there}
 use Rattle.smith_component.proofs.builder.exports.read_export.Goals as goal
 
 -- The type of the function that was chosen is there.
 type_known : (c : goal.After-note_export) → c.index-ty.result.now < length (own_scope c.args.scopes.now).types
-type_known c =
-    known_at (own_scope c.args.scopes.now) c.args.tables.now c.choose_index-func_index.result c.index-ty.result.now c.requires.known
-    (omega (arith, c.len.ensures, c.choose_index-func_index.ensures.below)) c.index-ty.ensures
+type_known c = grind (arith, known_at)
 
 -- The scope by itself stays.
 same_scope : (old new : List Contents) (ty : ℕ) → Changes (λ d. with_export d (to.Func ty)) old new → own_scope new ≡ own_scope old
@@ -72,36 +69,13 @@ returns-clause-exports c config outer t es h =
     )
 
 pub returns-then-is_empty-clause-exports : goal.returns-then-is_empty-clause-exports
-returns-then-is_empty-clause-exports c config outer t es h =
-    let old : Tables = c.args.tables.now in
-    let none : length old.functions.items ≡ 0 = grind (arith, common_steps, c.if-is_empty.true, c.is_empty.ensures, old.functions.ok.0) in
-    ((none_there config outer t es (own_marked c.args.scopes.now) old h (no_items old.functions.items none), refl, refl), h)
+returns-then-is_empty-clause-exports c config outer t es h = grind (arith, common_steps, none_there, no_items)
 
 pub returns-then-not-has_room-clause-exports : goal.returns-then-not-has_room-clause-exports
-returns-then-not-has_room-clause-exports c config outer t es h =
-    let full : has_room (own_marked c.args.scopes.now) false ≡ false = room_at c.args.scopes.now ∙ (sym c.has_room.ensures ∙ c.if-not-has_room.true) in
-    ((no_room config outer t es (own_marked c.args.scopes.now) c.args.tables.now h full, refl, refl), h)
+returns-then-not-has_room-clause-exports c config outer t es h = grind (arith, room_at, no_room)
 
 pub returns-clause-around : goal.returns-clause-around
 returns-clause-around c = record {
   outer = (grown_export c.args.scopes.now c.note_export.new.self (to.Func c.index-ty.result.now) c.note_export.ensures).outer;
   depth = length-changed (λ d. with_export d (to.Func c.index-ty.result.now)) c.args.scopes.now c.note_export.new.self c.note_export.ensures;
 }
-
-pub returns-then-is_empty-clause-input : goal.returns-then-is_empty-clause-input
-returns-then-is_empty-clause-input c = record { tail = tail_same _; memory = tt }
-
-pub returns-in_err-name-clause-input : goal.returns-in_err-name-clause-input
-returns-in_err-name-clause-input c = record {
-  tail = tail_trans c.unique_kebab_string.ensures.input.tail (reads_tail c.choose_index-func_index.ensures);
-  memory = search rules;
-}
-
-pub returns-in_err-add_exported-clause-input : goal.returns-in_err-add_exported-clause-input
-returns-in_err-add_exported-clause-input c = record {
-  tail = tail_trans c.unique_kebab_string.ensures.input.tail (reads_tail c.choose_index-func_index.ensures);
-  memory = search rules;
-}
-
-pub returns-clause-input : goal.returns-clause-input
-returns-clause-input c = record { tail = tail_trans c.unique_kebab_string.ensures.input.tail (reads_tail c.choose_index-func_index.ensures); memory = tt }

@@ -1,40 +1,24 @@
-use Rattle.std.proofs.Common.{◌≡◌, List, [], ◌∷◌, ◌++◌, length, length-append, map, refl, sym, subst, ap, ◌∙◌, arith, rules}
+use Rattle.std.proofs.Common.{◌≡◌, List, [], ◌∷◌, ◌++◌, length, length-append, map, sym, subst, ap, ◌∙◌, arith}
 use Rattle.std.proofs.lemmas.List.{map-append}
 use Rattle.std.specs.Prelude.{Option}
-use Rattle.smith_input.proofs.Loops.{Onward, begins, ends_early, ends_full, goes_on, stops}
-use Rattle.smith_input.proofs.Reading.{more_tail, tail_same, tail_trans}
+use Rattle.smith_input.proofs.Loops.{begins, ends_early, ends_full, goes_on, stops}
+use Rattle.smith_input.proofs.Reading.{tail_same}
 use Rattle.smith_format.specs.declared.config.Config.{Config}
 use Rattle.smith_scopes.specs.Scopes.{own_marked}
-use Rattle.smith_component.specs.Exports.{NoExport, ReadsExport}
-use Rattle.smith_component.specs.ExportsState.{ExportsOne, ExportsState}
+use Rattle.smith_component.specs.Exports.{ReadsExport}
+use Rattle.smith_component.specs.SectionsState.{ExportsOne, ExportsState}
 use Rattle.smith_tree.specs.Shown.{shown_export}
 use Rattle.smith_tree.specs.Tree.{ExportEntry, Tree}
 use Rattle.smith_tree.specs.declared.entries.Export.{Export}
-use Rattle.smith_component.proofs.EntriesState.{around_then}
+use Rattle.smith_component.proofs.SectionsState.{around_then}
+use Rattle.smith_component.proofs.Loops.{turn_left}
 use Rattle.smith_component.proofs.builder.exports.read_exports.Goals as goal
 
 pub loop-done-init : goal.loop-done-init
-loop-done-init c =
-    let none : map shown_export c.new-exports.result.items ≡ [] = ap (map shown_export) c.new-exports.ensures.items in
-    record {
-      tail = tail_same c.args.u.now;
-      few = ap length c.new-exports.ensures.items;
-      imports = refl;
-      known = c.requires.known;
-      room = omega (arith, c.requires.room);
-      around = record { outer = refl; depth = refl };
-      onward = λ config outer t h.
-          let O : List ExportEntry → Type 0 =
-          λ z. Onward (NoExport config outer t) (ReadsExport config outer t) 0 c.args.max [] c.args.u.now z 0 z c.args.u.now in
-          subst O (sym none) (begins _ _ _ _ _ _ [] refl);
-      exporting = λ config outer t h. subst (λ z. ExportsState config outer t z (own_marked c.args.scopes.now) c.args.tables.now) (sym none) h;
-    }
+loop-done-init c = grind (arith, tail_same, begins)
 
 pub returns-then-not-more-clause-reads : goal.returns-then-not-more-clause-reads
-returns-then-not-more-clause-reads c config outer t h = record {
-  reads = stops _ _ _ _ _ _ _ _ _ _ _ _ c.if-not-more.true c.more.ensures (c.loop-done.invariant.onward config outer t h);
-  state = c.loop-done.invariant.exporting config outer t h;
-}
+returns-then-not-more-clause-reads c config outer t h = grind (arith, stops)
 
 pub returns-in_default-clause-reads : goal.returns-in_default-clause-reads
 returns-in_default-clause-reads c config outer t h =
@@ -50,12 +34,6 @@ returns-in_default-clause-reads c config outer t h =
 
 pub returns-in_default-clause-around : goal.returns-in_default-clause-around
 returns-in_default-clause-around c = around_then c.loop-done.invariant.around c.in_ok-export.ensures.around
-
-pub returns-in_err-push-clause-input : goal.returns-in_err-push-clause-input
-returns-in_err-push-clause-input c = record {
-  tail = tail_trans c.in_ok-export.ensures.input.tail (tail_trans (more_tail c.more.ensures) c.loop-done.invariant.tail);
-  memory = search rules;
-}
 
 pub returns-clause-reads : goal.returns-clause-reads
 returns-clause-reads c config outer t h = record {
@@ -78,7 +56,7 @@ loop-done-preserved c =
     subst (P config outer t) c.in-Some.is
     (c.in_ok-export.ensures.exports config outer t es (l.invariant.exporting config outer t h)) in
     record {
-      tail = tail_trans c.in_ok-export.ensures.input.tail (tail_trans (more_tail c.more.ensures) l.invariant.tail);
+      tail = turn_left c.in_ok-export.ensures.input.tail c.more.ensures l.invariant.tail;
       few = omega (arith, ap length items, length-append l.exports.items (x ∷ []), l.invariant.few);
       imports = c.in_ok-export.ensures.tables.imports ∙ l.invariant.imports;
       known = c.in_ok-export.ensures.tables.known;
@@ -90,21 +68,3 @@ loop-done-preserved c =
           (l.invariant.onward config outer t h);
       exporting = λ config outer t h. subst (λ z. ExportsState config outer t z own c.read_export.new.tables) (sym all) (one config outer t h).1;
     }
-
-pub returns-then-not-more-clause-input : goal.returns-then-not-more-clause-input
-returns-then-not-more-clause-input c = record { tail = tail_trans (more_tail c.more.ensures) c.loop-done.invariant.tail; memory = tt }
-
-pub returns-in_err-export-clause-input : goal.returns-in_err-export-clause-input
-returns-in_err-export-clause-input c = record {
-  tail = tail_trans c.read_export.ensures.input.tail (tail_trans (more_tail c.more.ensures) c.loop-done.invariant.tail);
-  memory = search rules;
-}
-
-pub returns-in_default-clause-input : goal.returns-in_default-clause-input
-returns-in_default-clause-input c = record {
-  tail = tail_trans c.read_export.ensures.input.tail (tail_trans (more_tail c.more.ensures) c.loop-done.invariant.tail);
-  memory = tt;
-}
-
-pub returns-clause-input : goal.returns-clause-input
-returns-clause-input c = record { tail = c.loop-done.invariant.tail; memory = tt }

@@ -1,10 +1,9 @@
 use Rattle.std.proofs.Common.{◌≡◌, ℕ, ◌+◌, ◌<◌, ◌≤◌, max, List, [], ◌∷◌, ◌++◌, length, arith, ap, sym, subst, ◌∙◌, refl, true, false, append-nil, append_assoc}
-use Rattle.std.proofs.Common.{map, rules}
+use Rattle.std.proofs.Common.{map}
 use Rattle.std.proofs.lemmas.List.{map-append}
 use Rattle.std.specs.List.{AllByRecursion}
 use Rattle.std.specs.Prelude.{if◌then◌else◌}
 use Rattle.std.proofs.lemmas.Option.{slice_get_within}
-use Rattle.smith_input.proofs.Reading.{tail_trans}
 use Rattle.smith_format.specs.declared.config.Config.{Config}
 use Rattle.smith_format.specs.Consistency.{max_u32}
 use Rattle.smith_syntax.specs.Entries.{ImportEntry}
@@ -26,8 +25,7 @@ use Rattle.smith_types.specs.declared.make.externs.ExternNames.{ExternNames}
 use Rattle.smith_tree.specs.declared.totals.RefTotals.{RefTotals}
 use Rattle.smith_types.proofs.References.{ref_formed}
 use Rattle.smith_tree.specs.Offers.{is_scalar_type, marked_with_imports, totals_of, with_imports}
-use Rattle.smith_component.specs.EntriesState.{KeepsAround}
-use Rattle.smith_component.specs.ImportsState.{ImportsState}
+use Rattle.smith_component.specs.SectionsState.{KeepsAround, ImportsState}
 use Rattle.smith_component.specs.Sound.{Totalled}
 use Rattle.smith_tree.specs.Open.{Open}
 use Rattle.smith_component.specs.SectionValues.{ReadsImportValue, extern_of}
@@ -38,8 +36,7 @@ use Rattle.smith_tree.specs.WellFormed.{scope_of}
 use Rattle.smith_component.specs.declared.builder.tables.Tables.{Tables}
 use Rattle.smith_component.specs.declared.builder.totals.TreeTotals.{TreeTotals}
 use Rattle.smith_component.proofs.Growth.{imports_keep, scope_bare, spaces_import}
-use Rattle.smith_component.proofs.ImportsState.{components_more, funcs_more, import_room, imports_marked_more, imports_scope}
-use Rattle.smith_component.proofs.ImportsState.{instances_more, modules_more}
+use Rattle.smith_component.proofs.SectionsState.{components_more, funcs_more, import_room, imports_marked_more, imports_scope, instances_more, modules_more}
 use Rattle.smith_component.proofs.Tables.{held_exports, own_bare, same_more, tabled_more}
 use Rattle.smith_component.proofs.builder.imports.read_import.Goals as goal
 use Rattle.smith_component.proofs.builder.imports.read_import.Goals.{in-Func+in_ok-add_function, in_default-ty}
@@ -71,11 +68,8 @@ takes_function own old mid new r i e fs ss cs ns xs adds =
     })
 
 no_function : (r : ComponentTypeRef) → ((i : ℕ) → r ≡ to.Func i → ⊥) → function_of r ≡ []
-no_function (to.Module i) h = refl
 no_function (to.Func i) h = absurd (h i refl)
-no_function (to.TypeEq i) h = refl
-no_function (to.Component i) h = refl
-no_function (to.Instance i) h = refl
+no_function _ h = refl
 
 -- none
 takes_none : (own : Scope) (old new : Tables) (r : ComponentTypeRef) (externs : ExternNames) → function_of r ≡ [] → new.functions.items ≡ old.functions.items
@@ -91,11 +85,8 @@ takes_none own old new r externs e fs ss cs ns is xs = record {
 }
 
 function_within : (own : Scope) (r : ComponentTypeRef) → FormedRef own r → AllByRecursion (λ ty. ty < length own.types) (function_of r)
-function_within own (to.Module i) f = tt
 function_within own (to.Func i) f = (slice_get_within own.types i f.0 f.1, tt)
-function_within own (to.TypeEq i) f = tt
-function_within own (to.Component i) f = tt
-function_within own (to.Instance i) f = tt
+function_within own _ f = tt
 
 module _ (config : Config) (stack : Open) (before : List NamedExtern) (is : List Import) (own : Marked) (totals : TreeTotals) (tables : Tables)
     (importing : ImportsState config stack before is own totals tables) where
@@ -105,12 +96,7 @@ module _ (config : Config) (stack : Open) (before : List NamedExtern) (is : List
   counts_are : (counts : RefTotals) → counts.modules ≡ totals.modules → counts.funcs ≡ tables.counted
       → counts.components ≡ totals.components → counts.instances ≡ totals.instances
       → counts ≡ totals_of (with_imports stack entries)
-  counts_are counts ms fs cs ns =
-      let m = ms ∙ importing.totalled.modules in
-      let f = fs ∙ importing.tabled.counts in
-      let c = cs ∙ importing.totalled.components in
-      let n = ns ∙ importing.totalled.instances in
-      λ i. record { modules = m i; funcs = f i; components = c i; instances = n i }
+  counts_are counts ms fs cs ns = grind arith
 
   module _ (b mid rest : List ℕ) (x : Import) where
     abbrev entry : ImportEntry
@@ -119,13 +105,7 @@ module _ (config : Config) (stack : Open) (before : List NamedExtern) (is : List
     import_is_read : (counts : RefTotals) → counts ≡ totals_of (with_imports stack entries) → ReadsRef config own counts true false b x.ty mid
         → ((so_far : List NamedExtern) → HoldsExterns tables.imports so_far → ReadsNamedExtern so_far mid (extern_of x) rest)
         → ReadsImportValue config stack before is b x rest (is ++ x ∷ [])
-    import_is_read counts e of named = record {
-      mid = mid;
-      of = subst (λ z. ReadsRef config (marked_with_imports config stack entries) z true false b x.ty mid) e
-          (subst (λ z. ReadsRef config z counts true false b x.ty mid) importing.scope_is of);
-      named = named (before ++ map extern_of is) importing.externs;
-      next_is = refl;
-    }
+    import_is_read counts e of named = grind arith
 
     abbrev old_tree : Tree
     old_tree = add stack.inner (imports entries)
@@ -179,28 +159,13 @@ counts_fit : (old more count most : ℕ) → count ≡ old → count + more ≤ 
 counts_fit old more count most e room few some = omega (arith, e, room, few, some)
 
 pub count-requires-clause-modules : goal.count-requires-clause-modules
-count-requires-clause-modules c some =
-    let counts = c.with_functions-counts in
-    let room = import_room c.args.config.now (own_marked c.args.scopes.now) counts.result c.args.u.now c.in-Some.ty c.arbitrary_type_ref.new.u
-    c.in-Some.ensures.reads in
-    counts_fit c.args.totals.now.modules (length (module_of c.in-Some.ty)) counts.result.modules c.args.config.now.max_modules counts.ensures.modules
-    room.modules c.requires.consistent.modules some
+count-requires-clause-modules c some = grind (arith, import_room, counts_fit)
 
 pub count-requires-clause-components : goal.count-requires-clause-components
-count-requires-clause-components c some =
-    let counts = c.with_functions-counts in
-    let room = import_room c.args.config.now (own_marked c.args.scopes.now) counts.result c.args.u.now c.in-Some.ty c.arbitrary_type_ref.new.u
-    c.in-Some.ensures.reads in
-    counts_fit c.args.totals.now.components (length (component_of c.in-Some.ty)) counts.result.components c.args.config.now.max_components
-    counts.ensures.components room.components c.requires.consistent.components some
+count-requires-clause-components c some = grind (arith, import_room, counts_fit)
 
 pub count-requires-clause-instances : goal.count-requires-clause-instances
-count-requires-clause-instances c some =
-    let counts = c.with_functions-counts in
-    let room = import_room c.args.config.now (own_marked c.args.scopes.now) counts.result c.args.u.now c.in-Some.ty c.arbitrary_type_ref.new.u
-    c.in-Some.ensures.reads in
-    counts_fit c.args.totals.now.instances (length (instance_of c.in-Some.ty)) counts.result.instances c.args.config.now.max_instances counts.ensures.instances
-    room.instances c.requires.consistent.instances some
+count-requires-clause-instances c some = grind (arith, import_room, counts_fit)
 
 -- The scope by itself stays.
 same_scope : (old new : List Contents) (r : ComponentTypeRef) → Changes (λ d. with_import d r) old new → own_scope new ≡ scope_in (own_marked old)
@@ -218,18 +183,10 @@ add_function-requires-clause-known c =
     omega (arith, known, ap (λ (s : Scope). length s.types) (same_scope c.args.scopes.now c.note_import.new.self c.in-Some.ty c.note_import.ensures))
 
 pub add_function-requires-clause-room : goal.add_function-requires-clause-room
-add_function-requires-clause-room c =
-    let counts = c.with_functions-counts in
-    let room = import_room c.args.config.now (own_marked c.args.scopes.now) counts.result c.args.u.now c.in-Some.ty c.arbitrary_type_ref.new.u
-    c.in-Some.ensures.reads in
-    omega (arith, room.funcs, ap (λ r. length (function_of r)) c.in-Func.is, counts.ensures.funcs, c.requires.within, c.requires.consistent.funcs)
+add_function-requires-clause-room c = grind (arith, import_room)
 
 pub add_function-requires-clause-few : goal.add_function-requires-clause-few
-add_function-requires-clause-few c =
-    let counts = c.with_functions-counts in
-    let room = import_room c.args.config.now (own_marked c.args.scopes.now) counts.result c.args.u.now c.in-Some.ty c.arbitrary_type_ref.new.u
-    c.in-Some.ensures.reads in
-    omega (arith, room.funcs, ap (λ r. length (function_of r)) c.in-Func.is, counts.ensures.funcs, c.requires.consistent.funcs)
+add_function-requires-clause-few c = grind (arith, import_room)
 
 -- The import is read and counted, whatever it is of.
 imported : (c : goal.Joined-ty) (new : Tables) (ty : ComponentTypeRef) → ty ≡ c.in-Some.ty
@@ -282,21 +239,6 @@ returns-clause-imports c =
           (subst Kept (sym w.tables-is) (takes_none plain old mid c.in-Some.ty c.named_extern.new.externs (no_function c.in-Some.ty w.in_default-ty.not-Func)
           refl refl refl refl refl refl))
     ]
-
-pub returns-clause-input : goal.returns-clause-input
-returns-clause-input c = record { tail = tail_trans c.in_ok-name.ensures.input.tail c.in-Some.ensures.tail; memory = tt }
-
-pub returns-in_default-clause-input : goal.returns-in_default-clause-input
-returns-in_default-clause-input c = record { tail = c.arbitrary_type_ref.ensures.tail; memory = tt }
-
-pub returns-in_err-name-clause-input : goal.returns-in_err-name-clause-input
-returns-in_err-name-clause-input c = record { tail = tail_trans c.named_extern.ensures.input.tail c.arbitrary_type_ref.ensures.tail; memory = search rules }
-
-pub returns-in_err-add_function-clause-input : goal.returns-in_err-add_function-clause-input
-returns-in_err-add_function-clause-input c = record {
-  tail = tail_trans c.named_extern.ensures.input.tail c.arbitrary_type_ref.ensures.tail;
-  memory = search rules;
-}
 
 -- The scopes around stay, and their number.
 

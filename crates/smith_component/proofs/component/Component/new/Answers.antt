@@ -1,7 +1,7 @@
-use Rattle.std.proofs.Common.{IfErr, IfOk, refl, rules, subst}
-use Rattle.smith_input.proofs.Reading.{tail_same}
+use Rattle.std.proofs.Common.{arith, IfErr, IfOk, subst}
 use Rattle.smith_format.specs.Consistency.{IsConsistent}
 use Rattle.smith_format.specs.declared.config.Config.{Config}
+use Rattle.smith_tree.proofs.Components.{valid_tree}
 use Rattle.smith_component.specs.Refusals.{IsRefusal}
 use Rattle.smith_component.specs.Runs.{RunsTo}
 use Rattle.smith_component.proofs.Finishing.{err_by, ok_by}
@@ -10,14 +10,7 @@ use Rattle.smith_component.proofs.Refusals.{refused_accepted}
 use Rattle.smith_component.proofs.RunsButLast.{runs_end}
 use Rattle.smith_component.proofs.RunsFinishable.{runs_finish}
 use Rattle.smith_component.proofs.RunsReadable.{runs_come}
-use Rattle.smith_component.proofs.Stepped.{valid_generated}
 use Rattle.smith_component.proofs.component.Component.new.Goals as goal
-
-pub run-requires-clause-sound : goal.run-requires-clause-sound
-run-requires-clause-sound c = c.new-progress.ensures.sound
-
-pub run-requires-clause-empty : goal.run-requires-clause-empty
-run-requires-clause-empty c = c.new-progress.ensures.made.1
 
 pub returns-clause-made : goal.returns-clause-made
 returns-clause-made c =
@@ -33,11 +26,7 @@ returns-clause-made c =
     }) run
 
 pub returns-clause-validates : goal.returns-clause-validates
-returns-clause-validates c valid =
-    let is = c.new-progress.ensures.made.0 in
-    let consistent = subst IsConsistent is c.new-progress.ensures.sound.0.sound.consistent in
-    let run = subst (λ (k : Config). IfOk c.run.result (λ x. RunsTo k c.args.u.now x c.run.new.u)) is c.run.ensures.run in
-    ok_by c.run.result (λ x r. valid_generated c.args.config x valid consistent (runs_come _ _ _ _ consistent r)) run
+returns-clause-validates c valid = grind (arith, ok_by, valid_tree, runs_come)
 
 pub returns-clause-reach : goal.returns-clause-reach
 returns-clause-reach c plan rest w e =
@@ -47,15 +36,7 @@ returns-clause-reach c plan rest w e =
     ok_by c.run.result (λ x r. run_is_plan c.args.config c.args.u.now plan rest consistent w e _ _ r) run
 
 pub returns-clause-input : goal.returns-clause-input
-returns-clause-input c =
-    let is = c.new-progress.ensures.made.0 in
-    let consistent = subst IsConsistent is c.new-progress.ensures.sound.0.sound.consistent in
-    record {
-      accepts = search rules;
-      refuses = subst (λ (k : Config). IfErr c.run.result (λ e. IsRefusal k c.args.u.now e c.run.new.u)) is c.run.ensures.refuses;
-      unread = λ inconsistent. absurd (inconsistent consistent);
-      tail = c.run.ensures.tail;
-    }
+returns-clause-input c = grind arith
 
 pub returns-clause-answers : goal.returns-clause-answers
 returns-clause-answers c plan rest consistent w e =
@@ -65,6 +46,3 @@ returns-clause-answers c plan rest consistent w e =
     err_by c.run.result
     (λ x r. refused_accepted c.args.config left input consistent (plan_lacks_none c.args.config input plan rest consistent w e left)
     (plan_refuses_no_module c.args.config input plan rest consistent w e left) x r) refusal
-
-pub returns-in_err-check-clause-input : goal.returns-in_err-check-clause-input
-returns-in_err-check-clause-input c = record { accepts = search rules; refuses = search rules; unread = λ _. refl; tail = tail_same _ }

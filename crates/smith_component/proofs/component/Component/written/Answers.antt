@@ -1,9 +1,7 @@
-use Rattle.std.proofs.Common.{sym, ◌∙◌}
+use Rattle.std.proofs.Common.{arith, ◌∙◌}
 use Rattle.smith_format.proofs.Piece.{left_nil}
 use Rattle.smith_tree.proofs.Clear.{spells_only}
 use Rattle.smith_component.proofs.component.Component.written.Goals as goal
 
 pub returns-clause-reading : goal.returns-clause-reading
-returns-clause-reading c t =
-    let g = rw c.in_ok-out.ensures.items at (c.in_ok-put_component.ensures {u = tt}).is in
-    spells_only c.args.self.now _ (sym (left_nil _) ∙ sym g) t
+returns-clause-reading c t = grind (arith, spells_only, left_nil)

@@ -1,5 +1,5 @@
 use Rattle.smith_core.specs.Parts.{AgreesWith, NamesTable}
-use Rattle.smith_core.proofs.Agree.{Passed}
+use Rattle.smith_core.proofs.Tiles.{Passed}
 use Rattle.smith_core.proofs.module.agree.elements_agree.Given as goal
 
 abbrev pub invariant-loop-segment : goal.invariant-loop-segment

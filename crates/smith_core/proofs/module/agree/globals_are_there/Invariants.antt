@@ -1,5 +1,5 @@
 use Rattle.std.proofs.Common.{◌<◌}
-use Rattle.smith_core.proofs.Agree.{Passed}
+use Rattle.smith_core.proofs.Tiles.{Passed}
 use Rattle.smith_core.proofs.module.agree.globals_are_there.Given as goal
 
 abbrev pub invariant-loop-index : goal.invariant-loop-index

@@ -1,15 +1,9 @@
-use Rattle.smith_input.proofs.Loops.{begins, stops, ends_full, goes_on}
-use Rattle.smith_input.proofs.Reading.{tail_same, tail_trans, more_tail}
+use Rattle.smith_input.proofs.Loops.{stops, ends_full, goes_on}
+use Rattle.smith_input.proofs.Reading.{tail_trans, more_tail}
 use Rattle.smith_core.proofs.module.stand_in.function_types.Goals as goal
-
-pub loop-done-init : goal.loop-done-init
-loop-done-init c = record { tail = tail_same _; onward = begins _ _ _ _ _ _ _ c.new-types.ensures.items }
 
 pub returns-then-not-more-clause-reads : goal.returns-then-not-more-clause-reads
 returns-then-not-more-clause-reads c = stops _ _ _ _ _ _ _ _ _ _ _ _ c.if-not-more.true c.more.ensures c.loop-done.invariant.onward
-
-pub returns-then-not-more-clause-tail : goal.returns-then-not-more-clause-tail
-returns-then-not-more-clause-tail c = tail_trans (more_tail c.more.ensures) c.loop-done.invariant.tail
 
 pub returns-in_err-func-clause-tail : goal.returns-in_err-func-clause-tail
 returns-in_err-func-clause-tail c =
@@ -31,6 +25,3 @@ loop-done-preserved c =
 
 pub returns-clause-reads : goal.returns-clause-reads
 returns-clause-reads c = ends_full _ _ _ _ _ _ _ _ _ _ c.loop-done-test.false c.loop-done.invariant.onward
-
-pub returns-clause-tail : goal.returns-clause-tail
-returns-clause-tail c = c.loop-done.invariant.tail

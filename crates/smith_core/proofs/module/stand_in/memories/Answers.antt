@@ -1,19 +1,9 @@
-use Rattle.smith_input.proofs.Loops.{begins, stops, ends_full, goes_on}
-use Rattle.smith_input.proofs.Reading.{tail_same, tail_trans, more_tail}
+use Rattle.smith_input.proofs.Loops.{stops, ends_full, goes_on}
+use Rattle.smith_input.proofs.Reading.{tail_trans, more_tail}
 use Rattle.smith_core.proofs.module.stand_in.memories.Goals as goal
-
-pub loop-done-init : goal.loop-done-init
-loop-done-init c = record { tail = tail_same _; onward = begins _ _ _ _ _ _ _ c.new-types.ensures.items }
 
 pub returns-then-not-more-clause-reads : goal.returns-then-not-more-clause-reads
 returns-then-not-more-clause-reads c = stops _ _ _ _ _ _ _ _ _ _ _ _ c.if-not-more.true c.more.ensures c.loop-done.invariant.onward
-
-pub returns-then-not-more-clause-tail : goal.returns-then-not-more-clause-tail
-returns-then-not-more-clause-tail c = tail_trans (more_tail c.more.ensures) c.loop-done.invariant.tail
-
-pub returns-in_err-push-clause-tail : goal.returns-in_err-push-clause-tail
-returns-in_err-push-clause-tail c =
-    tail_trans c.arbitrary_memtype-ty.ensures.tail (tail_trans (more_tail c.more.ensures) c.loop-done.invariant.tail)
 
 pub loop-done-preserved : goal.loop-done-preserved
 loop-done-preserved c =
@@ -27,6 +17,3 @@ loop-done-preserved c =
 
 pub returns-clause-reads : goal.returns-clause-reads
 returns-clause-reads c = ends_full _ _ _ _ _ _ _ _ _ _ c.loop-done-test.false c.loop-done.invariant.onward
-
-pub returns-clause-tail : goal.returns-clause-tail
-returns-clause-tail c = c.loop-done.invariant.tail

@@ -1,7 +1,7 @@
 use Rattle.std.proofs.Common.{arith, map}
 use Rattle.std.proofs.lemmas.List.{length-map}
 use Rattle.smith_syntax.specs.Shown.{shown_decl}
-use Rattle.smith_core_types.proofs.Counts.{count_small}
+use Rattle.smith_core_types.proofs.ModuleSaid.{count_small}
 use Rattle.smith_core_types.proofs.counted.CountedDefs.push.Goals as goal
 
 pub count-requires : goal.count-requires

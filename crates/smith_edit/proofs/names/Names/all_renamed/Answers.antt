@@ -1,11 +1,7 @@
-use Rattle.std.proofs.Common.{◌≡◌, ℕ, ◌++◌, List, ◌∙◌, ap, map, refl, string_bytes}
-use Rattle.std.proofs.Common.{append-nil}
+use Rattle.std.proofs.Common.{◌≡◌, ℕ, ◌++◌, List, ◌∙◌, ap, map, string_bytes}
 use Rattle.smith_edit.specs.Edits.{new_name}
-use Rattle.smith_edit.proofs.KnownNames.{renamed_end, renamed_names, renamed_step}
+use Rattle.smith_edit.proofs.KnownNames.{renamed_names, renamed_step}
 use Rattle.smith_edit.proofs.names.Names.all_renamed.Goals as goal
-
-pub loop-item-init : goal.loop-item-init
-loop-item-init g c = λ names known. rw (c.new-renamed.ensures.items, append-nil names) (known, refl)
 
 pub loop-item-preserved : goal.loop-item-preserved
 loop-item-preserved g c = λ names known.
@@ -22,11 +18,3 @@ loop-item-preserved g c = λ names known.
           c.renamed.result new
           c.loop-item-test.true c.item-item.is made c.renamed.ensures more,
     )
-
-pub returns-clause-items : goal.returns-clause-items
-returns-clause-items g c = λ names known.
-    let (knows, more) = c.loop-item.invariant names known in
-    renamed_end g.T.Named.shown g.T.Named.name g.T.Named.rename g.T.Named.is_renamed _ _ _ c.args.items.now c.loop-item.item-index c.loop-item-test.false more
-
-pub returns-clause-knows : goal.returns-clause-knows
-returns-clause-knows g c = λ names known. (c.loop-item.invariant names known).0

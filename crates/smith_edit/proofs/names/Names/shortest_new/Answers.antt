@@ -1,6 +1,6 @@
-use Rattle.std.proofs.Common.{◌≡◌, ℕ, ◌-◌, ◌<◌, true, false, List, length, string_bytes, ap, sym, subst, ◌∙◌, arith, IfOk}
+use Rattle.std.proofs.Common.{◌≡◌, ℕ, ◌-◌, ◌<◌, true, false, List, length, string_bytes, ap, sym, ◌∙◌, arith}
 use Rattle.smith_input.specs.NewNames.{is_among}
-use Rattle.smith_edit.specs.ShortNames.{new_from, short_name, shortest_new}
+use Rattle.smith_edit.specs.ShortNames.{short_name}
 use Rattle.smith_edit.proofs.ShortNames.{new_more, new_there}
 use Rattle.smith_edit.proofs.names.Names.shortest_new.Goals as goal
 
@@ -18,11 +18,3 @@ returns-then-not-contains c = λ names known.
     let is : is_among names text ≡ false = sym (known.has text) ∙ sym (rw c.as_str.ensures.value at c.if-not-contains.ensures) in
     let new : is_among names (short_name c.loop-count.count) ≡ false = sym (ap (is_among names) c.in_ok-name.ensures) ∙ is in
     c.in_ok-name.ensures ∙ (sym (new_there (length names - c.loop-count.count) c.loop-count.count names new) ∙ c.loop-count.invariant names known)
-
-pub returns : goal.returns
-returns c = λ names known.
-    let same : c.loop-count.count ≡ c.args.self.now.count = omega arith in
-    let none : length names - c.loop-count.count ≡ 0 = omega (arith, c.loop-count-test.false, known.count) in
-    let e : short_name c.args.self.now.count ≡ shortest_new names =
-    sym (ap short_name same) ∙ (sym (ap (λ n. new_from n c.loop-count.count names) none) ∙ c.loop-count.invariant names known) in
-    subst (λ (t : List ℕ). IfOk c.short_name-2.result (λ new. string_bytes new ≡ t)) e c.short_name-2.ensures

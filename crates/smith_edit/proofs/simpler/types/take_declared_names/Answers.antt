@@ -2,7 +2,7 @@ use Rattle.std.proofs.Common.{◌≡◌, ℕ, List, [], ◌∷◌, ◌++◌, ap,
 use Rattle.smith_syntax.specs.Entries.{in_order}
 use Rattle.smith_syntax.specs.WellFormed.{decl_exports, decl_imports, export_of, import_of, names}
 use Rattle.smith_read.specs.TypeNodes.{shown_decl_node}
-use Rattle.smith_edit.proofs.Lists.{gathered_step}
+use Rattle.smith_edit.proofs.Sublists.{gathered_step}
 use Rattle.smith_edit.proofs.simpler.types.take_declared_names.Goals as goal
 
 names_append : (xs ys : List (List ℕ × Unit {0})) → names (xs ++ ys) ≡ names xs ++ names ys

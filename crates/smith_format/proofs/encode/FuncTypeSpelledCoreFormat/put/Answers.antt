@@ -1,13 +1,7 @@
-use Rattle.smith_format.proofs.Steps.{exits_between, ends_third}
+use Rattle.smith_format.proofs.Steps.{exits_between}
 use Rattle.smith_format.proofs.encode.FuncTypeSpelledCoreFormat.put.Goals as goal
 
 pub returns-in_err-put_values : goal.returns-in_err-put_values
 returns-in_err-put_values c =
     let d = rw c.deref.ensures.value at (c.in_err-put_values.ensures {u = tt}) in
     exits_between _ _ _ c.from_residual-in_err-put_values.ensures.1 (c.in_ok-write_byte.ensures {u = tt}) d.0 d.1
-
-pub returns : goal.returns
-returns c =
-    let p = rw c.deref.ensures.value at (c.in_ok-put_values.ensures {u = tt}) in
-    let q = rw c.deref-2.ensures.value at c.put_values-2.ensures in
-    ends_third c.put_values-2.result _ _ (c.in_ok-write_byte.ensures {u = tt}) p q

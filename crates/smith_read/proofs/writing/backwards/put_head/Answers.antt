@@ -1,4 +1,4 @@
-use Rattle.std.proofs.Common.{arith, inr, sym, subst}
+use Rattle.std.proofs.Common.{arith, sym, subst}
 use Rattle.smith_format.specs.Piece.{Piece}
 use Rattle.smith_format.specs.Writing.{IsDue}
 use Rattle.smith_format.proofs.Sizes.{sized_none}
@@ -8,9 +8,7 @@ use Rattle.smith_read.proofs.Leads.{due_front, gives_up, leads_length, leads_tak
 use Rattle.smith_read.proofs.writing.backwards.put_head.Goals as goal
 
 pub returns-in_default : goal.returns-in_default
-returns-in_default c = λ old p at g. due_none (sized_none c.args.id p (record {
-  is = inr (omega (arith, c.in_default.not-Ok, c.in_default.ensures, c.len-end.ensures, leads_length g));
-}))
+returns-in_default c = grind (arith, due_none, sized_none, leads_length)
 
 pub returns-in_err-write_head : goal.returns-in_err-write_head
 returns-in_err-write_head c = λ old p at g.

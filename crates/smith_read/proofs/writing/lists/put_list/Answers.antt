@@ -1,9 +1,5 @@
-use Rattle.smith_format.proofs.Many.{put_none, put_next, loop_done, loop_exit}
-use Rattle.smith_format.proofs.Steps.{exits, due_left, keeps_begins}
+use Rattle.smith_format.proofs.Many.{put_next, loop_done, loop_exit}
 use Rattle.smith_read.proofs.writing.lists.put_list.Goals as goal
-
-pub loop-item-init : goal.loop-item-init
-loop-item-init g c = put_none _ _ _
 
 pub returns-in_err-put : goal.returns-in_err-put
 returns-in_err-put g c =
@@ -15,7 +11,3 @@ loop-item-preserved g c = put_next _ _ _ _ _ _ _ c.loop-item.invariant c.loop-it
 
 pub returns : goal.returns
 returns g c = loop_done _ _ _ ((c.in_ok-write_count.ensures {u = tt}).written) c.loop-item.invariant c.loop-item-test.false
-
-pub returns-in_err-write_count : goal.returns-in_err-write_count
-returns-in_err-write_count g c =
-    let d = (c.in_err-write_count.ensures {u = tt}).written in exits _ _ c.from_residual.ensures.1 (keeps_begins d.0) (due_left _ d.1)

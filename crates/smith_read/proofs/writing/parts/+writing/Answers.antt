@@ -42,6 +42,4 @@ put_component-returns-in_err-put_part t c =
     (omega (arith, c.loop-index-test.true, c.loop-index.auto.index)) c.index-nodes-index.is (c.in_err-put_part.ensures {u = tt}))))
 
 pub put_component-returns : goal.put_component-returns
-put_component-returns t c =
-    rw text_shown
-    (ends_front c.put_preamble.result _ _ (put_all _ _ _ _ _ c.loop-index.invariant (omega (arith, c.loop-index-test.false))) c.put_preamble.ensures)
+put_component-returns t c = grind (arith, text_shown, ends_front, put_all)

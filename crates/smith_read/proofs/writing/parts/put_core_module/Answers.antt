@@ -1,9 +1,8 @@
 use Rattle.std.proofs.Common.{arith, rules, subst, sym}
-use Rattle.smith_format.specs.Piece.{Piece, sized}
+use Rattle.smith_format.specs.Piece.{Piece}
 use Rattle.smith_format.specs.Writing.{IsDue}
 use Rattle.smith_format.proofs.Piece.{raw_is}
 use Rattle.smith_format.proofs.Steps.{due_none}
-use Rattle.smith_read.specs.Leads.{Precedes}
 use Rattle.smith_read.proofs.Leads.{due_sized, gives_up}
 use Rattle.smith_read.proofs.WrittenParts.{embedded_is, embedded_none}
 use Rattle.smith_read.proofs.writing.parts.put_core_module.Goals as goal
@@ -18,7 +17,4 @@ returns-in_err-write_bytes c =
     (due_sized 1 (subst (λ (q : Piece). IsDue c.in_err-write_bytes.field-0.0 c.args.out.now q) (sym is) (c.in_err-write_bytes.ensures {u = tt}).1))
 
 pub returns : goal.returns
-returns c =
-    let is = embedded_is c.args.contents.now (search rules) (raw_is c.args.contents.now (λ i. omega (arith, c.type_inv.contents i))) in
-    subst (λ (q : Piece). Precedes c.put_section.result c.args.out.now c.put_section.new.out (sized 1 q)) (sym is)
-    (c.put_section.ensures c.args.out.now _ c.len-start.ensures (c.in_ok-write_bytes.ensures {u = tt}))
+returns c = grind (arith, embedded_is, raw_is)

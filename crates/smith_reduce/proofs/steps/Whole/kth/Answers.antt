@@ -2,7 +2,7 @@ use Rattle.std.proofs.Common.{subst}
 use Rattle.std.specs.Option.{option_map}
 use Rattle.smith_read.specs.PartNodes.{shown_tree}
 use Rattle.smith_reduce.specs.Wanted.{IsLead}
-use Rattle.smith_reduce.proofs.Counting.{one_passed}
+use Rattle.smith_reduce.proofs.Passing.{one_passed}
 use Rattle.smith_reduce.proofs.steps.Whole.kth.Goals as goal
 
 pub loop-step-preserved : goal.loop-step-preserved

@@ -1,5 +1,5 @@
 use Rattle.smith_read.specs.PartNodes.{shown_tree}
-use Rattle.smith_reduce.proofs.Counting.{Passes}
+use Rattle.smith_reduce.proofs.Passing.{Passes}
 use Rattle.smith_reduce.proofs.steps.Whole.kth.Given as goal
 
 -- Of the steps before this one, as many lead to a wanted component as are no longer to be passed.

@@ -1,16 +1,12 @@
-use Rattle.std.proofs.Common.{map, sym, ap, ◌∙◌, subst}
-use Rattle.std.specs.List.Sorted.{IsStrictlyIncreasing}
+use Rattle.std.proofs.Common.{arith, sym, ap, ◌∙◌}
 use Rattle.smith_syntax.specs.Marked.{scope_in}
-use Rattle.smith_scopes.specs.Kept.{is_offered}
 use Rattle.smith_scopes.specs.Positions.{kind_places, plain_scope}
 use Rattle.smith_scopes.proofs.Ascending.{marked_ascend}
 use Rattle.smith_scopes.proofs.Offered.{offered_by_kind}
 use Rattle.smith_scopes.proofs.scope.Scope.offered.Goals as goal
 
 pub returns-then-self-clause-ascending : goal.returns-then-self-clause-ascending
-returns-then-self-clause-ascending g c =
-    let s = c.args.self.now in
-    subst IsStrictlyIncreasing (sym c.row.ensures) (marked_ascend (is_offered c.args.offer) 0 (map g.T.Tree.TypeTree.plain s.types) s.marks)
+returns-then-self-clause-ascending g c = grind (arith, marked_ascend)
 
 pub returns-clause-places : goal.returns-clause-places
 returns-clause-places g c =

@@ -1,16 +1,9 @@
-use Rattle.std.proofs.Common.{ap, ◌∙◌, length}
+use Rattle.std.proofs.Common.{◌∙◌}
 use Rattle.smith_format.specs.Consistency.{max_u32}
 use Rattle.smith_syntax.specs.Marked.{scope_in}
 use Rattle.smith_syntax.specs.Shown.{shown_core, shown_type}
-use Rattle.smith_scopes.specs.Scopes.{kind_places, shown_types}
 use Rattle.smith_scopes.proofs.ByKind.{few_of_kind}
 use Rattle.smith_scopes.proofs.scopes.Scopes.kind_len.Goals as goal
-
-pub returns-clause-count : goal.returns-clause-count
-returns-clause-count c = ap length (c.places.ensures.places ∙ ap (kind_places c.args.kind) c.last.ensures.own)
-
-pub returns-clause-lists : goal.returns-clause-lists
-returns-clause-lists c = ap length (c.places.ensures.places ∙ ap (λ d. kind_places c.args.kind (shown_types d)) c.last.ensures.lists)
 
 pub returns-clause-few : goal.returns-clause-few
 returns-clause-few c =

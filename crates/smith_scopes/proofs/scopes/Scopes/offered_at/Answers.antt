@@ -4,17 +4,9 @@ use Rattle.std.specs.Prelude.{slice_get}
 use Rattle.smith_syntax.specs.Shown.{shown_core, shown_type}
 use Rattle.smith_scopes.specs.Kept.{offered_places}
 use Rattle.smith_scopes.specs.Scopes.{shown_marked}
-use Rattle.smith_scopes.proofs.Chosen.{found_in_row, in_row}
+use Rattle.smith_scopes.proofs.Chosen.{found_in_row}
 use Rattle.smith_scopes.proofs.Offered.{all_offered, every_place_at, length-offered, offered_within}
 use Rattle.smith_scopes.proofs.scopes.Scopes.offered_at.Goals as goal
-
-pub offset_bounds-row-k : goal.offset_bounds-row-k
-offset_bounds-row-k c =
-    let own = ap (λ s. length (offered_places c.args.offer s)) c.last.ensures.marked in
-    omega (arith, c.requires, own, length-offered shown_type shown_core c.last.result.now c.args.offer, c.last.ensures.few)
-
-pub bounds-row-k : goal.bounds-row-k
-bounds-row-k c = in_row _ _ (c.in-Some.ensures.places ∙ ap (offered_places c.args.offer) c.last.ensures.marked) c.args.k c.requires
 
 pub overflow_cast-result : goal.overflow_cast-result
 overflow_cast-result c =

@@ -1,11 +1,7 @@
-use Rattle.std.proofs.Common.{◌∙◌, ap, arith, length}
+use Rattle.std.proofs.Common.{◌∙◌, arith}
 use Rattle.smith_syntax.specs.Shown.{shown_core, shown_type}
-use Rattle.smith_scopes.specs.Kept.{offered_places}
 use Rattle.smith_scopes.proofs.Offered.{length-offered}
 use Rattle.smith_scopes.proofs.scopes.Scopes.offered_len.Goals as goal
-
-pub returns-clause-count : goal.returns-clause-count
-returns-clause-count c = c.offered_len.ensures ∙ ap (λ s. length (offered_places c.args.offer s)) c.last.ensures.marked
 
 pub returns-clause-few : goal.returns-clause-few
 returns-clause-few c =

@@ -1,6 +1,5 @@
 use Rattle.std.proofs.Common.{string_bytes}
 use Rattle.smith_format.specs.Piece.{text}
-use Rattle.smith_format.proofs.Steps.{exits_between}
 use Rattle.smith_format.proofs.Many.{many-map}
 use Rattle.smith_syntax.specs.Grammar.{labelvaltype, case}
 use Rattle.smith_syntax.specs.Signature.{named}
@@ -17,8 +16,3 @@ returns-in-Flags c = rw (c.in-Flags.is, many-map text string_bytes _) (rw c.dere
 
 pub returns-in-Enum : goal.returns-in-Enum
 returns-in-Enum c = rw (c.in-Enum.is, many-map text string_bytes _) (rw c.deref-in-Enum.ensures.value at c.put_tagged-in-Enum.ensures)
-
-pub returns-in_err-put_maybe_val-in-Result : goal.returns-in_err-put_maybe_val-in-Result
-returns-in_err-put_maybe_val-in-Result c =
-    let d = c.in_err-put_maybe_val-in-Result.ensures {u = tt} in
-    rw c.in-Result.is (exits_between _ _ _ c.from_residual-in_err-put_maybe_val-in-Result.ensures.1 (c.in_ok-write_byte-in-Result.ensures {u = tt}) d.0 d.1)

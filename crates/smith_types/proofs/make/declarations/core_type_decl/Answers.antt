@@ -7,7 +7,7 @@ use Rattle.smith_scopes.specs.Scopes.{last_of}
 use Rattle.smith_syntax.proofs.Shown.{instance_core_decl}
 use Rattle.smith_core_types.specs.MadeCore.{MadeCore}
 use Rattle.smith_core_types.specs.MakingCore.{KeepsAliased}
-use Rattle.smith_core_types.proofs.KeptAliases.{kept_core_named}
+use Rattle.smith_core_types.proofs.MakingCore.{kept_core_named}
 use Rattle.smith_scopes.proofs.Stack.{own_scope_is}
 use Rattle.smith_types.proofs.Declaring.{core_type_declared, length-last_core_types, same_changed}
 use Rattle.smith_types.proofs.make.declarations.core_type_decl.Goals as goal

@@ -5,7 +5,7 @@ use Rattle.smith_syntax.proofs.Shown.{instance_export}
 use Rattle.smith_types.specs.Declarations.{NamedExtern}
 use Rattle.smith_types.specs.MakingTypes.{HoldsExterns}
 use Rattle.smith_scopes.specs.Scopes.{own_marked}
-use Rattle.smith_types.proofs.Importing.{export_possible, export_read}
+use Rattle.smith_types.proofs.MakingTypes.{export_possible, export_read}
 use Rattle.smith_types.proofs.References.{ref_formed}
 use Rattle.smith_types.proofs.make.declarations.export.Goals as goal
 

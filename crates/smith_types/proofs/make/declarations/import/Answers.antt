@@ -1,7 +1,7 @@
 use Rattle.std.proofs.Common.{sym, ap, ◌∙◌, refl, arith}
 use Rattle.smith_tree.specs.TypeOffers.{has_reference}
 use Rattle.smith_types.specs.Declarations.{nothing_there}
-use Rattle.smith_types.proofs.Importing.{import_not_asked, import_fits_none, import_read}
+use Rattle.smith_types.proofs.MakingTypes.{import_not_asked, import_fits_none, import_read}
 use Rattle.smith_types.proofs.make.declarations.import.Goals as goal
 use Rattle.smith_types.proofs.make.declarations.import.Goals.{then-not-has_reference-via-then-not-has_reference}
 use Rattle.smith_types.proofs.make.declarations.import.Goals.{then-not-has_reference-via-else-not-has_reference+then-int_in_range-ne0}

@@ -4,16 +4,11 @@ use Rattle.smith_syntax.specs.Places.{places}
 use Rattle.smith_syntax.specs.Scope.{is_core_module}
 use Rattle.smith_scopes.specs.Scopes.{own_marked}
 use Rattle.smith_scopes.proofs.Stack.{own_scope_is}
-use Rattle.smith_types.proofs.Choosing.{places_offered, places_of_modules}
+use Rattle.smith_types.proofs.References.{places_of_modules}
 use Rattle.smith_types.proofs.make.references.place_at.Goals as goal
 
 found : {row all : List ℕ} (k : ℕ) → row ≡ all → k < length all → k < length row
 found k e h = let l = ap length e in omega (arith, l, h)
-
-pub offered_at-requires : goal.offered_at-requires
-offered_at-requires c =
-    found c.args.rank
-    (sym (places_offered c.args.kind c.args.for_import c.in-Some.offer (own_marked c.args.scopes.now) (sym c.offer_of.ensures ∙ c.in-Some.is))) c.requires
 
 pub kind_at-requires : goal.kind_at-requires
 kind_at-requires c =
@@ -21,12 +16,6 @@ kind_at-requires c =
     (ap (λ s. places is_core_module 0 s.core_types) (own_scope_is c.args.scopes.now)
     ∙ sym (places_of_modules c.args.kind c.args.for_import (own_marked c.args.scopes.now) (sym c.offer_of.ensures ∙ c.in-None.is)))
     c.requires
-
-pub returns-in-Some : goal.returns-in-Some
-returns-in-Some c =
-    ap (λ xs. slice_get xs c.args.rank)
-    (places_offered c.args.kind c.args.for_import c.in-Some.offer (own_marked c.args.scopes.now) (sym c.offer_of.ensures ∙ c.in-Some.is))
-    ∙ c.offered_at.ensures
 
 pub returns-in-None : goal.returns-in-None
 returns-in-None c =

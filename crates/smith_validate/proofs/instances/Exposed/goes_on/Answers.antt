@@ -1,4 +1,4 @@
-use Rattle.std.proofs.Common.{◌∷◌, ap, sym, ◌∙◌, subst, refl, reverse}
+use Rattle.std.proofs.Common.{arith, inl, ◌∷◌, ap, sym, ◌∙◌, subst, refl, reverse}
 use Rattle.std.specs.Prelude.{slice_get}
 use Rattle.smith_validate.specs.Exact.{IsExposed}
 use Rattle.smith_validate.specs.Opening.{AreHalf, IsOpenable}
@@ -6,8 +6,8 @@ use Rattle.smith_validate.specs.Exposing.{IsGoal, IsPending, named_after, number
 use Rattle.smith_validate.specs.declared.instances.Exposed.{Exposed}
 use Rattle.smith_validate.specs.declared.instances.Use.{Use}
 use Rattle.smith_validate.specs.declared.instances.Use.TheVariants.{Instance, Equal}
-use Rattle.smith_validate.proofs.Exposed.{named_one, next_use, reverse_push, settled_gains, settled_one, use_ended, use_found, use_missing}
-use Rattle.smith_validate.proofs.Opened.{equal_done, instance_done, next_opens, set_has, set_more, set_only}
+use Rattle.smith_validate.proofs.Exposed.{next_use, reverse_push, set_has, set_more, set_only, settled_gains, settled_one, use_ended, use_found, use_missing}
+use Rattle.smith_validate.proofs.Opened.{equal_done, instance_done, next_opens}
 use Rattle.smith_validate.proofs.Tables.{settled_sub}
 use Rattle.smith_validate.proofs.instances.Exposed.goes_on.Goals as goal
 
@@ -38,7 +38,9 @@ returns-in_ok-insert-in-Instance-clause-met c = λ table last before ts on _.
     let end = use_ended table all G u c.args.done us on.named (rw c.in-Instance.is at none) (rw c.in-Instance.is at on.pending) in
     record {
       named = end.then;
-      settled = settled_one table c.args.self.now new n end.then (named_one c.args.self.now new n refl (c.in_ok-insert-in-Instance.ensures {u = tt}).updates)
+      settled = settled_one table c.args.self.now new n end.then
+          (settled_gains c.args.self.now new n (set_only c.args.self.now.named new.named n (c.in_ok-insert-in-Instance.ensures {u = tt}).updates)
+          (λ m h. inl h))
           (settled_sub table c.args.self.now on.named end.then end.grows on.settled) end.known end.within;
       pending = end.pending;
     }
@@ -55,7 +57,9 @@ returns-in_ok-insert-in-Equal-clause-met c = λ table last before ts on _.
     let end = use_ended table all G u c.args.done us on.named (rw c.in-Equal.is at none) (rw c.in-Equal.is at on.pending) in
     record {
       named = end.then;
-      settled = settled_one table c.args.self.now new n end.then (settled_gains c.args.self.now new n refl (c.in_ok-insert-in-Equal.ensures {u = tt}).updates)
+      settled = settled_one table c.args.self.now new n end.then
+          (settled_gains c.args.self.now new n (λ m h. inl h)
+          (set_only c.args.self.now.settled new.settled n (c.in_ok-insert-in-Equal.ensures {u = tt}).updates))
           (settled_sub table c.args.self.now on.named end.then end.grows on.settled) end.known end.within;
       pending = end.pending;
     }
@@ -76,23 +80,7 @@ returns-in-Some-clause-exact c = λ table last before exact distinct on.
     (rw c.within.ensures (subst (λ vs. AreHalf table all last before c.args.self.now vs (named_after table v next.named)) (sym pushed) next.half))
 
 pub returns-in_ok-insert-in-Instance-clause-exact : goal.returns-in_ok-insert-in-Instance-clause-exact
-returns-in_ok-insert-in-Instance-clause-exact c = λ table last before exact distinct on.
-    let all = c.args.all.now in
-    let n = c.in-Instance.number in
-    let us = reverse c.args.rest.now.items in
-    let none = use_missing (slice_get (uses_of all (number_of c.args.used)) c.args.done) c.args.done (rw c.of.ensures at c.in_default.ensures) in
-    let new : Exposed = record { named = c.insert.new.self; settled = c.args.self.now.settled } in
-    let up = (c.in_ok-insert-in-Instance.ensures {u = tt}).updates in
-    let old = c.args.self.now.named in
-    instance_done table all exact last before c.args.self.now new (set_more old new.named n up) n c.args.done us on.named
-    (rw c.in-Instance.is at none) (set_has old new.named n up) (set_only old new.named n up)
-    (rw c.in-Instance.is at on.exposed) (rw c.in-Instance.is at on.half)
+returns-in_ok-insert-in-Instance-clause-exact c = grind (arith, use_missing, instance_done, set_more, set_has, set_only)
 
 pub returns-in_ok-insert-in-Equal-clause-exact : goal.returns-in_ok-insert-in-Equal-clause-exact
-returns-in_ok-insert-in-Equal-clause-exact c = λ table last before exact distinct on.
-    let all = c.args.all.now in
-    let n = c.in-Equal.number in
-    let us = reverse c.args.rest.now.items in
-    let new : Exposed = record { named = c.args.self.now.named; settled = c.insert-in-Equal.new.self } in
-    equal_done table all exact last before c.args.self.now new (λ m h. h) n c.args.done us on.named (λ m h. h)
-    (rw c.in-Equal.is at on.exposed) (rw c.in-Equal.is at on.half)
+returns-in_ok-insert-in-Equal-clause-exact c = grind (arith, equal_done)

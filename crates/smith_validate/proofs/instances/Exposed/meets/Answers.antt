@@ -4,7 +4,6 @@ use Rattle.smith_validate.specs.Exact.{IsExposed}
 use Rattle.smith_validate.specs.Exposing.{IsGoal, IsOnTheWay, IsPending, named_after}
 use Rattle.smith_validate.specs.Opening.{AreHalf, IsMidway, IsOpenable}
 use Rattle.smith_validate.proofs.Exposed.{reached, reverse_push}
-use Rattle.smith_validate.proofs.Opened.{found}
 use Rattle.smith_validate.proofs.instances.Exposed.meets.Goals as goal
 
 pub loop-init : goal.loop-init
@@ -51,14 +50,6 @@ returns-in_default-clause-met c = λ table named ts s h w _.
     reached table all u named c.loop.self
     (subst (λ us. IsOnTheWay table all u named c.loop.self (reverse us)) none (c.loop.invariant.met table named ts s h w))
 
-pub returns-in_default-clause-exact : goal.returns-in_default-clause-exact
-returns-in_default-clause-exact c = λ table named exact distinct x o.
-    let all = c.args.all.now in
-    let u = c.args.used in
-    let none : c.loop.rest.items ≡ [] = nil_from_length c.loop.rest.items (omega (arith, c.in_default.ensures.cases.0, c.loop.rest.ok.0)) in
-    found table all u named c.loop.self
-    (subst (λ us. IsMidway table all u named c.loop.self (reverse us)) none (c.loop.invariant.exact table named exact distinct x o))
-
 pub loop-preserved : goal.loop-preserved
 loop-preserved c =
     let all = c.args.all.now in
@@ -74,12 +65,3 @@ loop-preserved c =
           ((c.in_ok-goes_on.ensures {u = tt}).exact table u named exact distinct
           (subst (λ us. IsMidway table all u named c.loop.self us) popped (c.loop.invariant.exact table named exact distinct x o)));
     }
-
-pub returns-then-not-branch-2-clause-exact : goal.returns-then-not-branch-2-clause-exact
-returns-then-not-branch-2-clause-exact c = λ table named exact distinct x o.
-    let all = c.args.all.now in
-    let u = c.args.used in
-    let popped = reverse_push c.pop.new.self.items c.loop.rest.items (c.in-Some.used, c.in-Some.done) c.in-Some.ensures.items in
-    rw c.if-not-branch-2.true at
-    ((c.in_ok-goes_on.ensures {u = tt}).exact table u named exact distinct
-    (subst (λ us. IsMidway table all u named c.loop.self us) popped (c.loop.invariant.exact table named exact distinct x o)))

@@ -1,11 +1,10 @@
-use Rattle.std.proofs.Common.{sym, ◌∙◌, subst, reverse}
+use Rattle.std.proofs.Common.{arith, sym, ◌∙◌, subst, reverse}
 use Rattle.smith_validate.specs.Exposing.{IsGoal, IsPending, named_after}
-use Rattle.smith_validate.specs.Opening.{IsMidway}
 use Rattle.smith_validate.specs.declared.instances.Use.{Use}
 use Rattle.smith_validate.specs.declared.instances.Use.TheVariants.{Instance, Equal}
 use Rattle.smith_validate.proofs.Exposed.{after_sub, equal_opened, instance_opened, reverse_push, within_met}
 use Rattle.smith_validate.proofs.Names.{or_left}
-use Rattle.smith_validate.proofs.Opened.{equal_half, equal_known, equal_not, instance_half, instance_known}
+use Rattle.smith_validate.proofs.Opened.{equal_not, instance_known, use_half}
 use Rattle.smith_validate.proofs.Tables.{settled_sub}
 use Rattle.smith_validate.proofs.instances.Exposed.opens.Goals as goal
 
@@ -52,41 +51,13 @@ returns-in_ok-push-in-Equal-clause-met c =
     })
 
 pub returns-in_ok-push-in-Instance-clause-exact : goal.returns-in_ok-push-in-Instance-clause-exact
-returns-in_ok-push-in-Instance-clause-exact c =
-    rw (c.in-Instance.is)
-    (λ table named last before exact x o met h.
-    let n = c.in-Instance.number in
-    let all = c.args.all.now in
-    let pushed = reverse_push c.args.rest.now.items c.push.new.self.items (Instance n, 0) (c.in_ok-push-in-Instance.ensures {u = tt}).items in
-    subst (λ us. IsMidway table all last before c.args.self.now us) (sym pushed)
-    (instance_half table all exact last before c.args.self.now (reverse c.args.rest.now.items) named x n o met h))
+returns-in_ok-push-in-Instance-clause-exact c = grind (arith, reverse_push, use_half)
 
 pub returns-else-not-contains-clause-exact : goal.returns-else-not-contains-clause-exact
-returns-else-not-contains-clause-exact c =
-    rw (c.in-Instance.is)
-    (λ table named last before exact x o met h.
-    instance_known table c.args.all.now exact last before c.args.self.now (reverse c.args.rest.now.items) named x c.in-Instance.number
-    (sym (c.if-not-contains.ensures {u = tt})) h)
-
-pub returns-then-is_settled-clause-exact : goal.returns-then-is_settled-clause-exact
-returns-then-is_settled-clause-exact c =
-    rw (c.in-Equal.is)
-    (λ table named last before exact x o met h.
-    equal_known table c.args.all.now exact last before c.args.self.now (reverse c.args.rest.now.items) named x c.in-Equal.number h)
+returns-else-not-contains-clause-exact c = grind (arith, instance_known)
 
 pub returns-then-refers_to_own-clause-exact : goal.returns-then-refers_to_own-clause-exact
-returns-then-refers_to_own-clause-exact c =
-    rw (c.in-Equal.is)
-    (λ table named last before exact x o met h.
-    equal_not table c.args.all.now exact last before c.args.self.now (reverse c.args.rest.now.items) named x c.in-Equal.number o
-    (sym c.is_settled.ensures ∙ c.if-is_settled.false) (sym c.refers_to_own.ensures ∙ c.if-refers_to_own.true) met)
+returns-then-refers_to_own-clause-exact c = grind (arith, equal_not)
 
 pub returns-in_ok-push-in-Equal-clause-exact : goal.returns-in_ok-push-in-Equal-clause-exact
-returns-in_ok-push-in-Equal-clause-exact c =
-    rw (c.in-Equal.is)
-    (λ table named last before exact x o met h.
-    let n = c.in-Equal.number in
-    let all = c.args.all.now in
-    let pushed = reverse_push c.args.rest.now.items c.push-in-Equal.new.self.items (Equal n, 0) (c.in_ok-push-in-Equal.ensures {u = tt}).items in
-    subst (λ us. IsMidway table all last before c.args.self.now us) (sym pushed)
-    (equal_half table all exact last before c.args.self.now (reverse c.args.rest.now.items) named x n o met h))
+returns-in_ok-push-in-Equal-clause-exact c = grind (arith, reverse_push, use_half)

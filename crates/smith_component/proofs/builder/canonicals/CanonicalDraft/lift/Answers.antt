@@ -1,7 +1,7 @@
-use Rattle.std.proofs.Common.{ℕ, ◌<◌, List, length, refl, sym, ap, ◌∙◌, subst, arith, rules}
+use Rattle.std.proofs.Common.{ℕ, ◌<◌, List, length, refl, sym, ap, ◌∙◌, subst, arith}
 use Rattle.std.proofs.lemmas.Result.{on_ok_weaker}
 use Rattle.smith_input.specs.Reading.{IsTail}
-use Rattle.smith_input.proofs.Reading.{reads_tail, tail_trans}
+use Rattle.smith_input.proofs.Reading.{tail_trans}
 use Rattle.smith_scopes.specs.Scopes.{last_of, outer_marked, own_scope}
 use Rattle.smith_component.specs.Canonicals.{grown, with_defined}
 use Rattle.smith_component.specs.CanonicalsState.{CanonicalsState, draft_of}
@@ -23,27 +23,14 @@ lifted_type-requires c = record {
 }
 
 pub add_function-requires-clause-known : goal.add_function-requires-clause-known
-add_function-requires-clause-known c =
-    let d = c.args.self.now in
-    let r = chosen_equal (last_of d.scopes.now).types c.in_ok-signature.signature c.in_ok-ty.ty.value c.lifted_type.new.u c.choose_equal.new.u
-    c.in_ok-func_ty.field-0 c.in-Some.func_ty c.in_ok-ty.ensures.ok c.in-Some.is c.in_ok-func_ty.ensures.chosen in
-    subst (λ scopes. c.in-Some.func_ty < length (own_scope scopes).types) (sym c.in_ok-func_ty.ensures.same)
-    (equal_within d c.requires.draft.around c.requires.draft.is c.in_ok-signature.signature c.in-Some.func_ty r)
+add_function-requires-clause-known c = grind (arith, chosen_equal, equal_within)
 
 pub add_function-requires-clause-few : goal.add_function-requires-clause-few
 add_function-requires-clause-few c =
     omega (arith, c.requires.draft.is.tabled.counts, (functions_counted (grown (draft_of c.args.self.now))).least, c.requires.draft.room)
 
 pub define-requires-clause-draft : goal.define-requires-clause-draft
-define-requires-clause-draft c =
-    let d = c.args.self.now in
-    let around = c.requires.draft.around in
-    record {
-      around = around;
-      is = subst (λ scopes. CanonicalsState d.config.now around scopes d.component.now d.funcs.now.items) (sym c.in_ok-func_ty.ensures.same)
-          c.requires.draft.is;
-      room = c.requires.draft.room;
-    }
+define-requires-clause-draft c = grind arith
 
 pub returns-in-Some-clause-reads : goal.returns-in-Some-clause-reads
 returns-in-Some-clause-reads c =
@@ -79,14 +66,7 @@ returns-in-Some-clause-drafts c =
     }
 
 pub returns-clause-drafts : goal.returns-clause-drafts
-returns-clause-drafts c =
-    let d = c.args.self.now in
-    let same = c.in_ok-func_ty.ensures.same in
-    record {
-      draft = λ around held. subst (λ scopes. CanonicalsState d.config.now around scopes d.component.now d.funcs.now.items) (sym same) held;
-      front = front_same d.component.now d.component.now refl refl;
-      around = record { outer = ap outer_marked same; depth = ap length same };
-    }
+returns-clause-drafts c = grind (arith, front_same)
 
 pub returns-then-own_len-self-clause-reads : goal.returns-then-own_len-self-clause-reads
 returns-then-own_len-self-clause-reads c =
@@ -111,39 +91,3 @@ returns-clause-reads c =
     c.in_ok-signature.signature c.args.u.now c.choose_index-core_func_index.new.self c.lifted_type.new.u c.choose_equal.new.u _ (omega (arith, c.len.ensures))
     c.choose_index-core_func_index.ensures c.in_ok-signature.ensures.reads none.0
     (omega (arith, c.own_len.ensures.count, many, c.if-own_len-self.false)) none.1 refl
-
-pub returns-in_err-ty-clause-input : goal.returns-in_err-ty-clause-input
-returns-in_err-ty-clause-input c = record {
-  tail = tail_trans c.lifted_type.ensures.input.tail (reads_tail c.choose_index-core_func_index.ensures);
-  memory = search rules;
-}
-
-pub returns-then-own_len-self-clause-input : goal.returns-then-own_len-self-clause-input
-returns-then-own_len-self-clause-input c = record {
-  tail = after_choice c.choose_equal.ensures.tail c.lifted_type.ensures.input.tail (reads_tail c.choose_index-core_func_index.ensures);
-  memory = c.define.ensures.memory;
-}
-
-pub returns-clause-input : goal.returns-clause-input
-returns-clause-input c = record {
-  tail = after_choice c.choose_equal.ensures.tail c.lifted_type.ensures.input.tail (reads_tail c.choose_index-core_func_index.ensures);
-  memory = tt;
-}
-
-pub returns-in_err-add_function-clause-input : goal.returns-in_err-add_function-clause-input
-returns-in_err-add_function-clause-input c = record {
-  tail = after_choice c.choose_equal.ensures.tail c.lifted_type.ensures.input.tail (reads_tail c.choose_index-core_func_index.ensures);
-  memory = search rules;
-}
-
-pub returns-in_err-push-clause-input : goal.returns-in_err-push-clause-input
-returns-in_err-push-clause-input c = record {
-  tail = after_choice c.choose_equal.ensures.tail c.lifted_type.ensures.input.tail (reads_tail c.choose_index-core_func_index.ensures);
-  memory = search rules;
-}
-
-pub returns-in-Some-clause-input : goal.returns-in-Some-clause-input
-returns-in-Some-clause-input c = record {
-  tail = after_choice c.choose_equal.ensures.tail c.lifted_type.ensures.input.tail (reads_tail c.choose_index-core_func_index.ensures);
-  memory = tt;
-}

@@ -1,10 +1,9 @@
-use Rattle.std.proofs.Common.{sym, subst, ap, ◌∙◌, rules}
+use Rattle.std.proofs.Common.{arith, sym, subst, ◌∙◌}
 use Rattle.std.proofs.lemmas.Result.{IfOk-weaker}
 use Rattle.smith_format.specs.CoreTypes.{Function}
 use Rattle.smith_format.specs.Shown.{shown_func}
-use Rattle.smith_syntax.specs.Flat.{Flattens, is_scalar}
+use Rattle.smith_syntax.specs.Flat.{Flattens}
 use Rattle.smith_types.specs.Lifting.{ReadsLiftedType}
-use Rattle.smith_input.proofs.Reading.{tail_same}
 use Rattle.smith_scopes.specs.Scopes.{own_scope}
 use Rattle.smith_types.proofs.Lifting.{flattens_liftable}
 use Rattle.smith_component.specs.CanonicalsState.{ReadsLiftedTypeOf}
@@ -12,10 +11,7 @@ use Rattle.smith_component.proofs.CanonicalsState.{lifts_as, lowered_other, lowe
 use Rattle.smith_component.proofs.builder.canonicals.CanonicalDraft.lifted_type.Goals as goal
 
 pub get-requires-clause-entry : goal.get-requires-clause-entry
-get-requires-clause-entry c =
-    let d = c.args.self.now in
-    lowered_within d.scopes.now d.component.now.tables c.args.core_func_index c.index-func_index.result.now c.index-ty.result.now
-    c.requires.known c.index-func_index.ensures c.index-ty.ensures
+get-requires-clause-entry c = grind (arith, lowered_within)
 
 pub unreachable-requires : goal.unreachable-requires
 unreachable-requires c =
@@ -24,11 +20,7 @@ unreachable-requires c =
     c.requires.known c.index-func_index.ensures c.index-ty.ensures c.get.result.now.value c.get.ensures.value c.deref.result.now c.deref.ensures c.in-Defined.is
 
 pub canonical_abi_for-requires : goal.canonical_abi_for-requires
-canonical_abi_for-requires c =
-    let d = c.args.self.now in
-    ap is_scalar c.deref-2.ensures
-    ∙ lowered_scalar d.scopes.now d.component.now.tables c.args.core_func_index c.index-func_index.result.now c.index-ty.result.now c.requires.known
-    c.index-func_index.ensures c.index-ty.ensures c.get.result.now.value c.get.ensures.value c.in-Func.func (sym c.deref.ensures ∙ c.in-Func.is)
+canonical_abi_for-requires c = grind (arith, lowered_scalar)
 
 pub inverse_scalar_canonical_abi_for-requires : goal.inverse_scalar_canonical_abi_for-requires
 inverse_scalar_canonical_abi_for-requires c = record {
@@ -50,12 +42,3 @@ returns-clause-reads c =
     c.index-func_index.ensures c.index-ty.ensures c.get.result.now.value c.get.ensures.value c.in-Func.func (sym c.deref.ensures ∙ c.in-Func.is) core
     c.deref-2.result.now f c.args.u.now low c.deref-2.ensures flat reads)
     c.inverse_scalar_canonical_abi_for.ensures.reads
-
-pub returns-in_err-core-clause-input : goal.returns-in_err-core-clause-input
-returns-in_err-core-clause-input c = record { tail = tail_same _; memory = search rules }
-
-pub returns-clause-input : goal.returns-clause-input
-returns-clause-input c = record {
-  tail = c.inverse_scalar_canonical_abi_for.ensures.input.tail;
-  memory = c.inverse_scalar_canonical_abi_for.ensures.input.memory;
-}

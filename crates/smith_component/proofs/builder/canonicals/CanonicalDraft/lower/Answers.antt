@@ -1,16 +1,12 @@
 use Rattle.std.proofs.Common.{arith, refl}
 use Rattle.std.proofs.lemmas.Result.{on_ok_weaker}
-use Rattle.smith_component.specs.Canonicals.{grown}
-use Rattle.smith_component.specs.CanonicalsState.{draft_of}
 use Rattle.smith_component.specs.declared.builder.open.OpenComponent.{OpenComponent}
 use Rattle.smith_component.proofs.CanonicalsState.{front_same, lower_draft, lower_reads}
 use Rattle.smith_component.proofs.Growth.{functions_counted}
 use Rattle.smith_component.proofs.builder.canonicals.CanonicalDraft.lower.Goals as goal
 
 pub add_core_function-requires : goal.add_core_function-requires
-add_core_function-requires c = record {
-  few = omega (arith, c.requires.draft.is.tabled.counts, (functions_counted (grown (draft_of c.args.self.now))).least, c.requires.draft.room);
-}
+add_core_function-requires c = grind (arith, functions_counted)
 
 pub returns-clause-reads : goal.returns-clause-reads
 returns-clause-reads c =

@@ -1,5 +1,5 @@
 use Rattle.std.proofs.Common.{◌≡◌, Some}
-use Rattle.smith_format.proofs.Steps.{exits, gains_begins, due_left, due_right, appends_puts, ends_appending, ends_third}
+use Rattle.smith_format.proofs.Steps.{exits, gains_begins, due_left, due_right, appends_puts}
 use Rattle.smith_format.proofs.Piece.{joined}
 use Rattle.smith_core.proofs.module.encode.segments.put_functions_front.Goals as goal
 
@@ -18,12 +18,3 @@ returns-in-Passive c = rw (c.in-Passive.is, joined _ _) (appends_puts c.write_by
 pub returns-in-Declared : goal.returns-in-Declared
 returns-in-Declared c =
     rw (c.in-Declared.is, joined _ _) (appends_puts c.write_bytes-in-Declared.result _ _ _ c.write_bytes-in-Declared.ensures)
-
-pub returns-in_ok-put-in-Active-Some-default : goal.returns-in_ok-put-in-Active-Some-default
-returns-in_ok-put-in-Active-Some-default c =
-    let g = c.in_ok-write_byte-in-Active-Some-default.ensures {u = tt} in
-    let h = (c.in_ok-write_u32-in-Active-Some-default.ensures {u = tt}).written in
-    let r = c.write_byte-in-Active-Some-default-2.result in
-    let k = ends_appending r _ _ (c.in_ok-put-in-Active-Some-default.ensures {u = tt}) c.write_byte-in-Active-Some-default-2.ensures in
-    let named : c.in-Active-Some-default.table' ≡ Some c.in-Active-Some-default.table = rw c.in-Active-Some-default.is at c.in-Active-Some-default.table-is in
-    rw (c.in-Active-Some-default.is, named) (ends_third r _ _ g h k)

@@ -1,10 +1,7 @@
 use Rattle.std.proofs.Common.{arith}
-use Rattle.smith_format.proofs.Sizes.{sum_none, sum_next, sum_all, each_too_much, each_reaches, many_too_much, too_much_long, too_much_right, length_then}
+use Rattle.smith_format.proofs.Sizes.{sum_next, sum_all, each_too_much, each_reaches, many_too_much, too_much_long, too_much_right, length_then}
 use Rattle.smith_core.proofs.Segments.{all_read, takes_global, too_much_type}
 use Rattle.smith_core.proofs.module.encode.tables.globals_len.Goals as goal
-
-pub loop-index-init : goal.loop-index-init
-loop-index-init c = sum_none _ _
 
 pub returns-in_err-ty : goal.returns-in_err-ty
 returns-in_err-ty c =

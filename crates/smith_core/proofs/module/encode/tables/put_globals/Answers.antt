@@ -1,13 +1,7 @@
-use Rattle.smith_format.proofs.Many.{put_none, put_next, loop_done, loop_exit}
+use Rattle.smith_format.proofs.Many.{put_next, loop_done, loop_exit}
 use Rattle.smith_format.proofs.Steps.{gains_begins}
 use Rattle.smith_core.proofs.Segments.{all_read, due_type, due_value, gains_global}
 use Rattle.smith_core.proofs.module.encode.tables.put_globals.Goals as goal
-
-pub loop-index-init : goal.loop-index-init
-loop-index-init c = put_none _ _ _
-
-pub bounds-types-index : goal.bounds-types-index
-bounds-types-index c = all_read _ _ _ _ c.requires c.loop-index-test.true c.loop-index-item.is
 
 pub returns-in_err-put : goal.returns-in_err-put
 returns-in_err-put c =

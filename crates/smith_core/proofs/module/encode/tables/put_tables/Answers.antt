@@ -1,10 +1,7 @@
-use Rattle.smith_format.proofs.Many.{put_none, put_next, loop_done, loop_exit}
+use Rattle.smith_format.proofs.Many.{put_next, loop_done, loop_exit}
 use Rattle.smith_format.proofs.Steps.{exits, due_left, keeps_begins}
 use Rattle.smith_core.proofs.Segments.{pair_at, pairs_long}
 use Rattle.smith_core.proofs.module.encode.tables.put_tables.Goals as goal
-
-pub loop-at-init : goal.loop-at-init
-loop-at-init c = put_none _ _ _
 
 pub returns-in_err-write_count : goal.returns-in_err-write_count
 returns-in_err-write_count c =

@@ -1,11 +1,8 @@
 use Rattle.std.proofs.Common.{arith}
-use Rattle.smith_format.proofs.Sizes.{sum_none, sum_next, sum_all, each_too_much, each_reaches, many_too_much, too_much_left, length_then}
+use Rattle.smith_format.proofs.Sizes.{sum_next, sum_all, each_too_much, each_reaches, many_too_much, too_much_left, length_then}
 use Rattle.smith_core.proofs.Segments.{pair_at, pairs_long}
 use Rattle.smith_core.specs.Segments.{table}
 use Rattle.smith_core.proofs.module.encode.tables.tables_len.Goals as goal
-
-pub loop-at-init : goal.loop-at-init
-loop-at-init c = sum_none _ _
 
 pub returns-in_err-table_len : goal.returns-in_err-table_len
 returns-in_err-table_len c =

@@ -1,26 +1,7 @@
-use Rattle.std.proofs.Common.{rules, arith}
+use Rattle.std.proofs.Common.{arith}
 use Rattle.smith_format.proofs.Sizes.{sum_next, sum_all, each_too_much, each_reaches, many_too_much, length_then}
-use Rattle.smith_core.proofs.Tiles.{tiles_within, member_is}
+use Rattle.smith_core.proofs.Tiles.{member_is}
 use Rattle.smith_core.proofs.module.encode.types.groups_len.Goals as goal
-
-pub offset_bounds-types-start : goal.offset_bounds-types-start
-offset_bounds-types-start c =
-    let w = tiles_within _ _ _ c.loop-start.start-index (0, 0) c.requires c.loop-start-test.true in
-    let l = w.0 in
-    let m = w.1 in
-    search rules
-
-pub slice_bounds-rec_type_len-count : goal.slice_bounds-rec_type_len-count
-slice_bounds-rec_type_len-count c =
-    (tiles_within _ _ _ c.loop-start.start-index (0, 0) c.requires c.loop-start-test.true).0
-
-pub slice_bounds-rec_type_len-start : goal.slice_bounds-rec_type_len-start
-slice_bounds-rec_type_len-start c =
-    (tiles_within _ _ _ c.loop-start.start-index (0, 0) c.requires c.loop-start-test.true).0
-
-pub slice_bounds-rec_type_len-end : goal.slice_bounds-rec_type_len-end
-slice_bounds-rec_type_len-end c =
-    (tiles_within _ _ _ c.loop-start.start-index (0, 0) c.requires c.loop-start-test.true).1
 
 pub returns-in_err-rec_type_len : goal.returns-in_err-rec_type_len
 returns-in_err-rec_type_len c =

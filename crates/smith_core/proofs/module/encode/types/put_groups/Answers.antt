@@ -1,26 +1,6 @@
-use Rattle.std.proofs.Common.{rules}
 use Rattle.smith_format.proofs.Many.{put_next, loop_done, loop_exit}
-use Rattle.smith_core.proofs.Tiles.{tiles_within, member_is}
+use Rattle.smith_core.proofs.Tiles.{member_is}
 use Rattle.smith_core.proofs.module.encode.types.put_groups.Goals as goal
-
-pub offset_bounds-types-start : goal.offset_bounds-types-start
-offset_bounds-types-start c =
-    let w = tiles_within _ _ _ c.loop-start.start-index (0, 0) c.requires c.loop-start-test.true in
-    let l = w.0 in
-    let m = w.1 in
-    search rules
-
-pub slice_bounds-put_rec_type-count : goal.slice_bounds-put_rec_type-count
-slice_bounds-put_rec_type-count c =
-    (tiles_within _ _ _ c.loop-start.start-index (0, 0) c.requires c.loop-start-test.true).0
-
-pub slice_bounds-put_rec_type-start : goal.slice_bounds-put_rec_type-start
-slice_bounds-put_rec_type-start c =
-    (tiles_within _ _ _ c.loop-start.start-index (0, 0) c.requires c.loop-start-test.true).0
-
-pub slice_bounds-put_rec_type-end : goal.slice_bounds-put_rec_type-end
-slice_bounds-put_rec_type-end c =
-    (tiles_within _ _ _ c.loop-start.start-index (0, 0) c.requires c.loop-start-test.true).1
 
 pub returns-in_err-put_rec_type : goal.returns-in_err-put_rec_type
 returns-in_err-put_rec_type c =

@@ -2,31 +2,25 @@ use Rattle.std.proofs.Common.{◌+◌, ◌-◌, ◌≡◌, ap, arith, ◌∙◌,
 use Rattle.smith_format.specs.Piece.{bytes, ◌⊕◌}
 use Rattle.smith_format.specs.Writing.{Takes}
 use Rattle.smith_format.proofs.Piece.{right_none}
-use Rattle.smith_format.proofs.Sizes.{takes_then, takes_bytes, sum_none, sum_next, sum_all, each_none, measures_none}
+use Rattle.smith_format.proofs.Sizes.{takes_then, takes_bytes, sum_next, sum_all, each_none, measures_none}
 use Rattle.smith_core.specs.Module.{binary_order, module_text, section}
 use Rattle.smith_core.specs.Preamble.{core_preamble}
-use Rattle.smith_core.proofs.Sections.{item_at}
+use Rattle.smith_core.proofs.Tiles.{member_is}
 use Rattle.smith_core.specs.declared.module.sections.SectionKind.TheVariants.{Types}
 use Rattle.smith_core.proofs.module.parts.ModuleParts.measure.Goals as goal
-
-pub loop-kind-init : goal.loop-kind-init
-loop-kind-init c = record { sum = sum_none _ _; least = omega arith; most = omega arith }
 
 pub returns-in_err-total : goal.returns-in_err-total
 returns-in_err-total c =
     let test = c.loop-kind-test.true in
-    let at = item_at binary_order c.loop-kind.kind-index Types test in
+    let at = member_is binary_order c.loop-kind.kind-index Types test in
     let d = (c.in_err-total.ensures {u = tt}).length in
     let none = each_none (section c.args.self.now) binary_order _ _ test at d.1 in
     measures_none _ _ c.from_residual.ensures.1 d.0 (ap (λ q. bytes core_preamble ⊕ q) none ∙ right_none _)
 
-pub overflow_add-total : goal.overflow_add-total
-overflow_add-total c = omega (arith, c.loop-kind.invariant.most, c.loop-kind-test.true, (c.in_ok-total.ensures {u = tt}).most)
-
 pub loop-kind-preserved : goal.loop-kind-preserved
 loop-kind-preserved c =
     let test = c.loop-kind-test.true in
-    let at = item_at binary_order c.loop-kind.kind-index Types test in
+    let at = member_is binary_order c.loop-kind.kind-index Types test in
     let d = c.in_ok-total.ensures {u = tt} in
     let i = c.loop-kind.invariant in
     record {

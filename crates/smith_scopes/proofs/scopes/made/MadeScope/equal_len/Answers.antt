@@ -23,7 +23,4 @@ pub returns-in-Some-clause-count : goal.returns-in-Some-clause-count
 returns-in-Some-clause-count c = counted c
 
 pub returns-in-Some-clause-few : goal.returns-in-Some-clause-few
-returns-in-Some-clause-few c =
-    let all = length-places (has_signature c.args.func.now) 0 c.self.inside.scope.types in
-    let view = ap (λ s. length (equal_places c.args.func.now (scope_in s))) c.self.view_is in
-    omega (arith, counted c, view, all, c.self.invariant.few)
+returns-in-Some-clause-few c = grind (arith, length-places, counted)

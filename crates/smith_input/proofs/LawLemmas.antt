@@ -1,0 +1,19 @@
+-- The lemmas that the laws state.
+use Rattle.smith_input.proofs.NameScript.{new_script_read, new_text_read, short_script, short_text_script}
+use Rattle.smith_input.proofs.NameShapes.{name_read, within_read}
+use Rattle.smith_input.proofs.Picks.{reads-pick}
+use Rattle.smith_input.proofs.ReadsTexts.{bytes_read, bytes_tail, bytes_unique, text_read}
+
+pub ruleset laws = (
+  bytes_read,
+  bytes_tail,
+  bytes_unique,
+  name_read,
+  new_script_read,
+  new_text_read,
+  reads-pick,
+  short_script,
+  short_text_script,
+  text_read,
+  within_read,
+)

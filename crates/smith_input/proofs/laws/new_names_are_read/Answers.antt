@@ -1,5 +1,0 @@
-use Rattle.smith_input.proofs.NameScript.{new_script_read}
-use Rattle.smith_input.proofs.laws.new_names_are_read.Goals as goal
-
-pub returns : goal.returns
-returns c max names name h k fresh made rest = new_script_read max names name rest h k made
