@@ -63,3 +63,5 @@ module _ (l : ℕ) (inner : List ℕ → Option Tree) where
   unfolding parts_at
   parts_left front count i [] total le some so_far = absurd (omega arith)
   parts_left front count i (b ∷ bs) total le some so_far = grind arith
+
+pub ruleset depths = (depth_none, depth_some)

@@ -149,7 +149,7 @@ fn parts_of(alloc: Global, depth: u32, bytes: &[u8]) -> Result<Vec<PartNode>, Un
 }
 
 #[cycle(reading)]
-#[tactic(auto, unfolding(crate::specs::Parts::contents_at), using(crate::proofs::Depth::depth_none, crate::proofs::Depth::depth_some))]
+#[tactic(auto, unfolding(crate::specs::Parts::contents_at), using(crate::proofs::Depth::depths))]
 fn sections_of(alloc: Global, depth: u32, bytes: &[u8]) -> Result<Vec<PartNode>, Unread>
     ensures { Gives (λ v. tree_of (map shown_part_node v.items)) result (component_at depth bytes.now) }
 {
