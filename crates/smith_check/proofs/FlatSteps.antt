@@ -8,7 +8,7 @@ use Rattle.smith_syntax.specs.Flat.{Flat, flat_value}
 use Rattle.smith_syntax.specs.Signature.{named, signature}
 use Rattle.smith_syntax.specs.declared.types.ComponentValType.{ComponentValType}
 use Rattle.smith_check.proofs.Judging.{Same}
-use Rattle.smith_scopes.proofs.Lists.{head_same, tail_same}
+use Rattle.smith_scope.proofs.Lists.{head_same, tail_same}
 
 abbrev pub Params : Type 0
 Params = List (String Global × ComponentValType)

@@ -12,7 +12,7 @@ use Rattle.smith_check.proofs.Judging.{Same, same_by, same_trans}
 use Rattle.smith_check.proofs.Scenes.{AllFit, named_first, state, tree_fits}
 
 -- how many items begin
-abbrev counted : List Step → ℕ
+abbrev pub counted : List Step → ℕ
 counted [] = 0
 counted (x ∷ xs) = items_at x + counted xs
 
@@ -66,7 +66,7 @@ mutual
 
 -- ---- some steps, and then steps at which nothing begins
 
-record Ends (from all : List Step) : Type 0 where
+pub record Ends (from all : List Step) : Type 0 where
   pub rest : List Step
   pub none : counted rest ≡ 0
   pub is : all ≡ from ++ rest
@@ -95,7 +95,7 @@ none_taken n (closes ∷ xs) e = ap (λ l. closes ∷ l) (none_taken n xs (omega
 none_taken n (marks ∷ xs) e = ap (λ l. marks ∷ l) (none_taken n xs (omega (arith, e)))
 
 -- behind steps, if nothing begins there
-taken_ends : (n : ℕ) (xs ys : List Step) → counted ys ≡ 0 → Ends (taken n xs) (taken n (xs ++ ys))
+pub taken_ends : (n : ℕ) (xs ys : List Step) → counted ys ≡ 0 → Ends (taken n xs) (taken n (xs ++ ys))
 taken_ends n [] ys e = record { rest = ys; none = e; is = none_taken n ys e }
 taken_ends zero (one p ∷ xs) ys e = ends_here []
 taken_ends (suc n) (one p ∷ xs) ys e = ends_after (one p) (taken_ends n xs ys e)
@@ -177,7 +177,7 @@ mutual
   part_cut n (imports is) h = list_cut imports n is h
   part_cut n (exports es) h = list_cut exports n es h
 
-  tree_cut : (n : ℕ) (t : Tree) → Ends (taken n (steps_of t)) (steps_of (upto n t))
+  pub tree_cut : (n : ℕ) (t : Tree) → Ends (taken n (steps_of t)) (steps_of (upto n t))
   tree_cut n ends = ends_here []
   tree_cut n (first p t) = first_cut n p t (λ h. part_cut n p h) (tree_cut (n - items_in p) t)
 

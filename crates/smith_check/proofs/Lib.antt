@@ -2,12 +2,9 @@ pub mod FlatSteps
 pub mod Growth
 pub mod Items
 pub mod Judging
-pub mod KebabSteps
 pub mod ModuleSteps
 pub mod NameSteps
-pub mod Named
 pub mod PartSteps
 pub mod Scenes
-pub mod SectionSteps
 pub mod Stepping
 pub mod TypeSteps

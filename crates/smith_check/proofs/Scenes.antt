@@ -14,7 +14,7 @@ use Rattle.smith_check.specs.Preceding.{Scene, empty_scene, scope_at}
 use Rattle.smith_check.specs.Stepping.{Fits, FormedAt, State, after, next}
 use Rattle.smith_check.proofs.Growth.{own-add, spaces-add}
 use Rattle.smith_check.proofs.Judging.{Same, same_all, same_trans}
-use Rattle.smith_check.proofs.Named.{named_less, named_more, none_more}
+use Rattle.smith_check.proofs.NameSteps.{named_less, named_more, none_more}
 use Rattle.smith_check.proofs.TypeSteps.{named_front}
 
 -- ---- what precedes a place

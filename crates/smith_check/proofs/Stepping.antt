@@ -12,7 +12,7 @@ use Rattle.smith_check.specs.Preceding.{Scene, scope_at, spaces_in}
 use Rattle.smith_check.specs.Stepping.{AreAt, Fits, IsEven, Stands, State, after, next}
 use Rattle.smith_check.specs.Taken.{Knows}
 use Rattle.smith_check.specs.declared.check.Check.{Check}
-use Rattle.smith_check.specs.declared.open.Open.{Open}
+use Rattle.smith_check.specs.declared.check.Open.{Open}
 use Rattle.smith_check.proofs.Items.{items_fit, start, taken, taken_next, whole_fits}
 use Rattle.smith_check.proofs.Judging.{Same, same_by, same_trans}
 use Rattle.smith_check.proofs.Scenes.{AllFit, state}

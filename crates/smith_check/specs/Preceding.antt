@@ -7,7 +7,7 @@ use Rattle.std.specs.Borrow.{Bor}
 use Rattle.smith_syntax.specs.Scope.{Scope as PlainScope}
 use Rattle.smith_tree.specs.Spaces.{Spaces, no_spaces}
 use Rattle.smith_check.specs.Taken.{Knows}
-use Rattle.smith_check.specs.declared.open.Open.{Open}
+use Rattle.smith_check.specs.declared.check.Open.{Open}
 
 -- the function types that these are
 abbrev pub functions_in : List (Bor FuncType) → List Function

@@ -10,7 +10,7 @@ use Rattle.smith_read.specs.Walk.{Step, closes, marks, one, opens}
 use Rattle.smith_scopes.specs.NodeScopes.{outer_in, own_in}
 use Rattle.smith_check.specs.Preceding.{IsAt, Scene, empty_scene, scope_at}
 use Rattle.smith_check.specs.declared.check.Check.{Check}
-use Rattle.smith_check.specs.declared.open.Open.{Open}
+use Rattle.smith_check.specs.declared.check.Open.{Open}
 
 -- what there is after a section
 abbrev pub after : Scene → Part → Scene

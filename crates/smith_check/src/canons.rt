@@ -14,8 +14,8 @@ ghost use Rattle.smith_scopes.specs.NodeScopes.{own_in};
 ghost use Rattle.smith_check.specs.Preceding.{spaces_in};
 ghost use Rattle.smith_check.specs.declared.error.Stop.TheVariants.{OutOfMemory};
 
+use crate::check::Open;
 use crate::error::{Checked, Rule, Stop};
-use crate::open::Open;
 use smith_format::ValType;
 use smith_read::{Func, TypeNode};
 use smith_scopes::NodeScopes;
@@ -109,7 +109,6 @@ fn check_lift(scopes: &NodeScopes<'_>, here: &Open<'_>, core_func: u32, ty: u32)
     }
 }
 
-/// Checks a canonical function.
 pub(crate) fn check_canon(scopes: &NodeScopes<'_>, here: &Open<'_>, canon: &Func) -> Checked
     ensures { Judges result (FormedCanon (spaces_in (own_in scopes.now) here.now) (shown_canon canon.now)) }
 {

@@ -1,25 +1,52 @@
-//! A check of a component step by step.
+//! The judgement of a component, step by step.
 
-ghost use Rattle.std.specs.Prelude.{◌≡◌, ◌<◌, ◌∷◌, [], length, OnOk};
+ghost use Rattle.std.specs.Prelude.{◌≡◌, ◌+◌, ◌<◌, ◌∷◌, [], IfOk, OnOk};
 ghost use Rattle.smith_read.specs.Nodes.{shown_core_node};
-ghost use Rattle.smith_read.specs.PartNodes.{shown_import_node};
+ghost use Rattle.smith_read.specs.PartNodes.{shown_import_node, shown_tree};
 ghost use Rattle.smith_read.specs.TypeNodes.{shown_type_node};
-ghost use Rattle.smith_read.specs.Walk.{closes, one, opens, shown_step};
+ghost use Rattle.smith_read.specs.Walk.{closes, items_at, one, opens, shown_step};
 ghost use Rattle.smith_tree.specs.Shown.{shown_canon, shown_export};
 ghost use Rattle.smith_tree.specs.Tree.{canons, core_types, exports, imports, types};
+ghost use Rattle.smith_check.specs.Judgement.{Agrees};
 ghost use Rattle.smith_check.specs.Judges.{Judges};
-ghost use Rattle.smith_check.specs.Preceding.{empty_scene};
+ghost use Rattle.smith_check.specs.Preceding.{IsAt, empty_scene};
 ghost use Rattle.smith_check.specs.Stepping.{Fits, IsEven, Stands, State, next};
 
 use crate::canons::check_canon;
 use crate::entries::{check_export, check_import};
-use crate::error::Checked;
+use crate::error::{Checked, Fault, Judgement, Stop};
 use crate::modules::check_core;
-use crate::open::Open;
+use crate::names::Names;
 use crate::types::check_type;
-use smith_read::{Contents, CoreNode, Export, Func, ImportNode, Step, TypeNode};
-use smith_scopes::{Nest, NodeScopes};
-use std::alloc::Global;
+use smith_read::{
+    ComponentTree, Contents, CoreNode, Export, Func, ImportNode, Step, Steps, TypeNode,
+};
+use smith_scope::Nest;
+use smith_scopes::NodeScopes;
+use std::alloc::{AllocError, Global};
+
+/// An open component without its types: its component functions by the indexes of their types, its core functions by
+/// what they lower, and the names of its imports and exports.
+#[derive(Drop)]
+pub(crate) struct Open<'a> {
+    pub(crate) functions: Vec<u32>,
+    pub(crate) core_functions: Vec<u32>,
+    pub(crate) imports: Names<'a>,
+    pub(crate) exports: Names<'a>,
+}
+
+impl<'a> Open<'a> {
+    pub(crate) fn new(alloc: Global) -> Open<'a>
+        ensures { IsAt result empty_scene }
+    {
+        Open {
+            functions: Vec::new(alloc),
+            core_functions: Vec::new(alloc),
+            imports: Names::new(alloc),
+            exports: Names::new(alloc),
+        }
+    }
+}
 
 /// What a check knows between two steps: the types in scope, and the rest of each open component.
 #[derive(Drop)]
@@ -108,7 +135,6 @@ impl<'a> Check<'a> {
         check_export(&mut self.opens.own, export)
     }
 
-    /// Checks a step.
     pub(crate) fn step(&mut self, alloc: Global, step: Step<'a>) -> Checked
         requires { IsEven self.old }
         ensures judged { (at : State) → Stands self.old at → Judges result (Fits (shown_step step.entry) at) }
@@ -129,4 +155,34 @@ impl<'a> Check<'a> {
             Step::Export(export) => self.check_export(export),
         }
     }
+}
+
+// The number of the item after a step. Memory is exhausted before numbers are.
+fn item_after(item: usize, step: Step<'_>) -> Result<usize, AllocError>
+    ensures { IfOk result (λ n. n ≡ item + items_at (shown_step step.entry)) }
+{
+    item.checked_add(step.items()).ok_or(AllocError)
+}
+
+/// Judges whether a component is well formed: `WellFormed` exactly if it is, and `IllFormed` exactly if it is not, with
+/// the first rule that it breaks and the number of the item that breaks it: what precedes that item is well formed, and
+/// what ends with it is not. No contract says which rule it is. An error is returned only if an allocation failed, and
+/// says nothing about the component.
+///
+/// Each item is looked at once. The stack is bounded by how deep types nest, however deep components do.
+pub fn judged(alloc: Global, component: &ComponentTree) -> Result<Judgement, AllocError>
+    ensures { IfOk result (Agrees (shown_tree component.now)) }
+{
+    let mut steps = Steps::new(alloc, component)?;
+    let mut check = Check::new(alloc);
+    let mut item: usize = 0;
+    while let Some(step) = steps.next()? {
+        match check.step(alloc, step) {
+            Ok(()) => {}
+            Err(Stop::OutOfMemory) => return Err(AllocError),
+            Err(Stop::IllFormed(rule)) => return Ok(Judgement::IllFormed(Fault { item, rule })),
+        }
+        item = item_after(item, step)?;
+    }
+    Ok(Judgement::WellFormed)
 }

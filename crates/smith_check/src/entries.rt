@@ -1,8 +1,8 @@
-//! Imports and exports.
+//! Imports and exports, and what they are of.
 
-ghost use Rattle.std.specs.Prelude.{◌≡◌, ◌<◌, ◌++◌, ◌∷◌, [], ℕ, List, length, string_bytes, OnOk};
+ghost use Rattle.std.specs.Prelude.{◌≡◌, ◌<◌, ◌++◌, ◌∷◌, [], ℕ, List, false, length, string_bytes, OnOk};
 ghost use Rattle.smith_syntax.specs.Scope.{Scope as PlainScope};
-ghost use Rattle.smith_syntax.specs.WellFormed.{Named};
+ghost use Rattle.smith_syntax.specs.WellFormed.{FormedRef, Named, is_type_eq};
 ghost use Rattle.smith_read.specs.PartNodes.{shown_import_node};
 ghost use Rattle.smith_tree.specs.Shown.{shown_export};
 ghost use Rattle.smith_tree.specs.Spaces.{after_export, after_import};
@@ -12,12 +12,53 @@ ghost use Rattle.smith_scopes.specs.NodeScopes.{own_in};
 ghost use Rattle.smith_check.specs.Preceding.{spaces_in};
 ghost use Rattle.smith_check.specs.Taken.{Knows};
 
+use crate::check::Open;
 use crate::error::{Checked, Rule, Stop};
-use crate::open::Open;
-use crate::references::check_imported;
-use smith_read::{Export, ImportNode};
+use smith_read::{CoreNode, Export, ImportNode, TypeNode};
 use smith_scopes::NodeScopes;
 use smith_syntax::ComponentTypeRef;
+
+/// Checks what an import or an export is of.
+pub(crate) fn check_reference(scopes: &NodeScopes<'_>, to: ComponentTypeRef) -> Checked
+    ensures { Judges result (FormedRef (own_in scopes.now) to) }
+{
+    match to {
+        ComponentTypeRef::Module(index) => match scopes.core_type_at(index) {
+            Some(CoreNode::Module(_)) => Ok(()),
+            Some(_) => Err(Stop::IllFormed(Rule::Sort)),
+            None => Err(Stop::IllFormed(Rule::NoType)),
+        },
+        ComponentTypeRef::Func(index) => match scopes.type_at(index) {
+            Some(TypeNode::Func(_)) => Ok(()),
+            Some(_) => Err(Stop::IllFormed(Rule::Sort)),
+            None => Err(Stop::IllFormed(Rule::NoType)),
+        },
+        ComponentTypeRef::TypeEq(index) => match scopes.type_at(index) {
+            Some(_) => Ok(()),
+            None => Err(Stop::IllFormed(Rule::NoType)),
+        },
+        ComponentTypeRef::Component(index) => match scopes.type_at(index) {
+            Some(TypeNode::Component(_)) => Ok(()),
+            Some(_) => Err(Stop::IllFormed(Rule::Sort)),
+            None => Err(Stop::IllFormed(Rule::NoType)),
+        },
+        ComponentTypeRef::Instance(index) => match scopes.type_at(index) {
+            Some(TypeNode::Instance(_)) => Ok(()),
+            Some(_) => Err(Stop::IllFormed(Rule::Sort)),
+            None => Err(Stop::IllFormed(Rule::NoType)),
+        },
+    }
+}
+
+// Checks what an import is of, which is not a type that is equal to another.
+pub(crate) fn check_imported(scopes: &NodeScopes<'_>, to: ComponentTypeRef) -> Checked
+    ensures { Judges result (FormedRef (own_in scopes.now) to × (is_type_eq to ≡ false)) }
+{
+    match to {
+        ComponentTypeRef::TypeEq(_) => Err(Stop::IllFormed(Rule::EqualType)),
+        _ => check_reference(scopes, to),
+    }
+}
 
 /// Checks an import, and adds it.
 pub(crate) fn check_import<'a>(

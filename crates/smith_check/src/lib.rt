@@ -7,11 +7,8 @@ mod entries;
 mod error;
 mod modules;
 mod names;
-mod open;
-mod references;
 mod types;
 mod values;
-mod walk;
 
+pub use check::judged;
 pub use error::{Fault, Judgement, Rule};
-pub use walk::judged;

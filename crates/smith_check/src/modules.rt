@@ -1,9 +1,8 @@
 //! Core types.
 
 ghost use Rattle.std.specs.Prelude.{◌≡◌, ◌⊎◌, ◌&&◌, ◌||◌, ℕ, true, false, List, [], ◌∷◌, ◌++◌, map, option_map};
-ghost use Rattle.std.specs.Prelude.{slice_get, bytes_eq, IfOk, IfErr, OnOk};
+ghost use Rattle.std.specs.Prelude.{slice_get, bytes_eq, IfOk, IfErr, OnOk, option_to_list};
 ghost use Rattle.std.specs.Borrow.{Bor};
-ghost use Rattle.std.specs.Option.{option_to_list};
 ghost use Rattle.smith_format.specs.CoreFormed.{FormedLimits, FormedMemory, FormedTable};
 ghost use Rattle.smith_format.specs.Shown.{shown_func};
 ghost use Rattle.smith_format.specs.declared.types.RefType.TheVariants.{ExternRef, FuncRef};
@@ -205,20 +204,10 @@ impl<'a> ModuleNames<'a> {
             → OnOk result (HoldsModule self.new (before ++ shown_module_node decl.now ∷ [])) }
     {
         match decl {
-            ModuleNode::Func(_ty) => Ok(()),
-            ModuleNode::OuterAlias {
-                count: _count,
-                index: _index,
-            } => Ok(()),
-            ModuleNode::Import {
-                module,
-                name,
-                entity: _entity,
-            } => self.add_import(module, name),
-            ModuleNode::Export {
-                name,
-                entity: _entity,
-            } => self.exports.add_new(name),
+            ModuleNode::Func(_) => Ok(()),
+            ModuleNode::OuterAlias { .. } => Ok(()),
+            ModuleNode::Import { module, name, .. } => self.add_import(module, name),
+            ModuleNode::Export { name, .. } => self.exports.add_new(name),
         }
     }
 }
@@ -239,7 +228,6 @@ fn check_module<'a>(alloc: Global, scopes: &NodeScopes<'a>, decls: &'a [ModuleNo
     Ok(())
 }
 
-/// Checks a core type.
 pub(crate) fn check_core<'a>(alloc: Global, scopes: &NodeScopes<'a>, ty: &'a CoreNode) -> Checked
     ensures { Judges result (FormedCore (shown_core_node ty.now) (own_in scopes.now).core_types) }
 {

@@ -64,7 +64,6 @@ pub(crate) struct Names<'a> {
 }
 
 impl<'a> Names<'a> {
-    /// No names.
     pub(crate) fn new(alloc: Global) -> Names<'a>
         ensures { Knows result [] }
     {

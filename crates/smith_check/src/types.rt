@@ -1,23 +1,20 @@
 //! Types of all sorts, component and instance types among them.
 
-ghost use Rattle.std.specs.Prelude.{◌≡◌, ◌<◌, length, ◌∷◌, ◌++◌, [], List, map, option_map, IfErr, OnOk};
-ghost use Rattle.std.specs.Option.{option_to_list};
+ghost use Rattle.std.specs.Prelude.{◌≡◌, ◌<◌, length, ◌∷◌, ◌++◌, [], List, map, OnOk};
 ghost use Rattle.smith_syntax.specs.Entries.{in_order};
-ghost use Rattle.smith_syntax.specs.Scope.{after_decl, empty_scope, with_core_types, with_types};
-ghost use Rattle.smith_syntax.specs.WellFormed.{FormedDeclaration, FormedDeclarations, FormedEntry};
-ghost use Rattle.smith_syntax.specs.WellFormed.{decl_imports, import_of};
-ghost use Rattle.smith_read.specs.Nodes.{shown_core_node};
+ghost use Rattle.smith_syntax.specs.Scope.{empty_scope};
+ghost use Rattle.smith_syntax.specs.WellFormed.{FormedDeclaration, FormedDeclarations, FormedEntry, decl_imports};
+ghost use Rattle.smith_syntax.specs.WellFormed.{import_of};
 ghost use Rattle.smith_read.specs.declared.type_nodes.DeclNode.{DeclNode};
 ghost use Rattle.smith_read.specs.TypeNodes.{shown_decl_node, shown_type_node};
 ghost use Rattle.smith_check.specs.Judges.{Decides, Judges};
 ghost use Rattle.smith_scopes.specs.NodeScopes.{outer_in, own_in};
 ghost use Rattle.smith_check.specs.Taken.{KnowsDeclared, NamedDeclared};
-ghost use Rattle.smith_check.specs.declared.error.Stop.TheVariants.{OutOfMemory};
 
+use crate::entries::{check_imported, check_reference};
 use crate::error::{Checked, Rule, Stop};
 use crate::modules::check_core;
 use crate::names::Names;
-use crate::references::{check_imported, check_reference};
 use crate::values::{check_defined, check_signature};
 use smith_read::{DeclNode, TypeNode};
 use smith_scopes::NodeScopes;
@@ -51,16 +48,10 @@ impl<'a> DeclaredNames<'a> {
         match decl {
             DeclNode::Import { name, .. } => self.imports.add(name),
             DeclNode::Export { name, .. } => self.exports.add(name),
-            DeclNode::Core(_ty) => Ok(()),
-            DeclNode::Type(_ty) => Ok(()),
-            DeclNode::TypeAlias {
-                count: _count,
-                index: _index,
-            } => Ok(()),
-            DeclNode::CoreTypeAlias {
-                count: _count,
-                index: _index,
-            } => Ok(()),
+            DeclNode::Core(_) => Ok(()),
+            DeclNode::Type(_) => Ok(()),
+            DeclNode::TypeAlias { .. } => Ok(()),
+            DeclNode::CoreTypeAlias { .. } => Ok(()),
         }
     }
 }
@@ -70,14 +61,7 @@ impl<'a> DeclaredNames<'a> {
 fn is_import(decl: &DeclNode) -> bool
     ensures { Decides result (0 < length (import_of (shown_decl_node decl.now))) }
 {
-    match decl {
-        DeclNode::Import { .. } => true,
-        DeclNode::Core(_)
-        | DeclNode::Type(_)
-        | DeclNode::TypeAlias { .. }
-        | DeclNode::CoreTypeAlias { .. }
-        | DeclNode::Export { .. } => false,
-    }
+    matches!(decl, DeclNode::Import { .. })
 }
 
 // Checks that the declarations of an instance type import nothing.
@@ -92,7 +76,6 @@ fn check_no_imports(decls: &[DeclNode]) -> Checked
     Ok(())
 }
 
-/// Checks a type.
 #[cycle(types)]
 #[tactic(auto, using(smith_read::proofs::ShownNodes::shown_nodes))]
 pub(crate) fn check_type<'a>(

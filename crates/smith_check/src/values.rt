@@ -1,6 +1,6 @@
 //! Types of values and of functions.
 
-ghost use Rattle.std.specs.Prelude.{◌≡◌, ◌≤◌, Option, None, Some, length, map, string_bytes};
+ghost use Rattle.std.specs.Prelude.{◌≤◌, Option, None, Some, length, map, string_bytes};
 ghost use Rattle.std.specs.List.{AllByRecursion};
 ghost use Rattle.smith_syntax.specs.Entries.{function};
 ghost use Rattle.smith_syntax.specs.Shown.{shown_defined};
@@ -94,19 +94,6 @@ fn check_tuple(scopes: &NodeScopes<'_>, items: &[ComponentValType]) -> Checked
     check_values(scopes, items)
 }
 
-// Checks the two types of a result.
-fn check_both(
-    scopes: &NodeScopes<'_>,
-    ok: Option<ComponentValType>,
-    err: Option<ComponentValType>,
-) -> Checked
-    ensures { Judges result (FormedMaybe (own_in scopes.now) ok × FormedMaybe (own_in scopes.now) err) }
-{
-    check_maybe(scopes, ok)?;
-    check_maybe(scopes, err)
-}
-
-/// Checks a type of values.
 pub(crate) fn check_defined(alloc: Global, scopes: &NodeScopes<'_>, ty: &DefinedType) -> Checked
     ensures { Judges result (FormedDefined (shown_defined ty.now) (own_in scopes.now)) }
 {
@@ -119,11 +106,13 @@ pub(crate) fn check_defined(alloc: Global, scopes: &NodeScopes<'_>, ty: &Defined
         DefinedType::Flags(ty) => check_labels(alloc, &ty.fields, 32),
         DefinedType::Enum(ty) => check_labels(alloc, &ty.variants, 100),
         DefinedType::Option(ty) => check_value(scopes, ty.inner_ty),
-        DefinedType::Result(ty) => check_both(scopes, ty.ok_ty, ty.err_ty),
+        DefinedType::Result(ty) => {
+            check_maybe(scopes, ty.ok_ty)?;
+            check_maybe(scopes, ty.err_ty)
+        }
     }
 }
 
-/// Checks a type of functions.
 pub(crate) fn check_signature(alloc: Global, scopes: &NodeScopes<'_>, ty: &FuncType) -> Checked
     ensures { Judges result (FormedEntry (function ty.now) (own_in scopes.now) (outer_in scopes.now)) }
 {

@@ -13,7 +13,7 @@ use Rattle.smith_input.proofs.Choices.{among_read}
 use Rattle.smith_input.proofs.Loops.{end_read, more_read}
 use Rattle.smith_input.proofs.Picks.{reads-pick}
 use Rattle.smith_format.specs.declared.config.Config.{Config}
-use Rattle.smith_scopes.proofs.Stack.{length-places}
+use Rattle.smith_scope.proofs.Places.{length-places}
 use Rattle.smith_syntax.specs.Entries.{Entry, function, defined, component_type, instance_type}
 use Rattle.smith_syntax.specs.Scope.{Scope, with_type}
 use Rattle.smith_syntax.specs.Places.{places}
@@ -34,7 +34,7 @@ use Rattle.smith_tree.specs.contracts.choices.CanonItemPartialEq.TheImpl.{ghosts
 use Rattle.smith_tree.specs.declared.choices.CanonItem.{CanonItem}
 use Rattle.smith_tree.specs.declared.choices.CanonItem.TheVariants.{Lower, Lift}
 use Rattle.smith_input.proofs.Offered.{offers_few, offers_found}
-use Rattle.smith_scopes.proofs.Places.{place_found}
+use Rattle.smith_scope.proofs.Places.{place_found}
 use Rattle.smith_types.proofs.LiftingRead.{lifted_read}
 use Rattle.std.proofs.lemmas.Bool.{lt-ltb}
 use Rattle.smith_component.proofs.Growth.{canon_keeps, functions_after, spaces_canon}

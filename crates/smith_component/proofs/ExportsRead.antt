@@ -15,7 +15,7 @@ use Rattle.smith_input.proofs.NameScript.{new_script_read}
 use Rattle.smith_input.proofs.Picks.{reads-pick}
 use Rattle.smith_format.specs.declared.config.Config.{Config}
 use Rattle.smith_syntax.specs.WellFormed.{Named}
-use Rattle.smith_component.specs.Exports.{NoExport, ReadsExport, ReadsExports}
+use Rattle.smith_component.specs.ExportReading.{NoExport, ReadsExport, ReadsExports}
 use Rattle.smith_tree.specs.Marking.{marked_inner}
 use Rattle.smith_tree.specs.Offered.{OfferedExports}
 use Rattle.smith_tree.specs.Offers.{export_functions, with_exports}

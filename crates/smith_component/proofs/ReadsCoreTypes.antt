@@ -10,14 +10,14 @@ use Rattle.smith_syntax.specs.CoreLimits.{CoreLimits}
 use Rattle.smith_syntax.specs.Entries.{CoreEntry}
 use Rattle.smith_syntax.specs.Marked.{Marked, scope_in}
 use Rattle.smith_syntax.specs.WellFormed.{FormedCore, FormedCores}
-use Rattle.smith_core_types.proofs.MadeCore.{core_fits}
-use Rattle.smith_core_types.proofs.MadeCoreSame.{made_core_same}
+use Rattle.smith_types.proofs.MadeCore.{core_fits}
+use Rattle.smith_types.proofs.MadeCoreSame.{made_core_same}
 use Rattle.smith_tree.specs.CoreTypeNeeds.{core_need}
 use Rattle.smith_tree.specs.Limits.{SmallCoreTypes}
 use Rattle.smith_tree.specs.Marking.{with_core_entry}
 use Rattle.smith_tree.specs.Script.{script_core_types}
 use Rattle.smith_tree.specs.CoreTypeScript.{script_core}
-use Rattle.smith_core_types.proofs.CoreScript.{core_read}
+use Rattle.smith_types.proofs.CoreScript.{core_read}
 use Rattle.smith_tree.specs.ReadableCoreTypes.{IsReadableCore}
 use Rattle.smith_component.specs.AddedSections.{ReadsCoreType, ReadsCoreTypes}
 

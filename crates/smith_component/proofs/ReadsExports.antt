@@ -6,7 +6,7 @@ use Rattle.smith_input.proofs.NewNames.{new_tail}
 use Rattle.smith_input.proofs.Reading.{reads_tail, tail_is, tail_trans}
 use Rattle.smith_format.specs.declared.config.Config.{Config}
 use Rattle.smith_syntax.specs.WellFormed.{Named}
-use Rattle.smith_component.specs.Exports.{ReadsExport, ReadsExports}
+use Rattle.smith_component.specs.ExportReading.{ReadsExport, ReadsExports}
 use Rattle.smith_tree.specs.Limits.{OwnLimits}
 use Rattle.smith_tree.specs.Functions.{functions_of}
 use Rattle.smith_syntax.specs.Marked.{Marked}

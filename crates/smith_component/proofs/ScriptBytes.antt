@@ -24,7 +24,7 @@ use Rattle.smith_core.proofs.StandInMade.{small_stand_in}
 use Rattle.smith_core.proofs.StandInTold.{stand_in_told}
 use Rattle.smith_scopes.proofs.Plain.{all_back}
 use Rattle.smith_tree.specs.CoreTypeScript.{script_core}
-use Rattle.smith_core_types.proofs.ScriptBytes.{small_core, small_place, small_said}
+use Rattle.smith_types.proofs.CoreScriptBytes.{small_core, small_place, small_said}
 use Rattle.smith_types.specs.Sayable.{Lasts}
 use Rattle.smith_tree.specs.TypeScript.{script_type}
 use Rattle.smith_types.proofs.ScopedScript.{type_bytes}

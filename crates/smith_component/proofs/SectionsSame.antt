@@ -15,7 +15,7 @@ use Rattle.smith_tree.specs.Offers.{marked_with_imports, totals_of, with_imports
 use Rattle.smith_tree.specs.Open.{Open}
 use Rattle.smith_tree.specs.Tree.{imports_of, ExportEntry, Tree, exports_of, lift, lower}
 use Rattle.smith_tree.specs.WellFormed.{import_names, export_names, HasSignature}
-use Rattle.smith_component.specs.Exports.{ReadsExport, ReadsExports}
+use Rattle.smith_component.specs.ExportReading.{ReadsExport, ReadsExports}
 use Rattle.std.specs.Prelude.{slice_get}
 use Rattle.smith_format.specs.CoreTypes.{Function}
 use Rattle.smith_syntax.specs.Flat.{Flattens}

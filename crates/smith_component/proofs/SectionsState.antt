@@ -49,7 +49,7 @@ use Rattle.smith_input.proofs.NewNames.{holds_more}
 use Rattle.smith_syntax.specs.Scope.{Scope}
 use Rattle.smith_syntax.specs.declared.deftype.ComponentTypeRef.TheVariants as to
 use Rattle.smith_types.proofs.Externs.{new_among}
-use Rattle.smith_component.specs.Exports.{ReadsExport}
+use Rattle.smith_component.specs.ExportReading.{ReadsExport}
 use Rattle.smith_tree.specs.Shown.{shown_export}
 use Rattle.smith_tree.specs.Functions.{functions_of}
 use Rattle.smith_component.specs.Tables.{AddsFunction, IsKnown}

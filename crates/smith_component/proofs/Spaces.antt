@@ -13,8 +13,9 @@ use Rattle.smith_syntax.specs.HasSignature.{has_signature, is_of_signature}
 use Rattle.smith_syntax.specs.SameSignature.{same_signature_Decides}
 use Rattle.smith_syntax.specs.declared.deftype.DefType.{DefType}
 use Rattle.smith_scopes.specs.Scopes.{Contents, last_of, own_scope}
-use Rattle.smith_scopes.proofs.Places.{get_left, place_stands}
-use Rattle.smith_scopes.proofs.Stack.{own_last, places-append}
+use Rattle.smith_scope.proofs.Places.{get_left, place_stands}
+use Rattle.smith_scope.proofs.Places.{places-append}
+use Rattle.smith_scopes.proofs.Stack.{own_last}
 use Rattle.smith_tree.specs.Offers.{is_scalar_entry, is_scalar_type, scalar_functions}
 use Rattle.smith_component.specs.Tables.{IsGrounded}
 use Rattle.smith_tree.specs.Spaces.{Spaces, after_canon, spaces_of}

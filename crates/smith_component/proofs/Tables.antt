@@ -11,8 +11,8 @@ use Rattle.smith_syntax.specs.Entries.{Entry, function, Signature}
 use Rattle.smith_syntax.specs.Flat.{is_scalar}
 use Rattle.smith_syntax.specs.Scope.{Scope}
 use Rattle.smith_syntax.specs.Places.{places}
-use Rattle.smith_scopes.proofs.Places.{get_left, place_stands}
-use Rattle.smith_scopes.proofs.Stack.{places-append}
+use Rattle.smith_scope.proofs.Places.{get_left, place_stands}
+use Rattle.smith_scope.proofs.Places.{places-append}
 use Rattle.smith_tree.specs.Offers.{is_scalar_entry, is_scalar_type, scalar_functions}
 use Rattle.smith_component.specs.Tables.{AddsCoreFunction, AddsFunction, IsGrounded, IsLowerable, Tabled}
 use Rattle.smith_tree.specs.Spaces.{spaces_of, types_of}

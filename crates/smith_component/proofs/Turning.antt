@@ -8,7 +8,7 @@ use Rattle.smith_format.specs.Piece.{bytes_of}
 use Rattle.smith_format.specs.declared.config.Config.{Config}
 use Rattle.smith_syntax.specs.Entries.{CoreEntry, Entry, ImportEntry, function}
 use Rattle.smith_syntax.specs.Marked.{Marked}
-use Rattle.smith_core_types.proofs.MadeCore.{core_fits}
+use Rattle.smith_types.proofs.MadeCore.{core_fits}
 use Rattle.smith_tree.proofs.ReadsCustom.{custom_short}
 use Rattle.smith_tree.specs.Marking.{marked_in, marked_inner}
 use Rattle.smith_tree.specs.Offered.{OfferedPart}

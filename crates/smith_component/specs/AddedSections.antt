@@ -4,7 +4,7 @@ use Rattle.smith_input.specs.Loops.{Loop, Never}
 use Rattle.smith_format.specs.declared.config.Config.{Config}
 use Rattle.smith_syntax.specs.Entries.{Entry, CoreEntry, ImportEntry}
 use Rattle.smith_types.specs.Made.{MadeWith}
-use Rattle.smith_core_types.specs.MadeCore.{MadeCore}
+use Rattle.smith_types.specs.MadeCore.{MadeCore}
 use Rattle.smith_syntax.specs.Marked.{Marked, scope_in}
 use Rattle.smith_tree.specs.Spaces.{types_of}
 use Rattle.smith_tree.specs.Tree.{Tree, types, imports, add}

@@ -13,7 +13,7 @@ use Rattle.smith_syntax.specs.Shown.{full_type, import_shown, shown_shared, show
 use Rattle.smith_syntax.specs.declared.core_types.CoreType.{CoreType}
 use Rattle.smith_syntax.specs.declared.deftype.DefType.{DefType}
 use Rattle.smith_syntax.specs.declared.deftype.Import.{Import}
-use Rattle.smith_core_types.specs.MakingCore.{KeepsAliased}
+use Rattle.smith_types.specs.MakingCore.{KeepsAliased}
 use Rattle.smith_types.specs.Declarations.{NamedExtern, ReadsNamedExtern}
 use Rattle.smith_types.specs.Made.{Made}
 use Rattle.smith_types.specs.References.{ReadsRef}

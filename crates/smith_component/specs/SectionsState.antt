@@ -18,7 +18,7 @@ use Rattle.smith_component.specs.declared.builder.tables.Tables.{Tables}
 use Rattle.smith_component.specs.declared.builder.totals.TreeTotals.{TreeTotals}
 use Rattle.smith_input.specs.Loops.{Loop}
 use Rattle.smith_syntax.specs.Scope.{Scope}
-use Rattle.smith_component.specs.Exports.{NoExport, ReadsExport}
+use Rattle.smith_component.specs.ExportReading.{NoExport, ReadsExport}
 use Rattle.smith_tree.specs.Shown.{shown_export}
 use Rattle.smith_tree.specs.Tree.{ExportEntry, Tree}
 use Rattle.smith_tree.specs.Marking.{marked_inner}

@@ -17,7 +17,7 @@ use Rattle.smith_tree.specs.declared.choices.Item.{Item}
 use Rattle.smith_tree.specs.declared.choices.Item.TheVariants.{Finish, Custom, CoreTypes, Types, Imports, Canonical, Module, Component, Exports}
 use Rattle.smith_tree.specs.ReadsCustom.{ReadsCustom}
 use Rattle.smith_component.specs.AddedSections.{ReadsCoreTypes, Adds}
-use Rattle.smith_component.specs.Exports.{ReadsExports}
+use Rattle.smith_component.specs.ExportReading.{ReadsExports}
 use Rattle.smith_component.specs.Fills.{FillsAll, Lacks}
 
 -- what a turn leads to

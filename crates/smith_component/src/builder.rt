@@ -56,9 +56,9 @@ pub(crate) struct Progress {
 }
 
 impl Model for Builder {
+    ghost use Rattle.std.specs.Coded.{codes};
     ghost use Rattle.smith_component.specs.Building.{Building};
     ghost use Rattle.smith_component.specs.contracts.component.Section as section;
-    ghost use Rattle.std.specs.Coded.{codes};
 
     ghost Value = { Building };
 

@@ -1,6 +1,6 @@
 //! Laws of components. Each function does nothing: its contract is the law.
 
-ghost use Rattle.std.specs.Prelude.{◌≡◌, ◌≤◌, ◌↔◌, ◌⊎◌, ◌++◌, ℕ, List, [], None, true};
+ghost use Rattle.std.specs.Prelude.{◌≡◌, ◌≤◌, ◌↔◌, ◌⊎◌, ◌++◌, ℕ, List, [], true};
 ghost use Rattle.smith_core.specs.Module.{module_text};
 ghost use Rattle.smith_core.specs.Parts.{Agree};
 ghost use Rattle.smith_core.specs.TooLong.{ModuleTooLong};
@@ -12,13 +12,13 @@ ghost use Rattle.smith_input.specs.Reading.{IsDecided, IsReadAs, IsTail};
 ghost use Rattle.smith_input.specs.Script.{AreBytes};
 ghost use Rattle.smith_input.specs.declared.error.Error.{Error};
 ghost use Rattle.smith_input.specs.declared.error.Error.TheVariants.{OutOfMemory};
-ghost use Rattle.smith_tree.specs.Grammar.{Spells, component_text};
+ghost use Rattle.smith_tree.specs.Grammar.{Spells};
 ghost use Rattle.smith_component.specs.Refusals.{IsGenerateRefusal};
 ghost use Rattle.smith_tree.specs.Limits.{Minima};
 ghost use Rattle.smith_tree.specs.Open.{Open, is_component_offered};
 ghost use Rattle.smith_tree.specs.Script.{Continues, Within, item_of, script, script_item, script_part};
 ghost use Rattle.smith_component.specs.Shown.{shown_module};
-ghost use Rattle.smith_tree.specs.TooLong.{PartTooLong, TreeTooLong};
+ghost use Rattle.smith_tree.specs.TooLong.{PartTooLong};
 ghost use Rattle.smith_tree.specs.Tree.{Part, Tree, core_module};
 ghost use Rattle.smith_component.specs.Turn.{Closes, Next, Turn, with_open, with_part};
 ghost use Rattle.smith_component.specs.Wider.{AreWider};

@@ -16,11 +16,11 @@ use Rattle.smith_syntax.specs.declared.types.ComponentValType.TheVariants.{Primi
 use Rattle.smith_edit.specs.Edited.{case_edited, defined_edited, field_edited, left_of, members, optional_edited, value_edited}
 use Rattle.smith_edit.specs.Removal.{past, removes}
 use Rattle.smith_edit.specs.Renumbering.{Renumbering}
-use Rattle.smith_edit.specs.declared.removal.Removal.{Removal}
+use Rattle.smith_edit.specs.declared.walk.Removal.{Removal}
 use Rattle.smith_edit.specs.declared.renumbering.Fate.{Fate}
 use Rattle.smith_edit.specs.declared.renumbering.Fate.TheVariants.{Kept}
-use Rattle.smith_edit.specs.declared.scope.Scope.{Scope as Spaces}
-use Rattle.smith_edit.proofs.Fewer.{left_is, members_fewer}
+use Rattle.smith_edit.specs.declared.walk.Scope.{Scope as Spaces}
+use Rattle.smith_edit.proofs.Shorter.{left_is, members_fewer}
 use Rattle.smith_edit.proofs.Follows.{Follows, index_follows}
 use Rattle.smith_edit.proofs.Perhaps.{Perhaps, either, gives, mapped, more, nothing}
 use Rattle.smith_edit.proofs.Sublists.{Sub, keep, named_sub, none, skip}

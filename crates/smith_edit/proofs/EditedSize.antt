@@ -37,11 +37,11 @@ use Rattle.smith_edit.specs.Items.{signature_items, tree_items, value_items}
 use Rattle.smith_edit.specs.Removal.{inside, past, removes}
 use Rattle.smith_edit.specs.Renumbering.{Renumbering}
 use Rattle.smith_edit.specs.Walk.{Walk, entered, new_scope, skipped}
-use Rattle.smith_edit.specs.declared.removal.Removal.{Removal}
-use Rattle.smith_edit.specs.declared.removal.Removal.TheVariants.{Item}
-use Rattle.smith_edit.specs.declared.scope.Scope.{Scope}
-use Rattle.smith_edit.proofs.AfterRows.{plain_items}
-use Rattle.smith_edit.proofs.Fewer.{both_fewer, hit, hits, hits_inside, hits_most, hits_sum, left_is, members_fewer, optional_fewer}
+use Rattle.smith_edit.specs.declared.walk.Removal.{Removal}
+use Rattle.smith_edit.specs.declared.walk.Removal.TheVariants.{Item}
+use Rattle.smith_edit.specs.declared.walk.Scope.{Scope}
+use Rattle.smith_edit.proofs.Past.{plain_items}
+use Rattle.smith_edit.proofs.Shorter.{both_fewer, hit, hits, hits_inside, hits_most, hits_sum, left_is, members_fewer, optional_fewer}
 use Rattle.smith_edit.proofs.LowIndexes.{Low, LowScope, LowWalk, adds_canon, adds_core, adds_decl, adds_export_entry, adds_import, adds_module_decl, adds_type}
 use Rattle.smith_edit.proofs.LowIndexes.{aliased_left, kept_left, low_entered, low_new, new_left, no_scope}
 use Rattle.smith_edit.proofs.Perhaps.{Perhaps, either, gives, mapped, more, nothing}

@@ -10,12 +10,11 @@ use Rattle.smith_edit.specs.Edited.{after_decl, after_section, and_decl, and_par
 use Rattle.smith_edit.specs.Items.{decl_items}
 use Rattle.smith_edit.specs.Removal.{past, removes}
 use Rattle.smith_edit.specs.Walk.{Walk, skipped}
-use Rattle.smith_edit.specs.declared.removal.Removal.{Removal}
-use Rattle.smith_edit.specs.declared.scope.Scope.{Scope}
-use Rattle.smith_edit.proofs.InTurn.{InRow, prepend, prepend_all}
+use Rattle.smith_edit.specs.declared.walk.Removal.{Removal}
+use Rattle.smith_edit.specs.declared.walk.Scope.{Scope}
+use Rattle.smith_edit.proofs.Seeking.{InRow, prepend, prepend_all, decl_row, part_row}
 use Rattle.smith_edit.proofs.Sublists.{map_drop, map_dropped, map_more}
 use Rattle.smith_edit.proofs.Past.{past_none, past_past}
-use Rattle.smith_edit.proofs.SimplerRows.{decl_row, part_row}
 
 -- how a whole is edited item by item: what is left of the next one, and what is known after it
 pub record Editing (X A C : Type 0) : Type 0 where

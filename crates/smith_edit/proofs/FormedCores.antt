@@ -20,12 +20,12 @@ use Rattle.smith_edit.specs.Removal.{removes}
 use Rattle.smith_edit.specs.Renumbering.{Renumbering, from, with_entry}
 use Rattle.smith_edit.specs.Walk.{aliased as aliased_index}
 use Rattle.smith_edit.specs.Walk.{Walk, aliased_core_type, entered, skipped}
-use Rattle.smith_edit.specs.declared.removal.Removal.{Removal}
+use Rattle.smith_edit.specs.declared.walk.Removal.{Removal}
 use Rattle.smith_edit.specs.declared.renumbering.Fate.{Fate}
 use Rattle.smith_edit.specs.declared.renumbering.Fate.TheVariants.{Kept, Removed}
-use Rattle.smith_edit.specs.declared.scope.Scope.{Scope as Spaces}
+use Rattle.smith_edit.specs.declared.walk.Scope.{Scope as Spaces}
 use Rattle.smith_edit.proofs.Alike.{AlikeCore, AlikeFunction}
-use Rattle.smith_edit.proofs.Fewer.{members_fewer}
+use Rattle.smith_edit.proofs.Shorter.{members_fewer}
 use Rattle.smith_edit.proofs.Follows.{Follows, follows_left, follows_removed, index_follows, none_yet}
 use Rattle.smith_edit.proofs.Perhaps.{Perhaps, either, gives, mapped, more, nothing}
 use Rattle.smith_edit.proofs.Sublists.{Sub, none, nothing_of, sub_append, sub_distinct, sub_same}

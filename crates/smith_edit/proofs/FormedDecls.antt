@@ -10,7 +10,7 @@ use Rattle.smith_edit.specs.Walk.{Walk, entered, skipped}
 use Rattle.smith_edit.specs.declared.renumbering.Fate.TheVariants.{Kept}
 use Rattle.smith_edit.proofs.Alike.{ScopeFollows, formed_defined, formed_fields, formed_optional}
 use Rattle.smith_edit.proofs.Editing.{after_next}
-use Rattle.smith_edit.proofs.Fewer.{members_fewer}
+use Rattle.smith_edit.proofs.Shorter.{members_fewer}
 use Rattle.smith_edit.proofs.FormedCores.{formed_core}
 use Rattle.smith_edit.proofs.FormedTypes.{WalkFollows, alias_core, alias_type, alike_entry, core_after, entered_follows, export_kept, formed_ref, named_core}
 use Rattle.smith_edit.proofs.FormedTypes.{named_type, removed_after, skipped_follows, type_after}

@@ -26,13 +26,13 @@ use Rattle.smith_edit.specs.Items.{function_members, signature_items}
 use Rattle.smith_edit.specs.Removal.{past, removes}
 use Rattle.smith_edit.specs.Renumbering.{Renumbering, entry_at, index_left, new_index, with_like}
 use Rattle.smith_edit.specs.Walk.{Walk, skipped, with_function, with_type}
-use Rattle.smith_edit.specs.declared.removal.Removal.{Removal}
-use Rattle.smith_edit.specs.declared.removal.Removal.TheVariants.{Everything}
+use Rattle.smith_edit.specs.declared.walk.Removal.{Removal}
+use Rattle.smith_edit.specs.declared.walk.Removal.TheVariants.{Everything}
 use Rattle.smith_edit.specs.declared.renumbering.Fate.{Fate}
 use Rattle.smith_edit.specs.declared.renumbering.Fate.TheVariants.{Kept, Changed, Removed}
-use Rattle.smith_edit.specs.declared.scope.Scope.{Scope as Indexes}
+use Rattle.smith_edit.specs.declared.walk.Scope.{Scope as Indexes}
 use Rattle.smith_edit.proofs.Alike.{Alike, Same}
-use Rattle.smith_edit.proofs.Fewer.{members_fewer, optional_fewer}
+use Rattle.smith_edit.proofs.Shorter.{members_fewer, optional_fewer}
 use Rattle.smith_edit.proofs.Follows.{Stays, entry_there, get_other, kept_follows, some_at}
 use Rattle.smith_edit.proofs.FormedCores.{alike_core, formed_core}
 use Rattle.smith_edit.proofs.FormedDecls.{formed_entry}

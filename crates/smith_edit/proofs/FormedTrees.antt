@@ -23,9 +23,9 @@ use Rattle.smith_edit.specs.Items.{core_items, entry_items, none_inside, tree_it
 use Rattle.smith_edit.specs.Removal.{inside, past, removes}
 use Rattle.smith_edit.specs.Renumbering.{new_index}
 use Rattle.smith_edit.specs.Walk.{Walk, entered, new_scope, skipped}
-use Rattle.smith_edit.specs.declared.removal.Removal.TheVariants.{Everything, Item}
-use Rattle.smith_edit.specs.declared.scope.Scope.{Scope as Indexes}
-use Rattle.smith_edit.proofs.AfterRows.{part_outer}
+use Rattle.smith_edit.specs.declared.walk.Removal.TheVariants.{Everything, Item}
+use Rattle.smith_edit.specs.declared.walk.Scope.{Scope as Indexes}
+use Rattle.smith_edit.proofs.Past.{part_outer}
 use Rattle.smith_edit.proofs.FormedRows.{CanonOk, CoreOk, ExportOk, ImportOk, TypeOk, adds_core, adds_type, canons_remain, cores_remain, exports_remain}
 use Rattle.smith_edit.proofs.FormedRows.{imports_remain, rows_formed, rows_nothing, types_remain}
 use Rattle.smith_edit.proofs.FormedTypes.{ScopesFollow, no_scopes, some_index, then_scopes}

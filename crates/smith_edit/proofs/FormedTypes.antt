@@ -15,7 +15,7 @@ use Rattle.smith_edit.specs.Renumbering.{Renumbering, new_index}
 use Rattle.smith_edit.specs.Walk.{Walk, aliased, aliased_core_type, aliased_type, entered, skipped, with_core_type, with_type}
 use Rattle.smith_edit.specs.declared.renumbering.Fate.{Fate}
 use Rattle.smith_edit.specs.declared.renumbering.Fate.TheVariants.{Kept, Removed}
-use Rattle.smith_edit.specs.declared.scope.Scope.{Scope as Spaces}
+use Rattle.smith_edit.specs.declared.walk.Scope.{Scope as Spaces}
 use Rattle.smith_edit.proofs.Alike.{Alike, AlikeCore, ScopeFollows}
 use Rattle.smith_edit.proofs.Follows.{Becomes, Follows, follows_left, follows_removed, index_follows, none_yet}
 use Rattle.smith_edit.proofs.FormedCores.{alike_core}

@@ -18,7 +18,7 @@ use Rattle.smith_edit.specs.Walk.{Walk, aliased, entered, new_scope, with_core_f
 use Rattle.smith_edit.specs.declared.renumbering.Fate.{Fate}
 use Rattle.smith_edit.specs.declared.renumbering.Fate.TheVariants.{Kept, Removed}
 use Rattle.smith_edit.specs.declared.renumbering.Renumbered.{Renumbered}
-use Rattle.smith_edit.specs.declared.scope.Scope.{Scope}
+use Rattle.smith_edit.specs.declared.walk.Scope.{Scope}
 use Rattle.smith_edit.proofs.Perhaps.{gives, nothing}
 use Rattle.smith_edit.proofs.Shorter.{Left, NoLonger}
 

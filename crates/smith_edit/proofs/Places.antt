@@ -16,7 +16,7 @@ use Rattle.smith_edit.specs.Walk.{new_scope, with_core_function, with_core_type,
 use Rattle.smith_edit.specs.declared.renumbering.Fate.{Fate}
 use Rattle.smith_edit.specs.declared.renumbering.Fate.TheVariants.{Kept, Removed}
 use Rattle.smith_edit.specs.declared.renumbering.Renumbered.{Renumbered}
-use Rattle.smith_edit.specs.declared.scope.Scope.{Scope as Indexes}
+use Rattle.smith_edit.specs.declared.walk.Scope.{Scope as Indexes}
 use Rattle.smith_edit.proofs.Alike.{Alike, AlikeCore, Same, ScopeFollows}
 use Rattle.smith_edit.proofs.Follows.{Follows, IsLeft, Stays, entry_there, follows_left, follows_removed, get_other, get_still, none_yet}
 use Rattle.smith_edit.proofs.Perhaps.{Perhaps, gives, nothing}

@@ -33,11 +33,11 @@ use Rattle.smith_edit.specs.Removal.{past, removes}
 use Rattle.smith_edit.specs.Renumbering.{Renumbering, entry_at, index_kept, index_left, kept_index, new_index}
 use Rattle.smith_edit.specs.Shapes.{Shape, alone, cases, fields, labels, pair, shape, single, values}
 use Rattle.smith_edit.specs.Walk.{Walk, aliased, entered, skipped}
-use Rattle.smith_edit.specs.declared.removal.Removal.{Removal}
+use Rattle.smith_edit.specs.declared.walk.Removal.{Removal}
 use Rattle.smith_edit.specs.declared.renumbering.Fate.{Fate}
 use Rattle.smith_edit.specs.declared.renumbering.Fate.TheVariants.{Kept, Removed}
-use Rattle.smith_edit.specs.declared.scope.Scope.{Scope}
-use Rattle.smith_edit.proofs.Perhaps.{Gives, because, gives, mapped, nothing}
+use Rattle.smith_edit.specs.declared.walk.Scope.{Scope}
+use Rattle.smith_edit.proofs.Perhaps.{Gives, because, gives, mapped, nothing, reason}
 
 -- indexes
 
@@ -264,3 +264,13 @@ mutual
 
 pub other_items_left : (k : ℕ) (t less : Tree) → without k t ≡ Some less → IsLeftWithout k t less
 other_items_left k t less e = grind (arith, cond_some, sections_left)
+
+-- What goes does so for a reason.
+
+pub entry_goes : (e : Entry) (w : Walk) → entry_edited e w ≡ None → EntryGoes w e
+entry_goes e w gone = reason (entry_remains e w) gone
+
+pub decl_goes : (d : Decl) (w : Walk) → decl_edited d w ≡ None → DeclGoes w d
+decl_goes d w gone = reason (decl_remains d w) gone
+
+pub ruleset goes = (entry_goes, decl_goes)

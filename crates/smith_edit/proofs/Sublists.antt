@@ -1,6 +1,7 @@
 -- Lists without some of their items.
 use Rattle.std.proofs.Common.{◌≡◌, Bool, false, bytes_eq, List, [], ◌∷◌, ◌++◌, ℕ}
 use Rattle.std.specs.List.{AllByRecursion, IsDistinct}
+use Rattle.smith_input.proofs.Rests.{drop_past, rest_at}
 use Rattle.smith_syntax.specs.WellFormed.{Named}
 use Rattle.std.proofs.Common.{zero, suc, ◌+◌, ◌<◌, ◌≤◌, Option, None, Some, append_assoc, drop, get_or, map, length, ap, sym}
 use Rattle.std.proofs.Common.{append-nil}
@@ -45,15 +46,10 @@ named_sub ys xs s h = (sub_all _ ys xs s h.0, sub_distinct bytes_eq ys xs s h.1)
 
 pub map_drop : {A B : Type 0} (f : A → B) (xs : List A) (i : ℕ) (x : A) → i < length xs → x ≡ get_or xs i x
     → map f (drop i xs) ≡ f x ∷ map f (drop (i + 1) xs)
-map_drop f [] i x h e = absurd (omega arith)
-map_drop f (y ∷ xs) zero x h e = let same = sym e in λ j. f (same j) ∷ map f xs
-map_drop f (y ∷ xs) (suc i) x h e = let more : suc i + 1 ≡ suc (i + 1) = omega arith in rw more (map_drop f xs i x (omega arith) e)
+map_drop f xs i x h e = ap (map f) (rest_at xs i x h e)
 
 pub map_dropped : {A B : Type 0} (f : A → B) (xs : List A) (i : ℕ) → length xs ≤ i → map f (drop i xs) ≡ []
-map_dropped f [] zero h = refl
-map_dropped f [] (suc i) h = refl
-map_dropped f (y ∷ xs) zero h = absurd (omega arith)
-map_dropped f (y ∷ xs) (suc i) h = map_dropped f xs i (omega arith)
+map_dropped f xs i h = ap (map f) (drop_past xs i h)
 
 -- what items have, gathered one by one after what is known
 module _ {X A N : Type 0} (shown : X → A) (all : List A → List N) (of : A → List N) (more : (x : A) (xs : List A) → all (x ∷ xs) ≡ of x ++ all xs) where

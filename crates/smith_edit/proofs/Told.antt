@@ -19,7 +19,7 @@ use Rattle.smith_edit.specs.Walk.{Walk, with_type}
 use Rattle.smith_edit.specs.declared.renumbering.Fate.{Fate}
 use Rattle.smith_edit.specs.declared.renumbering.Fate.TheVariants.{Kept, Changed, Removed}
 use Rattle.smith_edit.specs.declared.renumbering.Renumbered.{Renumbered}
-use Rattle.smith_edit.specs.declared.scope.Scope.{Scope}
+use Rattle.smith_edit.specs.declared.walk.Scope.{Scope}
 use Rattle.smith_edit.proofs.Follows.{entry_there, get_last}
 use Rattle.smith_edit.proofs.LowIndexes.{entry_or}
 use Rattle.smith_edit.proofs.Perhaps.{Perhaps, given, gives, mapped, nothing, whatever}

@@ -22,8 +22,8 @@ use Rattle.smith_edit.specs.Walk.{Walk, aliased_core_type, aliased_type, entered
 use Rattle.smith_edit.specs.Walk.{with_core_function, with_core_type, with_function, with_type}
 use Rattle.smith_edit.specs.declared.renumbering.Fate.{Fate}
 use Rattle.smith_edit.specs.declared.renumbering.Fate.TheVariants.{Kept, Changed, Removed}
-use Rattle.smith_edit.specs.declared.removal.Removal.{Removal}
-use Rattle.smith_edit.specs.declared.scope.Scope.{Scope}
+use Rattle.smith_edit.specs.declared.walk.Removal.{Removal}
+use Rattle.smith_edit.specs.declared.walk.Scope.{Scope}
 
 -- Members: they are in no index space, and have nothing inside.
 abbrev pub members : {A : Type 0} → (A → Option A) → Removal → List A → List A

@@ -11,8 +11,8 @@ use Rattle.smith_edit.specs.Edited.{tree_edited}
 use Rattle.smith_edit.specs.Items.{tree_items}
 use Rattle.smith_edit.specs.Renumbering.{from}
 use Rattle.smith_edit.specs.Walk.{new_scope}
-use Rattle.smith_edit.specs.declared.removal.Removal.TheVariants.{Nothing, Item}
-use Rattle.smith_edit.specs.declared.scope.Scope.{Scope}
+use Rattle.smith_edit.specs.declared.walk.Removal.TheVariants.{Nothing, Item}
+use Rattle.smith_edit.specs.declared.walk.Scope.{Scope}
 
 -- the component without its k-th item and all that refers to what is removed; none if there is no k-th
 abbrev pub without : ℕ → Tree → Option Tree

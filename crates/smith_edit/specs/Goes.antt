@@ -14,9 +14,9 @@ use Rattle.smith_edit.specs.Removal.{past, removes}
 use Rattle.smith_edit.specs.Renumbering.{Renumbering, entry_at}
 use Rattle.smith_edit.specs.Shapes.{Shape, cases, fields, labels, shape, single, values}
 use Rattle.smith_edit.specs.Walk.{Walk}
-use Rattle.smith_edit.specs.declared.removal.Removal.{Removal}
+use Rattle.smith_edit.specs.declared.walk.Removal.{Removal}
 use Rattle.smith_edit.specs.declared.renumbering.Fate.TheVariants.{Kept, Removed}
-use Rattle.smith_edit.specs.declared.scope.Scope.{Scope}
+use Rattle.smith_edit.specs.declared.walk.Scope.{Scope}
 
 -- the entry of that index went; it is not as it was
 

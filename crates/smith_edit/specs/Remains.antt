@@ -22,8 +22,8 @@ use Rattle.smith_edit.specs.Removal.{past, removes}
 use Rattle.smith_edit.specs.Renumbering.{Renumbering}
 use Rattle.smith_edit.specs.Shapes.{Shape, alone, cases, fields, labels, pair, shape, single, values}
 use Rattle.smith_edit.specs.Walk.{Walk, entered, new_scope, skipped}
-use Rattle.smith_edit.specs.declared.removal.Removal.{Removal}
-use Rattle.smith_edit.specs.declared.removal.Removal.TheVariants.{Item}
+use Rattle.smith_edit.specs.declared.walk.Removal.{Removal}
+use Rattle.smith_edit.specs.declared.walk.Removal.TheVariants.{Item}
 
 -- Members in their order: each is left, or is removed, or goes.
 module _ {A : Type 0} (Remains : A → A → Type 0) (Goes : A → Type 0) where

@@ -1,7 +1,7 @@
 -- What is removed of the items from a place on.
 use Rattle.std.specs.Prelude.{ℕ, ◌-◌, Bool, true, false, nat_eq, nat_lt, if◌then◌else◌}
-use Rattle.smith_edit.specs.declared.removal.Removal.{Removal}
-use Rattle.smith_edit.specs.declared.removal.Removal.TheVariants.{Nothing, Item, Everything}
+use Rattle.smith_edit.specs.declared.walk.Removal.{Removal}
+use Rattle.smith_edit.specs.declared.walk.Removal.TheVariants.{Nothing, Item, Everything}
 
 -- Is the item here removed?
 abbrev pub removes : Removal → Bool

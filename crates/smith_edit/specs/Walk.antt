@@ -3,8 +3,9 @@ use Rattle.std.specs.Prelude.{ℕ, List, [], ◌∷◌, Option, None, Some, reve
 use Rattle.smith_edit.specs.Removal.{past}
 use Rattle.smith_edit.specs.Renumbering.{Renumbering, from, new_index, with_entry}
 use Rattle.smith_edit.specs.declared.renumbering.Fate.{Fate}
-use Rattle.smith_edit.specs.declared.removal.Removal.{Removal}
-use Rattle.smith_edit.specs.declared.scope.Scope.{Scope}
+use Rattle.smith_edit.specs.declared.walk.Removal.{Removal}
+use Rattle.smith_edit.specs.declared.walk.Removal.TheVariants.{Nothing}
+use Rattle.smith_edit.specs.declared.walk.Scope.{Scope}
 use Rattle.smith_edit.specs.declared.walk.Walk.{Walk as Inside}
 
 -- what is removed from here on, what became of the entries of this scope, and of the scopes around it, innermost first
@@ -19,6 +20,10 @@ shown_walk w = record { removal = w.removal; own = w.scopes.own; outer = reverse
 
 abbrev pub new_scope : Scope
 new_scope = record { types = from 0; core_types = from 0; functions = from 0; core_functions = from 0 }
+
+-- where nothing is removed, and nothing is known
+abbrev pub still : Walk
+still = record { removal = Nothing; own = new_scope; outer = [] }
 
 -- that many items further on
 abbrev pub skipped : ℕ → Walk → Walk

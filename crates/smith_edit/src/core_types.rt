@@ -13,8 +13,7 @@ use crate::items::function_items;
 use crate::members::edit_members;
 use crate::renumbering::{Fate, Renumbering};
 use crate::rows::{Row, edit_rows};
-use crate::scope::Scope;
-use crate::walk::Walk;
+use crate::walk::{Scope, Walk};
 use smith_format::{EntityType, FuncType, TagType};
 use smith_read::{CoreNode, ModuleNode};
 use std::alloc::AllocError;
@@ -56,8 +55,7 @@ impl Row for ModuleNode {
     fn items_inside(&self) -> Result<usize, AllocError> {
         match self {
             ModuleNode::Func(ty) => function_items(ty),
-            ModuleNode::Import { .. } | ModuleNode::OuterAlias { .. } | ModuleNode::Export { .. } =>
-                { Ok(0) }
+            _ => Ok(0),
         }
     }
 
@@ -81,13 +79,11 @@ impl Row for ModuleNode {
                 }))
             }
             ModuleNode::OuterAlias { count, index } => {
-                match walk.aliased_core_type(*count, *index) {
-                    Some(index) => Ok(Some(ModuleNode::OuterAlias {
-                        count: *count,
-                        index,
-                    })),
-                    None => Ok(None),
-                }
+                let new = walk.aliased_core_type(*count, *index);
+                Ok(new.map(|index| ModuleNode::OuterAlias {
+                    count: *count,
+                    index,
+                }))
             }
             ModuleNode::Export { name, entity } => {
                 let Some(entity) = edit_entity(&walk.scopes.own.core_types, *entity) else {

@@ -10,7 +10,7 @@ ghost use Rattle.smith_edit.specs.Counts.{counts_of};
 ghost use Rattle.smith_edit.specs.Edits.{following};
 
 use crate::renumbering::Renumbering;
-use crate::scope::Scope;
+use crate::walk::Scope;
 use smith_read::{Export, Func, ImportNode, PartNode};
 use smith_syntax::ComponentTypeRef;
 use std::alloc::{AllocError, Global};
@@ -74,16 +74,10 @@ impl Counted for ImportNode {
     ghost after = { after_import };
 
     fn count(&self, counts: &mut Counts) -> Result<(), AllocError> {
-        match self.to {
-            ComponentTypeRef::Func(_) => {
-                counts.functions = sum(counts.functions, 1)?;
-                Ok(())
-            }
-            ComponentTypeRef::Module(_)
-            | ComponentTypeRef::TypeEq(_)
-            | ComponentTypeRef::Component(_)
-            | ComponentTypeRef::Instance(_) => Ok(()),
+        if let ComponentTypeRef::Func(_) = self.to {
+            counts.functions = sum(counts.functions, 1)?;
         }
+        Ok(())
     }
 }
 
@@ -126,25 +120,20 @@ impl Counts {
     }
 
     /// Adds the entries of a section.
-    #[tactic(auto, using(crate::proofs::PartNodes::part_nodes))]
+    #[tactic(auto, using(crate::proofs::Past::part_nodes))]
     pub(crate) fn add(&mut self, part: &PartNode) -> Result<(), AllocError>
         ensures { (s : Spaces) → self.old ≡ counts_of s
             → OnOk result (self.new ≡ counts_of (after_part s (shown_part_node part.now))) }
     {
         match part {
-            PartNode::Custom(_) | PartNode::CoreModule(_) | PartNode::Component(_) => Ok(()),
-            PartNode::CoreTypes(types) => {
-                self.core_types = sum(self.core_types, types.len())?;
-                Ok(())
-            }
-            PartNode::Types(types) => {
-                self.types = sum(self.types, types.len())?;
-                Ok(())
-            }
-            PartNode::Canons(canons) => self.add_all(canons),
-            PartNode::Imports(imports) => self.add_all(imports),
-            PartNode::Exports(exports) => self.add_all(exports),
+            PartNode::CoreTypes(types) => self.core_types = sum(self.core_types, types.len())?,
+            PartNode::Types(types) => self.types = sum(self.types, types.len())?,
+            PartNode::Canons(canons) => self.add_all(canons)?,
+            PartNode::Imports(imports) => self.add_all(imports)?,
+            PartNode::Exports(exports) => self.add_all(exports)?,
+            PartNode::Custom(_) | PartNode::CoreModule(_) | PartNode::Component(_) => {}
         }
+        Ok(())
     }
 
     /// A scope the indexes of which follow these.

@@ -1,7 +1,6 @@
 //! The two edits: a component without one of its items, and two components joined.
 
-ghost use Rattle.std.specs.Prelude.{◌≡◌, IfOk, map};
-ghost use Rattle.std.specs.Option.{option_map};
+ghost use Rattle.std.specs.Prelude.{◌≡◌, IfOk, map, option_map};
 ghost use Rattle.smith_tree.specs.Spaces.{spaces_of};
 ghost use Rattle.smith_tree.specs.Tree.{exports_of, imports_of, tree_of};
 ghost use Rattle.smith_tree.specs.WellFormed.{export_names, import_names};
@@ -13,9 +12,7 @@ ghost use Rattle.smith_edit.specs.Names.{KnowsBoth};
 use crate::counts::Counts;
 use crate::names::Taken;
 use crate::parts::{edit_part, edit_parts};
-use crate::removal::Removal;
-use crate::scope::Scope;
-use crate::walk::Walk;
+use crate::walk::{Removal, Scope, Walk};
 use smith_read::{ComponentTree, PartNode};
 use std::alloc::{AllocError, Global};
 

@@ -7,8 +7,8 @@ ghost use Rattle.smith_tree.specs.Tree.{tree_of};
 ghost use Rattle.smith_read.specs.Nodes.{shown_core_node};
 ghost use Rattle.smith_read.specs.TypeNodes.{shown_decl_node, shown_type_node};
 ghost use Rattle.smith_read.specs.PartNodes.{shown_part_node, shown_tree};
-ghost use Rattle.smith_edit.specs.Items.{core_items, decl_items, decls_items, entry_items, function_items};
-ghost use Rattle.smith_edit.specs.Items.{part_items, row_items, tree_items};
+ghost use Rattle.smith_edit.specs.Items.{core_items, decl_items, decls_items, entry_items, function_items, part_items};
+ghost use Rattle.smith_edit.specs.Items.{row_items, tree_items};
 
 use crate::counts::sum;
 use crate::members::{signature_items, value_items};
@@ -29,14 +29,12 @@ pub(crate) fn row_items<T: Row>(items: &[T]) -> Result<usize, AllocError>
     Ok(count)
 }
 
-/// The items of a core function type.
 pub(crate) fn function_items(ty: &FuncType) -> Result<usize, AllocError>
     ensures { IfOk result (λ n. n ≡ function_items (shown_func ty.now)) }
 {
     sum(ty.params.len(), ty.results.len())
 }
 
-/// The items of a core type.
 pub(crate) fn core_items(node: &CoreNode) -> Result<usize, AllocError>
     ensures { IfOk result (λ n. n ≡ core_items (shown_core_node node.now)) }
 {
@@ -46,7 +44,6 @@ pub(crate) fn core_items(node: &CoreNode) -> Result<usize, AllocError>
     }
 }
 
-/// The items of a type.
 #[cycle(counting)]
 #[tactic(auto, using(smith_read::proofs::ShownNodes::shown_nodes))]
 pub(crate) fn type_items(node: &TypeNode) -> Result<usize, AllocError>
@@ -67,10 +64,7 @@ fn declaration_items(node: &DeclNode) -> Result<usize, AllocError>
     match node {
         DeclNode::Core(ty) => core_items(ty),
         DeclNode::Type(ty) => type_items(ty),
-        DeclNode::TypeAlias { .. }
-        | DeclNode::CoreTypeAlias { .. }
-        | DeclNode::Import { .. }
-        | DeclNode::Export { .. } => Ok(0),
+        _ => Ok(0),
     }
 }
 
@@ -86,9 +80,8 @@ fn declarations_items(nodes: &[DeclNode]) -> Result<usize, AllocError>
     Ok(count)
 }
 
-/// The items of a section.
 #[cycle(counting_parts)]
-#[tactic(auto, using(crate::proofs::PartNodes::part_nodes))]
+#[tactic(auto, using(crate::proofs::Past::part_nodes))]
 pub(crate) fn part_items(node: &PartNode) -> Result<usize, AllocError>
     ensures { IfOk result (λ n. n ≡ part_items (shown_part_node node.now)) }
 {

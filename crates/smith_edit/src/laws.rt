@@ -7,10 +7,9 @@ ghost use Rattle.smith_tree.specs.Grammar.{Spells};
 ghost use Rattle.smith_tree.specs.Tree.{Canon, ExportEntry, Tree, ends};
 ghost use Rattle.smith_tree.specs.WellFormed.{WellFormed};
 ghost use Rattle.smith_edit.specs.Edited.{after_canon, after_core, after_decl, after_export, after_import};
-ghost use Rattle.smith_edit.specs.Edited.{after_module_decl, after_type};
-ghost use Rattle.smith_edit.specs.Edited.{canon_edited, case_edited, core_row, decl_edited, entry_edited};
-ghost use Rattle.smith_edit.specs.Edited.{export_edited, field_edited, import_edited, module_decl_edited};
-ghost use Rattle.smith_edit.specs.Edited.{optional_edited, value_edited};
+ghost use Rattle.smith_edit.specs.Edited.{after_module_decl, after_type, canon_edited, case_edited, core_row};
+ghost use Rattle.smith_edit.specs.Edited.{decl_edited, entry_edited, export_edited, field_edited, import_edited};
+ghost use Rattle.smith_edit.specs.Edited.{module_decl_edited, optional_edited, value_edited};
 ghost use Rattle.smith_edit.specs.Edits.{joined, without};
 ghost use Rattle.smith_edit.specs.Goes.{CanonGoes, DeclGoes, EntryGoes, IsCaseGone, IsGone, IsRefGone, IsValueGone};
 ghost use Rattle.smith_edit.specs.Goes.{ModuleDeclGoes};
@@ -20,10 +19,10 @@ ghost use Rattle.smith_edit.specs.Removal.{inside, past, removes};
 ghost use Rattle.smith_edit.specs.Renumbering.{Renumbering, entry_at, with_entry};
 ghost use Rattle.smith_edit.specs.Simpler.{simplified};
 ghost use Rattle.smith_edit.specs.Walk.{Walk};
-ghost use Rattle.smith_edit.specs.declared.removal.Removal.{Removal};
-ghost use Rattle.smith_edit.specs.declared.removal.Removal.TheVariants.{Everything, Item};
+ghost use Rattle.smith_edit.specs.declared.walk.Removal.{Removal};
+ghost use Rattle.smith_edit.specs.declared.walk.Removal.TheVariants.{Everything, Item};
 ghost use Rattle.smith_edit.specs.declared.renumbering.Fate.{Fate};
-ghost use Rattle.smith_edit.specs.declared.scope.Scope.{Scope};
+ghost use Rattle.smith_edit.specs.declared.walk.Scope.{Scope};
 
 /// A component without an item has fewer items.
 #[tactic(auto, using(crate::proofs::EditedSize::without_fewer))]
@@ -49,6 +48,7 @@ pub fn one_item_is_removed()
 
 /// An entry of a section that is not removed goes only with what it refers to, or, if it is a type of values, with its
 /// last member. A core type never goes so.
+#[tactic(auto, using(crate::proofs::Remains::goes))]
 pub fn entries_go_with_what_they_refer_to()
     ensures core_types { (w : Walk) (t : CoreEntry) → ¬ (core_row w t ≡ None) }
     ensures types { (e : Entry) (w : Walk) → entry_edited e w ≡ None → EntryGoes w e }
@@ -58,6 +58,7 @@ pub fn entries_go_with_what_they_refer_to()
 {}
 
 /// So does a declaration.
+#[tactic(auto, using(crate::proofs::Remains::goes))]
 pub fn declarations_go_with_what_they_refer_to()
     ensures declarations { (d : Decl) (w : Walk) → decl_edited d w ≡ None → DeclGoes w d }
     ensures module_declarations { (d : ModuleDecl) (w : Walk) → module_decl_edited w d ≡ None → ModuleDeclGoes w d }
@@ -121,6 +122,7 @@ pub fn simpler_bytes_are_no_more()
 {}
 
 /// A component joined with one that has no sections is itself.
+#[tactic(auto, using(crate::proofs::Joining::joined_alone))]
 pub fn nothing_is_added()
     ensures { (tree : Tree) → joined tree ends ≡ tree }
 {}
@@ -132,7 +134,7 @@ pub fn components_stay_well_formed()
 {}
 
 /// Two components that are well formed are joined to one that is.
-#[tactic(auto, using(crate::proofs::FormedJoined::joined_formed))]
+#[tactic(auto, using(crate::proofs::Joining::joined_formed))]
 pub fn joined_components_are_well_formed()
     ensures { (left right : Tree) → WellFormed left → WellFormed right → WellFormed (joined left right) }
 {}

@@ -1,10 +1,9 @@
 //! Types of values and of functions, and their members.
 
 ghost use Rattle.std.specs.Prelude.{◌≡◌, ℕ, List, Option, Some, None, length, map, string_bytes, IfOk, OnOk};
-ghost use Rattle.std.specs.Option.{option_map, option_to_list};
+ghost use Rattle.std.specs.Prelude.{option_map, option_to_list};
 ghost use Rattle.smith_format.specs.declared.types.ValType.{ValType};
-ghost use Rattle.smith_syntax.specs.Entries.{Case, Field, enum_type, flags_type, record_type};
-ghost use Rattle.smith_syntax.specs.Entries.{tuple_type, variant_type};
+ghost use Rattle.smith_syntax.specs.Entries.{Case, Field, enum_type, flags_type, record_type, tuple_type, variant_type};
 ghost use Rattle.smith_syntax.specs.Shown.{shown_defined};
 ghost use Rattle.smith_syntax.specs.Signature.{named};
 ghost use Rattle.smith_syntax.specs.declared.types.ComponentValType.{ComponentValType};
@@ -185,15 +184,11 @@ fn edit_optional(walk: &mut Walk, ty: Option<ComponentValType>) -> Option<Compon
     ensures left { result ≡ optional_edited walk.old.scopes.own.types walk.old.removal ty }
     ensures walk { shown_walk walk.new ≡ skipped (length (option_to_list ty)) (shown_walk walk.old) }
 {
-    match ty {
-        None => None,
-        Some(ty) => {
-            if walk.step() {
-                return None;
-            }
-            edit_value(&walk.scopes.own.types, ty)
-        }
+    let ty = ty?;
+    if walk.step() {
+        return None;
     }
+    edit_value(&walk.scopes.own.types, ty)
 }
 
 pub(crate) fn record_of(fields: Vec<(String, ComponentValType)>) -> DefinedType

@@ -1,6 +1,7 @@
-//! Names of imports and exports, made new.
+//! Names of imports and exports, made new, or as short as can be.
 
-ghost use Rattle.std.specs.Prelude.{◌≡◌, ◌∷◌, ◌++◌, [], ℕ, List, map, refl, string_bytes, IfOk, OnOk};
+ghost use Rattle.std.specs.Prelude.{◌≡◌, ◌+◌, ◌%◌, ◌∷◌, ◌++◌, [], ℕ, List, map, refl, string_bytes, IfOk, OnOk};
+ghost use Rattle.std.specs.Prelude.{option_map};
 ghost use Rattle.smith_syntax.specs.Entries.{ImportEntry};
 ghost use Rattle.smith_tree.specs.Tree.{ExportEntry, exports_in, imports_in};
 ghost use Rattle.smith_tree.specs.WellFormed.{export_names, import_names};
@@ -8,6 +9,7 @@ ghost use Rattle.smith_read.specs.PartNodes.{shown_import_node, shown_part_node}
 ghost use Rattle.smith_tree.specs.Shown.{shown_export};
 ghost use Rattle.smith_edit.specs.Edits.{all_renamed, export_renamed, import_renamed, new_name, part_renamed};
 ghost use Rattle.smith_edit.specs.Names.{Knows, KnowsBoth};
+ghost use Rattle.smith_edit.specs.ShortNames.{short_name, shorter_name, shortest_new};
 
 use crate::counts::sum;
 use smith_read::{Export, ImportNode, PartNode};
@@ -86,6 +88,37 @@ impl Named for Export {
     }
 }
 
+// Appends a letter from a to z.
+fn push_letter(name: &mut String, count: usize) -> Result<(), AllocError>
+    ensures { OnOk result (string_bytes name.new ≡ string_bytes name.old ++ (0x61 + count % 26) ∷ []) }
+{
+    let letter = b'a' + (count % 26) as u8;
+    name.push(char::from(letter))
+}
+
+// Appends that one of the names a, b, .., z, aa, ab, ..
+#[tactic(auto, using(crate::proofs::NewNames::pushed_few, crate::proofs::NewNames::pushed_many))]
+fn push_short(name: &mut String, count: usize) -> Result<(), AllocError>
+    ensures { OnOk result (string_bytes name.new ≡ string_bytes name.old ++ short_name count) }
+{
+    if count >= 26 {
+        push_short(name, count / 26 - 1)?;
+        push_letter(name, count)?;
+        return Ok(());
+    }
+    push_letter(name, count)?;
+    Ok(())
+}
+
+// That one of the names a, b, .., z, aa, ab, ..
+fn short_name(alloc: Global, count: usize) -> Result<String, AllocError>
+    ensures { IfOk result (λ name. string_bytes name ≡ short_name count) }
+{
+    let mut name = String::new(alloc);
+    push_short(&mut name, count)?;
+    Ok(name)
+}
+
 /// Names, and how many there are.
 #[derive(Drop)]
 pub(crate) struct Names {
@@ -103,7 +136,6 @@ impl Names {
         }
     }
 
-    /// Adds a name.
     pub(crate) fn add(&mut self, alloc: Global, name: &str) -> Result<(), AllocError>
         ensures { (names : List (List ℕ)) → Knows self.old names
             → OnOk result (Knows self.new (names ++ name.now ∷ [])) }
@@ -130,7 +162,6 @@ impl Names {
         Ok(new)
     }
 
-    /// Adds all names.
     pub(crate) fn add_all<T: Named>(&mut self, alloc: Global, items: &[T]) -> Result<(), AllocError>
         ensures { (names : List (List ℕ)) → Knows self.old names
             → OnOk result (Knows self.new (names ++ map T.name (map T.shown items.now))) }
@@ -156,6 +187,36 @@ impl Names {
         }
         Ok(renamed)
     }
+
+    // The first of them that is none of the names.
+    fn shortest_new(&self, alloc: Global) -> Result<String, AllocError>
+        ensures { (names : List (List ℕ)) → Knows self.now names
+            → IfOk result (λ new. string_bytes new ≡ shortest_new names) }
+    {
+        for count in 0..self.count {
+            let name = short_name(alloc, count)?;
+            if !self.set.contains(name.as_str()) {
+                return Ok(name);
+            }
+        }
+        short_name(alloc, self.count)
+    }
+
+    /// The first of a, b, .., z, aa, ab, .. that is none of the names, if it is shorter than this one.
+    pub(crate) fn shorter_name(
+        &self,
+        alloc: Global,
+        name: &str,
+    ) -> Result<Option<String>, AllocError>
+        ensures { (names : List (List ℕ)) → Knows self.now names
+            → IfOk result (λ r. option_map string_bytes r ≡ shorter_name names name.now) }
+    {
+        let new = self.shortest_new(alloc)?;
+        if new.len() < name.len() {
+            return Ok(Some(new));
+        }
+        Ok(None)
+    }
 }
 
 /// The names of imports and of exports.
@@ -176,7 +237,7 @@ impl Taken {
     }
 
     /// Adds the names of a section.
-    #[tactic(auto, using(crate::proofs::PartNodes::part_nodes))]
+    #[tactic(auto, using(crate::proofs::Past::part_nodes))]
     pub(crate) fn add(&mut self, alloc: Global, part: &PartNode) -> Result<(), AllocError>
         ensures { (is es : List (List ℕ)) → KnowsBoth self.old is es → OnOk result (KnowsBoth self.new
             (is ++ import_names (imports_in (shown_part_node part.now)))
@@ -190,7 +251,7 @@ impl Taken {
     }
 
     /// The section with its names made new, which are added.
-    #[tactic(auto, using(crate::proofs::PartNodes::part_nodes))]
+    #[tactic(auto, using(crate::proofs::Past::part_nodes))]
     pub(crate) fn renamed(&mut self, alloc: Global, part: PartNode) -> Result<PartNode, AllocError>
         ensures part { (is es : List (List ℕ)) → KnowsBoth self.old is es
             → IfOk result (λ p. shown_part_node p ≡ part_renamed is es (shown_part_node part)) }

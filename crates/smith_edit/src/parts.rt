@@ -1,7 +1,6 @@
 //! The sections of components.
 
-ghost use Rattle.std.specs.Prelude.{◌≡◌, None, Some, map, if◌then◌else◌, IfOk, OnOk};
-ghost use Rattle.std.specs.Option.{option_map};
+ghost use Rattle.std.specs.Prelude.{◌≡◌, None, Some, map, if◌then◌else◌, IfOk, OnOk, option_map};
 ghost use Rattle.smith_syntax.specs.Entries.{CoreEntry, Entry, ImportEntry};
 ghost use Rattle.smith_tree.specs.Tree.{Canon, ExportEntry, tree_of};
 ghost use Rattle.smith_read.specs.Nodes.{shown_core_node};
@@ -18,12 +17,10 @@ ghost use Rattle.smith_edit.specs.Walk.{shown_walk};
 use crate::core_types::edit_core_type;
 use crate::items::{core_items, type_items};
 use crate::members::signature_items;
-use crate::removal::Removal;
 use crate::renumbering::Fate;
 use crate::rows::{Row, edit_rows, push_some};
-use crate::scope::Scope;
 use crate::types::{edit_named, edit_type};
-use crate::walk::Walk;
+use crate::walk::{Removal, Scope, Walk};
 use smith_read::{CoreNode, CustomSection, Export, Func, ImportNode, PartNode, TypeNode};
 use smith_syntax::ComponentTypeRef;
 use std::alloc::AllocError;
@@ -59,7 +56,7 @@ fn function_members(node: &TypeNode) -> usize
 {
     match node {
         TypeNode::Func(ty) => signature_items(ty),
-        TypeNode::Defined(_) | TypeNode::Component(_) | TypeNode::Instance(_) => 0,
+        _ => 0,
     }
 }
 
@@ -159,16 +156,11 @@ impl Row for ImportNode {
     }
 
     fn add(&self, new: &Option<ImportNode>, own: &mut Scope) -> Result<(), AllocError> {
-        match self.to {
-            ComponentTypeRef::Func(index) => {
-                let fate = own.types.entry_at(index).fate;
-                own.functions.add(fate.remains_if(new.is_some()))
-            }
-            ComponentTypeRef::Module(_)
-            | ComponentTypeRef::TypeEq(_)
-            | ComponentTypeRef::Component(_)
-            | ComponentTypeRef::Instance(_) => Ok(()),
+        if let ComponentTypeRef::Func(index) = self.to {
+            let fate = own.types.entry_at(index).fate;
+            own.functions.add(fate.remains_if(new.is_some()))?;
         }
+        Ok(())
     }
 }
 
@@ -202,7 +194,7 @@ impl Row for Export {
 
 /// A section, with the entries that are left.
 #[cycle(parts)]
-#[tactic(auto, using(crate::proofs::PartNodes::part_nodes))]
+#[tactic(auto, using(crate::proofs::Past::part_nodes))]
 pub(crate) fn edit_part(walk: &mut Walk, node: &PartNode) -> Result<PartNode, AllocError>
     ensures edited { IfOk result (λ p. shown_part_node p
         ≡ part_edited (shown_part_node node.now) (shown_walk walk.old)) }

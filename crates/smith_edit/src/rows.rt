@@ -1,13 +1,11 @@
 //! Entries in order, each edited by what became of the ones before it.
 
-ghost use Rattle.std.specs.Prelude.{◌≡◌, ◌+◌, ◌++◌, ℕ, Option, map, IfOk, OnOk};
-ghost use Rattle.std.specs.Option.{option_map, option_to_list};
+ghost use Rattle.std.specs.Prelude.{◌≡◌, ◌+◌, ◌++◌, ℕ, Option, map, IfOk, OnOk, option_map, option_to_list};
 ghost use Rattle.smith_edit.specs.Edited.{after_rows, one, rows};
 ghost use Rattle.smith_edit.specs.Walk.{Walk as PlainWalk, shown_walk, skipped};
-ghost use Rattle.smith_edit.specs.declared.scope.Scope.{Scope as PlainScope};
+ghost use Rattle.smith_edit.specs.declared.walk.Scope.{Scope as PlainScope};
 
-use crate::scope::Scope;
-use crate::walk::Walk;
+use crate::walk::{Scope, Walk};
 use std::alloc::AllocError;
 
 /// What is an entry of a section, or a declaration of a module type.

@@ -2,31 +2,75 @@
 
 mod copies;
 mod members;
-mod nested;
 mod parts;
 mod search;
-mod short_names;
 mod types;
 mod values;
 
-ghost use Rattle.std.specs.Prelude.{◌≡◌, Some, map, IfOk};
-ghost use Rattle.std.specs.Option.{option_map};
+ghost use Rattle.std.specs.Prelude.{◌≡◌, ◌+◌, None, Some, map, IfOk, option_map};
 ghost use Rattle.smith_tree.specs.Tree.{tree_of};
 ghost use Rattle.smith_read.specs.PartNodes.{shown_part_node, shown_tree};
-ghost use Rattle.smith_edit.specs.Simpler.{simplified};
+ghost use Rattle.smith_edit.specs.Items.{part_items, tree_items};
+ghost use Rattle.smith_edit.specs.Search.{found, past};
+ghost use Rattle.smith_edit.specs.Simpler.{component_at, component_in, simplified};
 
-use self::nested::component_at;
 use self::parts::simplify_parts;
-use self::search::Search;
+use self::search::{Finder, Search};
+use crate::items::part_items;
 use smith_read::{ComponentTree, PartNode};
 use std::alloc::{AllocError, Global};
+
+// The sections of the component that is sought, if it is this section or inside it.
+#[cycle(finding)]
+#[tactic(auto, using(crate::proofs::Past::part_nodes))]
+fn component_in<'a>(
+    search: &mut Search,
+    node: &'a PartNode,
+) -> Result<Option<&'a [PartNode]>, AllocError>
+    ensures component { IfOk result (λ r. option_map (λ ps. tree_of (map shown_part_node ps.now)) r
+        ≡ found (part_items (shown_part_node node.now) + 1) search.old
+        (λ k. component_in k (shown_part_node node.now))) }
+    ensures moved { IfOk result (λ r. r ≡ None → search.new
+        ≡ past (part_items (shown_part_node node.now) + 1) search.old) }
+{
+    let here = search.step();
+    let PartNode::Component(nodes) = node else {
+        let _inside = search.pass(part_items(node)?);
+        return Ok(None);
+    };
+    if here {
+        return Ok(Some(nodes));
+    }
+    component_at(search, nodes)
+}
+
+// The sections of the component that is sought, if it is one of these or inside one.
+#[cycle(finding)]
+fn component_at<'a>(
+    search: &mut Search,
+    nodes: &'a [PartNode],
+) -> Result<Option<&'a [PartNode]>, AllocError>
+    ensures component { IfOk result (λ r. option_map (λ ps. tree_of (map shown_part_node ps.now)) r
+        ≡ found (tree_items (tree_of (map shown_part_node nodes.now))) search.old
+        (λ k. component_at k (tree_of (map shown_part_node nodes.now)))) }
+    ensures moved { IfOk result (λ r. r ≡ None → search.new
+        ≡ past (tree_items (tree_of (map shown_part_node nodes.now))) search.old) }
+{
+    for node in nodes {
+        let component = component_in(search, node)?;
+        if component.is_some() {
+            return Ok(component);
+        }
+    }
+    Ok(None)
+}
 
 // A copy of the component.
 fn copy_component(alloc: Global, nodes: &[PartNode]) -> Result<Option<ComponentTree>, AllocError>
     ensures { IfOk result (λ r. option_map shown_tree r ≡ Some (tree_of (map shown_part_node nodes.now))) }
 {
-    let mut search = Search::Over;
-    let parts = simplify_parts(alloc, &mut search, nodes)?;
+    let search = Search::Over;
+    let parts = simplify_parts(&mut Finder { alloc, search }, nodes)?;
     Ok(parts.map(|parts| ComponentTree { parts }))
 }
 
@@ -58,11 +102,14 @@ pub fn simplified(
     if let Some(nodes) = component_at(&mut search, &tree.parts)? {
         return copy_component(alloc, nodes);
     }
-    let mut search = Search::Ahead(k);
-    let Some(parts) = simplify_parts(alloc, &mut search, &tree.parts)? else {
+    let mut finder = Finder {
+        alloc,
+        search: Search::Ahead(k),
+    };
+    let Some(parts) = simplify_parts(&mut finder, &tree.parts)? else {
         return Ok(None);
     };
-    match search {
+    match finder.search {
         Search::Over => Ok(Some(ComponentTree { parts })),
         Search::Ahead(_) => Ok(None),
     }

@@ -1,7 +1,6 @@
 //! Types, and what types of components and instances declare.
 
-ghost use Rattle.std.specs.Prelude.{◌≡◌, ◌+◌, None, map, if◌then◌else◌, IfOk, OnOk};
-ghost use Rattle.std.specs.Option.{option_map};
+ghost use Rattle.std.specs.Prelude.{◌≡◌, ◌+◌, None, map, if◌then◌else◌, IfOk, OnOk, option_map};
 ghost use Rattle.smith_syntax.specs.Entries.{in_order};
 ghost use Rattle.smith_syntax.specs.Signature.{named};
 ghost use Rattle.smith_read.specs.TypeNodes.{shown_decl_node, shown_type_node};
@@ -14,8 +13,7 @@ use crate::core_types::edit_core_type;
 use crate::members::{edit_defined, edit_signature};
 use crate::renumbering::Fate;
 use crate::rows::push_some;
-use crate::scope::Scope;
-use crate::walk::Walk;
+use crate::walk::{Scope, Walk};
 use smith_read::{DeclNode, TypeNode};
 use smith_syntax::ComponentTypeRef;
 use std::alloc::AllocError;
@@ -24,22 +22,13 @@ use std::alloc::AllocError;
 fn edit_reference(own: &Scope, to: ComponentTypeRef) -> Option<ComponentTypeRef>
     ensures { result ≡ ref_edited own.now to }
 {
+    let types = &own.types;
     match to {
-        ComponentTypeRef::Module(index) => {
-            own.core_types
-                .new_index(index)
-                .map(ComponentTypeRef::Module)
-        }
-        ComponentTypeRef::Func(index) => own.types.new_index(index).map(ComponentTypeRef::Func),
-        ComponentTypeRef::TypeEq(index) => {
-            own.types.new_index(index).map(ComponentTypeRef::TypeEq)
-        }
-        ComponentTypeRef::Component(index) => {
-            own.types.new_index(index).map(ComponentTypeRef::Component)
-        }
-        ComponentTypeRef::Instance(index) => {
-            own.types.new_index(index).map(ComponentTypeRef::Instance)
-        }
+        ComponentTypeRef::Module(at) => own.core_types.new_index(at).map(ComponentTypeRef::Module),
+        ComponentTypeRef::Func(at) => types.new_index(at).map(ComponentTypeRef::Func),
+        ComponentTypeRef::TypeEq(at) => types.new_index(at).map(ComponentTypeRef::TypeEq),
+        ComponentTypeRef::Component(at) => types.new_index(at).map(ComponentTypeRef::Component),
+        ComponentTypeRef::Instance(at) => types.new_index(at).map(ComponentTypeRef::Instance),
     }
 }
 
@@ -85,10 +74,13 @@ pub(crate) fn edit_named(
     }
 }
 
-// A declaration; none if it refers to what is removed.
+/// A declaration; none if it refers to what is removed.
 #[cycle(editing)]
 #[tactic(auto, using(smith_read::proofs::ShownNodes::shown_nodes))]
-fn edit_declaration(walk: &mut Walk, node: &DeclNode) -> Result<Option<DeclNode>, AllocError>
+pub(crate) fn edit_declaration(
+    walk: &mut Walk,
+    node: &DeclNode,
+) -> Result<Option<DeclNode>, AllocError>
     ensures edited { IfOk result (λ r. option_map shown_decl_node r
         ≡ decl_edited (shown_decl_node node.now) (shown_walk walk.old)) }
     ensures walk { OnOk result (shown_walk walk.new
@@ -97,20 +89,20 @@ fn edit_declaration(walk: &mut Walk, node: &DeclNode) -> Result<Option<DeclNode>
     match node {
         DeclNode::Core(ty) => Ok(Some(DeclNode::Core(edit_core_type(walk, ty)?))),
         DeclNode::Type(ty) => Ok(edit_type(walk, ty)?.map(DeclNode::Type)),
-        DeclNode::TypeAlias { count, index } => match walk.aliased_type(*count, *index) {
-            Some(index) => Ok(Some(DeclNode::TypeAlias {
+        DeclNode::TypeAlias { count, index } => {
+            let new = walk.aliased_type(*count, *index);
+            Ok(new.map(|index| DeclNode::TypeAlias {
                 count: *count,
                 index,
-            })),
-            None => Ok(None),
-        },
-        DeclNode::CoreTypeAlias { count, index } => match walk.aliased_core_type(*count, *index) {
-            Some(index) => Ok(Some(DeclNode::CoreTypeAlias {
+            }))
+        }
+        DeclNode::CoreTypeAlias { count, index } => {
+            let new = walk.aliased_core_type(*count, *index);
+            Ok(new.map(|index| DeclNode::CoreTypeAlias {
                 count: *count,
                 index,
-            })),
-            None => Ok(None),
-        },
+            }))
+        }
         DeclNode::Import { name, to } => {
             let new = edit_named(walk, name.as_str(), *to)?;
             Ok(new.map(|(name, to)| DeclNode::Import { name, to }))

@@ -1,13 +1,79 @@
 //! What is known at a place in a component that is edited.
 
 ghost use Rattle.std.specs.Prelude.{◌≡◌, [], OnOk};
-ghost use Rattle.smith_edit.specs.Removal.{removes};
-ghost use Rattle.smith_edit.specs.Walk.{aliased_core_type, aliased_type, entered, exited, shown_walk, skipped};
+ghost use Rattle.smith_edit.specs.Removal.{inside, past, removes};
+ghost use Rattle.smith_edit.specs.Walk.{aliased_core_type, aliased_type, entered, exited, new_scope, shown_walk};
+ghost use Rattle.smith_edit.specs.Walk.{skipped, still};
 
-use crate::removal::Removal;
-use crate::scope::Scope;
-use smith_scopes::Nest;
+use crate::renumbering::Renumbering;
+use smith_scope::Nest;
 use std::alloc::{AllocError, Global};
+
+/// What is removed of the items from a place on.
+#[derive(Clone, Copy)]
+pub(crate) enum Removal {
+    Nothing,
+    /// The item after that many.
+    Item(usize),
+    Everything,
+}
+
+impl Removal {
+    /// Whether the item here is removed.
+    pub(crate) fn removes(self) -> bool
+        ensures { result ≡ removes self }
+    {
+        match self {
+            Removal::Nothing => false,
+            Removal::Item(count) => count == 0,
+            Removal::Everything => true,
+        }
+    }
+
+    /// What is removed after the item here.
+    pub(crate) fn next(self) -> Removal
+        ensures { result ≡ past 1 self }
+    {
+        match self {
+            Removal::Nothing | Removal::Item(0) => Removal::Nothing,
+            Removal::Item(count) => Removal::Item(count - 1),
+            Removal::Everything => Removal::Everything,
+        }
+    }
+
+    /// What is removed inside the item here: all of it with the item.
+    pub(crate) fn inside(self) -> Removal
+        ensures { result ≡ inside self }
+    {
+        if self.removes() {
+            Removal::Everything
+        } else {
+            self.next()
+        }
+    }
+}
+
+/// What becomes of the entries of the index spaces of a component, or of a type that declares others.
+#[derive(Drop)]
+pub(crate) struct Scope {
+    pub(crate) types: Renumbering,
+    pub(crate) core_types: Renumbering,
+    pub(crate) functions: Renumbering,
+    pub(crate) core_functions: Renumbering,
+}
+
+impl Scope {
+    pub(crate) fn new(alloc: Global) -> Scope
+        ensures { result ≡ new_scope }
+    {
+        Scope {
+            types: Renumbering::from(alloc, 0),
+            core_types: Renumbering::from(alloc, 0),
+            functions: Renumbering::from(alloc, 0),
+            core_functions: Renumbering::from(alloc, 0),
+        }
+    }
+}
 
 /// What is removed from a place on, and what became of the entries of its scope and of the scopes around it.
 #[derive(Drop)]
@@ -27,6 +93,13 @@ impl Walk {
             removal,
             scopes: Nest::new(alloc, own),
         }
+    }
+
+    /// A walk that leaves all as it is.
+    pub(crate) fn still(alloc: Global) -> Walk
+        ensures { shown_walk result ≡ still }
+    {
+        Walk::new(alloc, Removal::Nothing, Scope::new(alloc))
     }
 
     /// Moves past an item that has nothing inside, or to the first item inside it. Returns whether it is removed.

@@ -61,7 +61,7 @@ CoreImport = List ℕ × List ℕ × EntityType
 abbrev pub core_import : CoreImport → Piece
 core_import i = text i.0 ⊕ text i.1 ⊕ entity i.2
 
--- what sort of thing is imported or exported (Modules, Imports and Exports)
+-- what sort of thing is imported or exported (Modules, imports and exports)
 abbrev pub kind_of : EntityType → ExportKind
 kind_of (Func i) = kind.Func
 kind_of (Table t) = kind.Table

@@ -2,9 +2,7 @@
 //! has room for what it writes.
 #![tactic(auto, using(crate::proofs::Steps::writing))]
 
-ghost use Rattle.std.specs.Prelude.{◌≡◌, ℕ};
-ghost use Rattle.std.specs.Vec.{vec_len};
-ghost use Rattle.std.specs.declared.vec.Vec.{Vec};
+ghost use Rattle.std.specs.Prelude.{◌≡◌, ℕ, vec_len, Vec};
 ghost use Rattle.std.specs.declared.alloc.Global.{Global};
 ghost use Rattle.smith_format.specs.Piece.{Piece, byte, bytes};
 ghost use Rattle.smith_format.specs.Writing.{Puts, Appends, IsLengthOf};

@@ -2,7 +2,7 @@
 #![tactic(auto, using(crate::proofs::Steps::writing, crate::proofs::Sizes::measuring))]
 
 ghost use Rattle.std.specs.Prelude.{ℕ};
-ghost use Rattle.smith_format.specs.Piece.{Piece, ◌⊕◌, byte, many};
+ghost use Rattle.smith_format.specs.Piece.{◌⊕◌, byte, many};
 ghost use Rattle.smith_format.specs.Writing.{Puts, IsLengthOf};
 
 use crate::buffer::{Spelled, write_byte};

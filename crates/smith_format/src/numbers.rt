@@ -1,7 +1,7 @@
 //! Numbers in LEB128, written at the end of a buffer, and their lengths.
 #![tactic(auto, using(crate::proofs::Steps::writing, crate::proofs::Sizes::measuring))]
 
-ghost use Rattle.std.specs.Prelude.{◌≡◌, ℕ, ◌≤◌, length, pos};
+ghost use Rattle.std.specs.Prelude.{◌≡◌, ◌≤◌, length, pos};
 ghost use Rattle.smith_format.specs.Numbers.{unsigned, signed};
 ghost use Rattle.smith_format.specs.Piece.{number, s, s_index, u};
 ghost use Rattle.smith_format.specs.Writing.{Puts, Appends, IsLengthOf, WantsMemoryFor};

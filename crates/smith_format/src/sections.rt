@@ -1,9 +1,7 @@
 //! Sections whose contents are written before their length is known.
 #![tactic(auto, using(crate::proofs::Steps::writing, crate::proofs::Sizes::measuring))]
 
-ghost use Rattle.std.specs.Prelude.{◌≡◌, ℕ, ◌+◌, ◌≤◌, IfOk};
-ghost use Rattle.std.specs.Vec.{vec_len};
-ghost use Rattle.std.specs.declared.vec.Vec.{Vec};
+ghost use Rattle.std.specs.Prelude.{◌≡◌, ℕ, ◌+◌, ◌≤◌, IfOk, vec_len, Vec};
 ghost use Rattle.std.specs.declared.alloc.Global.{Global};
 ghost use Rattle.smith_format.specs.Piece.{Piece, ◌⊕◌, byte, sized};
 ghost use Rattle.smith_format.specs.Writing.{Puts, Gains};

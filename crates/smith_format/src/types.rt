@@ -142,7 +142,7 @@ pub enum EntityType {
     Tag(TagType),
 }
 
-/// What sort of thing an import or an export is (core specification, Modules, Imports and Exports).
+/// What sort of thing an import or an export is (core specification, Modules, imports and exports).
 #[derive(Debug, Clone, Copy, PartialEq, Eq, Hash)]
 pub enum ExportKind {
     Func,

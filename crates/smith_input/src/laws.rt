@@ -1,17 +1,16 @@
 //! Laws of reading. Each function does nothing: its contract is the law.
 #![tactic(auto, using(crate::proofs::LawLemmas::laws))]
 
-ghost use Rattle.std.specs.Prelude.{◌≡◌, ℕ, ◌^◌, ◌<◌, ◌≤◌, ◌↔◌, Bool, true, false};
-ghost use Rattle.std.specs.Prelude.{List, [], ◌∷◌, ◌++◌, length, map, replicate, codes};
-ghost use Rattle.std.specs.Str.{IsUtf8};
+ghost use Rattle.std.specs.Prelude.{◌≡◌, ℕ, ◌^◌, ◌<◌, ◌≤◌, ◌↔◌, Bool, true, false, List, [], ◌∷◌, ◌++◌, length, map};
+ghost use Rattle.std.specs.Prelude.{replicate, codes, IsUtf8};
 ghost use Rattle.smith_input.specs.Reading.{Reads, More, IsDecided, IsReadAs, LeavesTail};
 ghost use Rattle.smith_input.specs.Script.{pick, AreBytes, script_bytes, script_text, script_name};
 ghost use Rattle.smith_input.specs.Texts.{ReadsBytes, ReadsText, ReadsNewText};
 ghost use Rattle.smith_input.specs.Kebab.{Kebab};
 ghost use Rattle.smith_input.specs.Names.{ReadsKebab, ReadsNew};
 ghost use Rattle.smith_input.specs.NewNames.{IsMadeNew, IsMadeUnique, is_among};
-ghost use Rattle.smith_input.specs.NameScript.{is_within, IsReachable, IsReachableText};
-ghost use Rattle.smith_input.specs.NameScript.{script_within, script_new, script_new_text};
+ghost use Rattle.smith_input.specs.NameScript.{is_within, IsReachable, IsReachableText, script_within, script_new};
+ghost use Rattle.smith_input.specs.NameScript.{script_new_text};
 
 /// The script of a choice is read as that choice.
 pub fn pick_is_read()

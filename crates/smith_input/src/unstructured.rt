@@ -1,7 +1,7 @@
 //! The reader.
 
-ghost use Rattle.std.specs.Prelude.{◌≡◌, ℕ, ◌+◌, ◌-◌, ◌/◌, ◌%◌, ◌^◌, ◌<◌, ◌≤◌, ◌↔◌, IsTrue, [], length, Some};
-ghost use Rattle.std.specs.Prelude.{slice_get, slice_index, drop};
+ghost use Rattle.std.specs.Prelude.{◌≡◌, ℕ, ◌+◌, ◌-◌, ◌/◌, ◌%◌, ◌<◌, ◌≤◌, ◌↔◌, IsTrue, [], length, Some, slice_get};
+ghost use Rattle.std.specs.Prelude.{slice_index, drop};
 ghost use Rattle.smith_input.specs.Reading.{IsWidth, Reads, Flips, More, spelled};
 
 use std::marker::Model;

@@ -13,7 +13,7 @@ use Rattle.std.specs.Result.{IsErrAnd, IsOk}
 use Rattle.std.proofs.lemmas.Result.{err_from_is_err_and}
 use Rattle.smith_format.specs.Consistency.{IsDefault}
 use Rattle.smith_format.specs.declared.config.Config.{Config}
-use Rattle.smith_limits.specs.Keys.{all_keys, is_name, is_switch, most_of, value_of}
+use Rattle.smith_limits.specs.Limits.{all_keys, is_name, is_switch, most_of, value_of}
 use Rattle.smith_limits.specs.Limits.{IsBounded, IsNoInteger, Sets, first_wrong, is_no_integer, is_no_number, is_no_switch, is_wrong}
 use Rattle.smith_limits.specs.Limits.{unknown_in, value_at}
 use Rattle.smith_limits.specs.declared.keys.Key.{Key}

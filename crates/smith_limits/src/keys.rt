@@ -1,16 +1,13 @@
 //! The limits: their names, their greatest values, and how each is taken from a table of TOML.
 
-ghost use Rattle.std.specs.Prelude.{◌≡◌, ◌≤◌, eqb, pos, None, false, true, unwrap_or, option_map, IfOk, IfErr, IfSome};
-ghost use Rattle.std.specs.List.{list_any};
-ghost use Rattle.std.specs.Option.{is_some};
-ghost use lib.Pointwise.{pointwise};
+ghost use Rattle.std.specs.Prelude.{◌≡◌, ◌≤◌, pos, None, false, true, unwrap_or, option_map, IfOk, IfErr, IfSome};
+ghost use Rattle.std.specs.Prelude.{is_some};
 ghost use Rattle.toml.specs.Data.{as_integer, boolean, integer};
 ghost use Rattle.toml.specs.View.{table_view, view};
 ghost use Rattle.smith_format.specs.declared.config.Config.{Config};
 ghost use Rattle.smith_format.specs.Consistency.{IsDefault};
-ghost use Rattle.smith_limits.specs.Keys.{all_keys, is_name, is_switch, most_of, name_of, value_of};
-ghost use Rattle.smith_limits.specs.Limits.{first_wrong, is_wrong, value_at, IsBounded, IsInteger};
-ghost use Rattle.smith_limits.specs.Limits.{IsNoInteger, IsWrong, Sets};
+ghost use Rattle.smith_limits.specs.Limits.{first_wrong, is_name, is_switch, is_wrong, most_of, name_of, value_at};
+ghost use Rattle.smith_limits.specs.Limits.{IsBounded, IsInteger, IsNoInteger, IsWrong, Sets};
 
 use smith_format::Config;
 use toml::{Table, Value};

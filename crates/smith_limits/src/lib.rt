@@ -1,12 +1,10 @@
 //! The limits of what is built, by name: from a table of TOML, and the default ones as text.
 #![tactic(auto)]
 
-mod default_limits;
 mod keys;
 mod limits;
 mod text;
 
-pub use default_limits::DEFAULT_LIMITS;
 pub use keys::{KEYS, Key, Wrong};
-pub use limits::{Fault, Pair, apart, limits_of};
+pub use limits::{DEFAULT_LIMITS, Fault, Pair, apart, limits_of};
 pub use text::{TextFault, limits_of_text};

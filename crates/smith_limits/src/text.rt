@@ -1,6 +1,6 @@
 //! The limits of a run, from a text of TOML.
 
-ghost use Rattle.std.specs.Prelude.{◌≡◌, IfOk, IfErr};
+ghost use Rattle.std.specs.Prelude.{IfOk, IfErr};
 ghost use Rattle.smith_limits.specs.Texts.{IsTextFault, SpellsLimits};
 
 use crate::limits::{Fault, limits_of};

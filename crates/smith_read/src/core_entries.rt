@@ -1,8 +1,6 @@
 //! Core types that a component declares.
 
-ghost use Rattle.std.specs.Prelude.{map};
 ghost use Rattle.smith_syntax.specs.Entries.{ModuleDecl, CoreEntry};
-ghost use Rattle.smith_read.specs.Reading.{Gives};
 ghost use Rattle.smith_read.specs.CoreTypes.{module_decl_at, core_entry_at};
 ghost use Rattle.smith_read.specs.Nodes.{shown_module_node, shown_core_node};
 

@@ -138,10 +138,10 @@ fn table_of(bytes: &[u8]) -> Result<(TableType, &[u8]), Unread>
     ensures { Gives (λ x. (x.0, x.1.now)) result (table_at bytes.now) }
 {
     let (tag, rest) = byte_of(bytes)?;
-    let (element_type, flags) = ref_of(tag, rest)?;
-    let ((shared, table64, minimum, maximum), rest) = limits_of(flags)?;
+    let (element_type, limits) = ref_of(tag, rest)?;
+    let ((shared, table64, minimum, maximum), rest) = limits_of(limits)?;
     if shared {
-        return Err(malformed(flags, Reason::Byte));
+        return Err(malformed(limits, Reason::Byte));
     }
     let table = TableType {
         element_type,

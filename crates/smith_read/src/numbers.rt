@@ -1,6 +1,6 @@
 //! Bytes, and numbers in LEB128.
 
-ghost use Rattle.std.specs.Prelude.{◌≡◌, ◌≤◌, ◌<◌, length, IfOk};
+ghost use Rattle.std.specs.Prelude.{◌≤◌, ◌<◌, length, IfOk};
 ghost use Rattle.smith_read.specs.Reading.{Gives, byte_at, number_at, within, u_at, index_at, limit_at};
 
 use crate::unread::{Reason, Unread, malformed};

@@ -4,8 +4,8 @@ ghost use Rattle.std.specs.Prelude.{◌≡◌, ◌≤◌, Some, length, IfOk, If
 ghost use Rattle.smith_tree.specs.Depths.{scope_depth};
 ghost use Rattle.smith_tree.specs.Grammar.{Spells};
 ghost use Rattle.smith_tree.specs.Tree.{Tree};
-ghost use Rattle.smith_read.specs.Finding.{found_at, into_at, items_of, listed_at, pass_at, past_at};
-ghost use Rattle.smith_read.specs.Finding.{shown_passing, sole_at, walk_at, within_at};
+ghost use Rattle.smith_read.specs.Finding.{found_at, into_at, items_of, listed_at, pass_at, past_at, shown_passing};
+ghost use Rattle.smith_read.specs.Finding.{sole_at, walk_at, within_at};
 ghost use Rattle.smith_read.specs.Levels.{entry_at};
 ghost use Rattle.smith_read.specs.Places.{offset_in};
 ghost use Rattle.smith_read.specs.Reading.{Gives};

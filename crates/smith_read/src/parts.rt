@@ -6,8 +6,8 @@ ghost use Rattle.smith_syntax.specs.Entries.{ImportEntry};
 ghost use Rattle.smith_tree.specs.Grammar.{embedded};
 ghost use Rattle.smith_tree.specs.Tree.{tree_of};
 ghost use Rattle.smith_read.specs.Reading.{Gives};
-ghost use Rattle.smith_read.specs.Parts.{component_at, custom_all, list_all_at, part_at};
-ghost use Rattle.smith_read.specs.Parts.{import_at, parts_at, preamble_at, section_at};
+ghost use Rattle.smith_read.specs.Parts.{component_at, custom_all, list_all_at, part_at, import_at, parts_at};
+ghost use Rattle.smith_read.specs.Parts.{preamble_at, section_at};
 ghost use Rattle.smith_read.specs.PartNodes.{shown_import_node, shown_part_node};
 ghost use Rattle.smith_read.specs.Reads.{IsWithin, Reads};
 

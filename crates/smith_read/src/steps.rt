@@ -2,8 +2,8 @@
 
 ghost use Rattle.std.specs.Prelude.{◌≡◌, ◌∷◌, ◌++◌, [], IfOk, MatchOption};
 ghost use Rattle.smith_read.specs.PartNodes.{shown_part_node, shown_tree};
-ghost use Rattle.smith_read.specs.Walk.{closes, ended, inner_steps, items_at, left_steps, shown_step};
-ghost use Rattle.smith_read.specs.Walk.{steps_in, steps_of, to_come};
+ghost use Rattle.smith_read.specs.Walk.{closes, ended, inner_steps, items_at, left_steps, shown_step, steps_in};
+ghost use Rattle.smith_read.specs.Walk.{steps_of, to_come};
 
 use crate::{ComponentTree, CoreNode, ImportNode, PartNode, TypeNode};
 use smith_tree::{CustomSection, Export, Func};

@@ -1,13 +1,13 @@
 //! Types of values and of functions.
 
-ghost use Rattle.std.specs.Prelude.{◌≡◌, ℕ, List, Option, map, string_bytes};
-ghost use Rattle.smith_syntax.specs.Entries.{Field, Case, DefValType};
+ghost use Rattle.std.specs.Prelude.{◌≡◌, List, Option};
+ghost use Rattle.smith_syntax.specs.Entries.{Field, Case};
 ghost use Rattle.smith_syntax.specs.Shown.{shown_defined};
 ghost use Rattle.smith_syntax.specs.Signature.{named};
 ghost use Rattle.smith_syntax.specs.declared.types.ComponentValType.{ComponentValType};
 ghost use Rattle.smith_read.specs.Reading.{Gives};
-ghost use Rattle.smith_read.specs.Types.{primitive_of, valtype_at, maybe_valtype_at, field_at, case_at};
-ghost use Rattle.smith_read.specs.Types.{result_at, defined_after, defined_at, function_at};
+ghost use Rattle.smith_read.specs.Types.{primitive_of, valtype_at, maybe_valtype_at, field_at, case_at, result_at};
+ghost use Rattle.smith_read.specs.Types.{defined_after, function_at};
 
 use crate::lists::{Readable, many_of, read_text, skip};
 use crate::numbers::{byte_of, index_of};
@@ -101,15 +101,6 @@ impl Readable for ComponentValType {
     }
 }
 
-#[tactic(auto, unfolding(crate::specs::Types::field_at))]
-fn field_of(alloc: Global, bytes: &[u8]) -> Result<((String, ComponentValType), &[u8]), Unread>
-    ensures { Gives (λ x. (named x.0, x.1.now)) result (field_at bytes.now) }
-{
-    let (name, rest) = read_text(alloc, bytes)?;
-    let (ty, rest) = val_of(rest)?;
-    Ok(((name, ty), rest))
-}
-
 impl Readable for (String, ComponentValType) {
     ghost Shown = { Field };
 
@@ -117,22 +108,12 @@ impl Readable for (String, ComponentValType) {
 
     ghost reading = { field_at };
 
+    #[tactic(auto, unfolding(crate::specs::Types::field_at))]
     fn read(alloc: Global, bytes: &[u8]) -> Result<((String, ComponentValType), &[u8]), Unread> {
-        field_of(alloc, bytes)
+        let (name, rest) = read_text(alloc, bytes)?;
+        let (ty, rest) = val_of(rest)?;
+        Ok(((name, ty), rest))
     }
-}
-
-#[tactic(auto, unfolding(crate::specs::Types::case_at))]
-fn case_of(
-    alloc: Global,
-    bytes: &[u8],
-) -> Result<((String, Option<ComponentValType>), &[u8]), Unread>
-    ensures { Gives (λ x. (named x.0, x.1.now)) result (case_at bytes.now) }
-{
-    let (name, rest) = read_text(alloc, bytes)?;
-    let (ty, rest) = maybe_val_of(rest)?;
-    let rest = skip(rest, 0x00)?;
-    Ok(((name, ty), rest))
 }
 
 impl Readable for (String, Option<ComponentValType>) {
@@ -142,11 +123,15 @@ impl Readable for (String, Option<ComponentValType>) {
 
     ghost reading = { case_at };
 
+    #[tactic(auto, unfolding(crate::specs::Types::case_at))]
     fn read(
         alloc: Global,
         bytes: &[u8],
     ) -> Result<((String, Option<ComponentValType>), &[u8]), Unread> {
-        case_of(alloc, bytes)
+        let (name, rest) = read_text(alloc, bytes)?;
+        let (ty, rest) = maybe_val_of(rest)?;
+        let rest = skip(rest, 0x00)?;
+        Ok(((name, ty), rest))
     }
 }
 

@@ -1,13 +1,12 @@
 //! From a reader of a fuzzer's bytes to a component that is written.
 
-ghost use Rattle.std.specs.Prelude.{◌≡◌, ◌≢◌, ℕ, ◌+◌, ◌<◌, ◌≤◌, ◌⊎◌, List, Option};
-ghost use Rattle.std.specs.Prelude.{length};
-ghost use Rattle.std.specs.Prelude.{IfOk, OnOk, IfErr, OnErr, IsErrOf, vec_len};
+ghost use Rattle.std.specs.Prelude.{◌≡◌, ◌≢◌, ℕ, ◌+◌, ◌<◌, ◌≤◌, ◌⊎◌, List, Option, length, IfOk, OnOk, IfErr, IsErrOf};
+ghost use Rattle.std.specs.Prelude.{vec_len};
 ghost use Rattle.std.specs.Io.KnownBytes.{Appends, Consumes};
 ghost use Rattle.smith_input.specs.declared.error.Error.TheVariants.{OutOfMemory};
 ghost use Rattle.smith_format.specs.Consistency.{IsConsistent};
-ghost use Rattle.smith_run.specs.Running.{ComesAfterReading, GivesAll, GivesTooMuch, IsRefusedOn, TakesSome};
-ghost use Rattle.smith_run.specs.Running.{Writes, longest_input, status_of, written_text};
+ghost use Rattle.smith_run.specs.Running.{ComesAfterReading, GivesAll, GivesTooMuch, IsRefusedOn, TakesSome, Writes};
+ghost use Rattle.smith_run.specs.Running.{longest_input, status_of, written_text};
 ghost use Rattle.smith_run.specs.declared.running.Form.TheVariants.{Page};
 ghost use Rattle.smith_swarm.specs.Swarm.{after_front, swarmed};
 

@@ -1,15 +1,7 @@
-pub mod Ascending
-pub mod ByKind
 pub mod Chosen
-pub mod Lists
 pub mod Marking
-pub mod ModuleSteps
 pub mod Naming
 pub mod OccupiedScopes
-pub mod OfferSteps
-pub mod Offered
-pub mod Parts
-pub mod Places
 pub mod Plain
 pub mod PlainTrees
 pub mod Rows

@@ -16,9 +16,9 @@ use Rattle.smith_read.specs.TypeNodes.{shown_type_node}
 use Rattle.smith_read.specs.declared.core_types.CoreNode.{CoreNode}
 use Rattle.smith_read.specs.declared.type_nodes.TypeNode.{TypeNode}
 use Rattle.smith_scopes.specs.Naming.{Exported, Found, FoundCore, after_alias, after_core_alias, with_found, with_found_core}
-use Rattle.smith_scopes.specs.Nest.{inward_of}
+use Rattle.smith_scope.specs.Nest.{inward_of}
 use Rattle.smith_scopes.specs.Nodes.{AreAlike, Contents, shown_marked}
-use Rattle.smith_scopes.specs.declared.nest.Nest.{Nest}
+use Rattle.smith_scope.specs.declared.nest.Nest.{Nest}
 
 -- Scopes that are alike.
 

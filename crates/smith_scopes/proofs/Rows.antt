@@ -24,7 +24,7 @@ use Rattle.smith_syntax.specs.declared.types.DefinedType.{DefinedType}
 use Rattle.smith_scopes.specs.Rows.{AreFirst, AreNoted, AreRows, Notes, NotesType, row_in, row_of, values_of}
 use Rattle.smith_scopes.specs.declared.scopes.equals.Equals.{Equals}
 use Rattle.smith_syntax.proofs.Shown.{full_defined, full_func, full_component, full_instance}
-use Rattle.smith_scopes.proofs.Stack.{places-append, places-snoc}
+use Rattle.smith_scope.proofs.Places.{places-append, places-snoc}
 
 -- a row that was written, among the rows of a map
 module _ {Z S : Type 0} (m n : HashMap Signature (Vec ℕ Z) S) (k : Signature) (w : Vec ℕ Z)

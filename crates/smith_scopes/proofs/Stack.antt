@@ -1,4 +1,4 @@
--- Stacks of scopes, and the places of their entries.
+-- Stacks of scopes.
 use Rattle.std.proofs.Common.{◌≡◌, ℕ, ◌+◌, ◌<◌, ◌≤◌, Bool, true, false, cond, List, [], ◌∷◌, ◌++◌, get_or, length, map, reverse, refl, sym, ap, ◌∙◌, arith}
 use Rattle.std.proofs.Common.{append-nil, Some}
 use Rattle.std.proofs.lemmas.List.{reverse-append, map-append, length-map, length-reverse}
@@ -8,6 +8,7 @@ use Rattle.smith_syntax.specs.Scope.{Scope, empty_scope, with_type, with_types}
 use Rattle.smith_syntax.specs.Marked.{Marked, empty_marked, first_marked, more_kept, scope_in, with_marked, with_sized}
 use Rattle.smith_syntax.specs.declared.marks.Mark.{Mark}
 use Rattle.smith_syntax.specs.Places.{own_of, outer_of, places}
+use Rattle.smith_scope.proofs.Places.{map-reverse}
 use Rattle.smith_scopes.specs.Scopes.{Contents, shown_scope, inward, last_of, lists_at, scope_at, Changes, AddsMarked, AddsSized}
 use Rattle.smith_scopes.specs.Scopes.{shown_marked, inward_marked, own_marked, own_scope, outer_marked, outer_scopes}
 use Rattle.smith_syntax.specs.Shown.{shown_type, shown_core}
@@ -32,40 +33,6 @@ own_lists scopes ss s e =
     ap (λ t. lists_at t 0) (sym e)
     ∙ ap (λ ds. get_or (reverse ds) 0 empty_scope) (map-append scope_in ss (s ∷ []))
     ∙ ap (λ ds. get_or ds 0 empty_scope) (reverse-append (map scope_in ss) (scope_in s ∷ []))
-
-pub push_front : (b : Bool) (i : ℕ) (us vs : List ℕ) → cond b (i ∷ (us ++ vs)) (us ++ vs) ≡ cond b (i ∷ us) us ++ vs
-push_front true i us vs = refl
-push_front false i us vs = refl
-
-pub longer : (b : Bool) (i : ℕ) (us : List ℕ) (n : ℕ) → length us ≤ n → length (cond b (i ∷ us) us) ≤ n + 1
-longer true i us n h = omega arith
-longer false i us n h = omega arith
-
-module _ {A : Type 0} (p : A → Bool) where
-  pub places-append : (i : ℕ) (xs ys : List A) → places p i (xs ++ ys) ≡ places p i xs ++ places p (i + length xs) ys
-  places-append i [] ys = grind arith
-  places-append i (x ∷ xs) ys =
-      let rest = places-append (i + 1) xs ys in
-      let at : i + 1 + length xs ≡ i + length (x ∷ xs) = omega arith in
-      ap (λ ws. cond (p x) (i ∷ ws) ws) (rest ∙ ap (λ k. places p (i + 1) xs ++ places p k ys) at)
-      ∙ push_front (p x) i (places p (i + 1) xs) (places p (i + length (x ∷ xs)) ys)
-
-  pub places-snoc : (xs : List A) (x : A) (b : Bool) → p x ≡ b → places p 0 (xs ++ x ∷ []) ≡ places p 0 xs ++ cond b (length xs ∷ []) []
-  places-snoc xs x b e =
-      places-append 0 xs (x ∷ [])
-      ∙ ap (λ c. places p 0 xs ++ cond c ((0 + length xs) ∷ []) []) e
-      ∙ ap (λ n. places p 0 xs ++ cond b (n ∷ []) []) (let z : 0 + length xs ≡ length xs = omega arith in z)
-
-  pub length-places : (i : ℕ) (xs : List A) → length (places p i xs) ≤ length xs
-  length-places i [] = omega arith
-  length-places i (x ∷ xs) = let h = longer (p x) i (places p (i + 1) xs) (length xs) (length-places (i + 1) xs) in omega arith
-
-pub map-reverse : {A B : Type 0} (f : A → B) (xs : List A) → reverse (map f xs) ≡ map f (reverse xs)
-map-reverse f [] = refl
-map-reverse f (x ∷ xs) =
-    reverse-append (f x ∷ []) (map f xs)
-    ∙ (ap (λ ys. ys ++ f x ∷ []) (map-reverse f xs) ∙ sym (map-append f (reverse xs) (x ∷ [])))
-    ∙ ap (map f) (sym (reverse-append (x ∷ []) xs))
 
 -- The innermost scope shows the last one.
 pub own_last : (scopes : List Contents) → own_of (inward scopes) ≡ shown_scope (last_of scopes)

@@ -1,9 +1,5 @@
-pub mod Kept
 pub mod Naming
-pub mod Nest
 pub mod NodeScopes
 pub mod Nodes
-pub mod Parts
-pub mod Positions
 pub mod Rows
 pub mod Scopes

@@ -3,7 +3,7 @@ use Rattle.std.specs.Prelude.{◌≡◌, ℕ, Bool, List, map, slice_get, Some}
 use Rattle.std.specs.Borrow.{Bor}
 use Rattle.smith_syntax.specs.Scope.{Scope as PlainScope}
 use Rattle.smith_syntax.specs.Marked.{Marked, MarkedOf, scope_in}
-use Rattle.smith_scopes.specs.Positions.{plain_marked, plain_scope}
+use Rattle.smith_scope.specs.Positions.{plain_marked, plain_scope}
 use Rattle.smith_read.specs.Nodes.{shown_core_node}
 use Rattle.smith_read.specs.TypeNodes.{shown_type_node}
 use Rattle.smith_read.specs.declared.core_types.CoreNode.{CoreNode}

@@ -15,8 +15,8 @@ use Rattle.smith_syntax.specs.declared.core_types.CoreType.{CoreType}
 use Rattle.smith_scopes.specs.Rows.{AreNoted}
 use Rattle.smith_scopes.specs.declared.scopes.equals.Equals.{Equals}
 use Rattle.smith_syntax.specs.declared.deftype.DefType.{DefType}
-use Rattle.smith_scopes.specs.Positions.{plain_marked, plain_scope}
-pub use Rattle.smith_scopes.specs.Positions.{kind_places}
+use Rattle.smith_scope.specs.Positions.{plain_marked, plain_scope}
+pub use Rattle.smith_scope.specs.Positions.{kind_places}
 pub use Rattle.smith_scopes.specs.Rows.{values_of}
 
 -- a scope of the program's own types

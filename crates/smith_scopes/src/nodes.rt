@@ -4,16 +4,12 @@ ghost use Rattle.smith_scopes.specs.Nodes.{AreAlike};
 
 mod marking;
 
-use crate::nest::Nest;
-use crate::scope::Scope;
 use smith_read::{CoreNode, DeclNode, TypeNode};
+use smith_scope::{Nest, NodeScope, Scope};
 use smith_syntax::{ComponentTypeRef, Mark};
 use std::alloc::{AllocError, Global};
 
-/// A scope of types that were read.
-pub type NodeScope<'a> = Scope<&'a TypeNode, &'a CoreNode>;
-
-/// A stack of them. In each of them marks are kept, or in none.
+/// Scopes of types that were read, one in another. In each of them marks are kept, or in none.
 #[derive(Drop)]
 pub struct NodeScopes<'a> {
     alloc: Global,
@@ -21,36 +17,16 @@ pub struct NodeScopes<'a> {
     ghost alike: { AreAlike nest.own.keeps nest.outer.items },
 }
 
-impl<'a> NodeScope<'a> {
-    ghost use Rattle.std.specs.Prelude.{◌≡◌, option_map, slice_get};
-
-    /// The type with that index.
-    pub fn type_at(&self, index: u32) -> Option<&'a TypeNode>
-        ensures { option_map (λ t. t.now) result ≡ slice_get self.now.types index }
-    {
-        self.types().get(index as usize).copied()
-    }
-
-    /// The core type with that index.
-    pub fn core_type_at(&self, index: u32) -> Option<&'a CoreNode>
-        ensures { option_map (λ t. t.now) result ≡ slice_get self.now.core_types index }
-    {
-        self.core_types().get(index as usize).copied()
-    }
-}
-
 impl<'a> NodeScopes<'a> {
-    ghost use Rattle.std.specs.Prelude.{◌≡◌, ◌<◌, ◌∷◌, [], length, option_map, slice_get};
-    ghost use Rattle.std.specs.Prelude.{None, Some, false, if◌then◌else◌};
-    ghost use Rattle.std.specs.Prelude.{MatchOption, IfSome, OnOk};
-    ghost use Rattle.std.specs.Option.{option_to_list};
+    ghost use Rattle.std.specs.Prelude.{◌≡◌, ◌<◌, ◌∷◌, [], length, option_map, slice_get, None, Some, false};
+    ghost use Rattle.std.specs.Prelude.{MatchOption, IfSome, OnOk, option_to_list};
     ghost use Rattle.smith_syntax.specs.Marked.{empty_marked};
-    ghost use Rattle.smith_syntax.specs.Scope.{after_decl, core_type_named, empty_scope, type_named};
-    ghost use Rattle.smith_syntax.specs.Scope.{with_core_type, with_core_types, with_type, with_types};
+    ghost use Rattle.smith_syntax.specs.Scope.{after_decl, core_type_named, empty_scope, type_named, with_core_type};
+    ghost use Rattle.smith_syntax.specs.Scope.{with_core_types, with_type, with_types};
     ghost use Rattle.smith_read.specs.Nodes.{shown_core_node};
     ghost use Rattle.smith_read.specs.TypeNodes.{shown_decl_node, shown_type_node};
-    ghost use Rattle.smith_scopes.specs.NodeScopes.{outer_in, own_in, outer_marked_in, own_marked_in};
-    ghost use Rattle.smith_scopes.specs.NodeScopes.{shown_marked, shown_scope};
+    ghost use Rattle.smith_scopes.specs.NodeScopes.{outer_in, own_in, outer_marked_in, own_marked_in, shown_marked};
+    ghost use Rattle.smith_scopes.specs.NodeScopes.{shown_scope};
 
     /// One empty scope, in which nothing is kept of the types.
     pub fn new(alloc: Global) -> NodeScopes<'a>

@@ -1,14 +1,13 @@
 //! Scopes of types that are made.
 
-ghost use Rattle.std.specs.Prelude.{◌≡◌, false, ◌+◌, ◌<◌, ◌≤◌, [], ◌∷◌, ◌++◌, length, Some};
-ghost use Rattle.std.specs.Prelude.{OnOk, IfOk, OnErr, IfErr, slice_get};
+ghost use Rattle.std.specs.Prelude.{◌≡◌, false, ◌+◌, ◌<◌, ◌≤◌, [], ◌∷◌, ◌++◌, length, Some, OnOk, IfOk, OnErr, IfErr};
 ghost use Rattle.smith_format.specs.Consistency.{max_u32};
 ghost use Rattle.smith_syntax.specs.Marked.{empty_marked};
 ghost use Rattle.smith_syntax.specs.Scope.{empty_scope, with_type, with_core_type};
 ghost use Rattle.smith_input.specs.Reading.{IsTail};
 ghost use Rattle.smith_scopes.specs.Rows.{IsChosenEqual};
-ghost use Rattle.smith_scopes.specs.Scopes.{shown_types, kind_places, last_of, equal_places, lists_at, lists_in};
-ghost use Rattle.smith_scopes.specs.Scopes.{AddsType, AddsMarked, AddsCoreType, AddsSized, Changes};
+ghost use Rattle.smith_scopes.specs.Scopes.{last_of, lists_at, lists_in, AddsType, AddsMarked, AddsCoreType, AddsSized};
+ghost use Rattle.smith_scopes.specs.Scopes.{Changes};
 
 mod abi;
 mod equals;
@@ -16,10 +15,10 @@ mod made;
 mod marking;
 mod queries;
 
-use crate::nest::Nest;
 pub use abi::CanonicalAbi;
 use made::MadeScope;
 use smith_input::{Error, Unstructured};
+use smith_scope::Nest;
 use smith_syntax::{CoreType, DefType, FuncType, Mark};
 use std::alloc::Global;
 use std::cell::OnceCell;

@@ -2,7 +2,7 @@
 use Rattle.std.proofs.Common.{◌≡◌, ◌≢◌, ℕ, zero, suc, ◌<◌, ◌≤◌, List, [], ◌∷◌, length, get_or, refl, ap, ◌∙◌, arith}
 use Rattle.std.proofs.lemmas.Bool.{eq-eqb, ne_eqb}
 use Rattle.std.specs.Prelude.{Bool, true, false, nat_eq, if◌then◌else◌}
-use Rattle.smith_script.specs.Difference.{common_length}
+use Rattle.smith_script.specs.Refusals.{common_length}
 
 -- The first ones, that many, are the same, and there are no more, or the next differ.
 

@@ -6,8 +6,8 @@ use Rattle.std.specs.Option.{option_to_list}
 use Rattle.std.specs.Prelude.{Some, None, slice_get, if◌then◌else◌}
 use Rattle.smith_component.proofs.Tables.{all_weaker, places_agree}
 use Rattle.smith_input.proofs.Lists.{all_both}
-use Rattle.smith_scopes.proofs.Places.{get_left}
-use Rattle.smith_scopes.proofs.Stack.{places-append}
+use Rattle.smith_scope.proofs.Places.{get_left}
+use Rattle.smith_scope.proofs.Places.{places-append}
 use Rattle.smith_syntax.specs.Entries.{Entry, ImportEntry}
 use Rattle.smith_syntax.specs.Places.{places}
 use Rattle.smith_syntax.specs.Scope.{Scope}

@@ -11,11 +11,11 @@ use Rattle.std.specs.HashMap.{HashMap, get}
 use Rattle.std.specs.Prelude.{Option, slice_get, ◌≤◌, if◌then◌else◌}
 use Rattle.std.specs.declared.vec.Vec.{Vec}
 use Rattle.smith_component.proofs.Spaces.{get_last}
-use Rattle.smith_scopes.proofs.ByKind.{gained, unchanged}
+use Rattle.smith_scope.proofs.ByKind.{gained, unchanged}
 use Rattle.smith_scopes.specs.Nodes.{nodes_of}
 use Rattle.smith_read.specs.TypeNodes.{shown_type_node}
 use Rattle.smith_read.specs.declared.type_nodes.TypeNode.{TypeNode}
-use Rattle.smith_scopes.proofs.Places.{get_left}
+use Rattle.smith_scope.proofs.Places.{get_left}
 use Rattle.smith_scopes.specs.Rows.{row_in}
 use Rattle.smith_syntax.specs.Entries.{Entry, Signature, function}
 use Rattle.smith_syntax.specs.HasSignature.{is_of_signature}

@@ -24,8 +24,8 @@ use Rattle.smith_component.proofs.Growth.{spaces-add}
 use Rattle.smith_component.proofs.RunsFinishable.{length-parts-add}
 use Rattle.smith_component.proofs.Sound.{marked_from-snoc, scopes_from-snoc}
 use Rattle.smith_check.proofs.PartSteps.{parts_at as formed_at, tree_from, tree_upto, upto_more}
-use Rattle.smith_script_core.proofs.Saying.{Towards, adds_then, towards_step}
-use Rattle.smith_script_core.specs.Says.{Adds}
+use Rattle.smith_script_types.proofs.Saying.{Towards, adds_then, towards_step}
+use Rattle.smith_script_types.specs.Says.{Adds}
 use Rattle.smith_script.specs.Saying.{item_says, section_says}
 use Rattle.smith_script.specs.Preceding.{IsAfter, Known, Preceding, after_section, empty_in, opened, totals_in}
 use Rattle.smith_script.proofs.Grown.{closed_at, opened_at, section_at}

@@ -1,4 +1,3 @@
-pub mod Difference
 pub mod Equals
 pub mod IsScript
 pub mod Preceding

@@ -1,5 +1,5 @@
 -- Why no script of the component that bytes are is returned.
-use Rattle.std.specs.Prelude.{◌≤◌, ℕ, List, length, IfSome}
+use Rattle.std.specs.Prelude.{◌≤◌, ℕ, suc, List, [], ◌∷◌, length, nat_eq, if◌then◌else◌, IfSome}
 use Rattle.smith_tree.specs.Depths.{scope_depth}
 use Rattle.smith_tree.specs.Grammar.{Spells}
 use Rattle.smith_tree.specs.Tree.{Tree}
@@ -26,6 +26,12 @@ IsScriptRefusal bytes (error.Unread reason offset) = AreUnread bytes offset
 IsScriptRefusal bytes (error.IllFormed fault) =
     AreRead bytes (λ t. (¬ WellFormed t) × StopsAt WellFormed fault.item t)
 IsScriptRefusal bytes (error.NoScript limit offset) = AreRead bytes WellFormed × IfSome offset (λ n. n ≤ length bytes)
+
+-- how many bytes both begin with
+abbrev pub common_length : List ℕ → List ℕ → ℕ
+common_length [] ys = 0
+common_length (x ∷ xs) [] = 0
+common_length (x ∷ xs) (y ∷ ys) = if nat_eq x y then suc (common_length xs ys) else 0
 
 -- What differs from these bytes differs in them or at their end.
 abbrev pub DiffersWithin : List ℕ → Trial → Type 0

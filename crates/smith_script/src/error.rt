@@ -2,7 +2,7 @@
 
 use smith_check::Fault;
 use smith_read::Reason;
-use std::alloc::{AllocError, AllocFailed};
+use std::alloc::AllocError;
 use std::fmt;
 
 /// A limit that a component does not keep, by the name and the value of its field of `Config`.
@@ -93,17 +93,6 @@ impl From<AllocError> for ScriptError {
     ghost from_gives = { λ _ e. e ≡ OutOfMemory };
 
     fn from(_error: AllocError) -> ScriptError {
-        ScriptError::OutOfMemory
-    }
-}
-
-impl<T: Drop> From<AllocFailed<T>> for ScriptError {
-    ghost use Rattle.std.specs.Prelude.{◌≡◌};
-    ghost use Rattle.smith_script.specs.declared.error.ScriptError.TheVariants.{OutOfMemory};
-
-    ghost from_gives = { λ _ e. e ≡ OutOfMemory };
-
-    fn from(_error: AllocFailed<T>) -> ScriptError {
         ScriptError::OutOfMemory
     }
 }

@@ -1,19 +1,16 @@
 //! The script of a component: the input from which `generate` produces it.
-#![tactic(auto, using(smith_script_core::proofs::Saying::saying))]
+#![tactic(auto, using(smith_script_types::proofs::Saying::saying))]
 
 mod canons;
-mod difference;
 mod error;
-mod extents;
 mod functions;
-mod items;
-mod lifts;
 mod limits;
 mod needs;
 mod parts;
 mod preceding;
 mod rows;
 mod scripting;
+mod stand_ins;
 mod types;
 
 pub use error::{ScriptError, Unkept};

@@ -1,13 +1,15 @@
 //! What a component needs of the limits. No contract depends on it.
 
-use crate::extents::Extent;
-use smith_format::{EntityType, ExportKind, FuncType, RefType, ValType};
-use smith_read::{ComponentTree, CoreNode, DeclNode, ImportNode, ModuleNode, PartNode, TypeNode};
-use smith_script_types::defined_size;
+use smith_format::{EntityType, FuncType, RefType, ValType};
+use smith_read::{ComponentTree, Contents, CoreNode, DeclNode, ModuleNode, Step, Steps, TypeNode};
+use smith_scope::Nest;
+use smith_script_types::{core_size, defined_size};
 use smith_syntax::ComponentTypeRef;
+use std::alloc::{AllocError, Global};
 
 /// What a component needs: how many modules, components and instances the whole tree has, and otherwise the most and
-/// the least that a component, or a module type, in it has; and what there is that takes a feature.
+/// the least that a component, or a module type, in it has, of entities by their kinds; and what there is that takes a
+/// feature.
 #[derive(Clone, Copy, Default)]
 pub(crate) struct Needs {
     pub(crate) depth: usize,
@@ -18,10 +20,7 @@ pub(crate) struct Needs {
     pub(crate) modules: usize,
     pub(crate) components: usize,
     pub(crate) instances: usize,
-    pub(crate) tables: usize,
-    pub(crate) memories: usize,
-    pub(crate) globals: usize,
-    pub(crate) tags: usize,
+    pub(crate) kinds: [usize; 5],
     pub(crate) type_size: usize,
     pub(crate) floats: bool,
     pub(crate) simd: bool,
@@ -34,32 +33,73 @@ pub(crate) struct Needs {
     pub(crate) least_sections: usize,
 }
 
-// How many of each there are in one component.
-#[derive(Clone, Copy, Default)]
+// How many of each there are in a component so far.
+#[derive(Default, Drop)]
 struct Own {
     types: usize,
     core_types: usize,
     imports: usize,
     exports: usize,
     funcs: usize,
+    sections: usize,
 }
 
-// Adds to a count, as far as there are numbers.
-fn add(count: &mut usize, more: usize) {
-    *count = count.saturating_add(more);
+// How much fuel a type needs, how much it takes, and how deep types are declared in it.
+#[derive(Clone, Copy, Default)]
+struct Extent {
+    need: usize,
+    cost: usize,
+    depth: usize,
 }
 
-fn raise(most: &mut usize, count: usize) {
-    *most = count.max(*most);
+impl Extent {
+    // The extent of a type with that many members, which needs that much without any.
+    fn of_members(count: usize, least: usize) -> Extent {
+        let need = if count == 0 {
+            least
+        } else {
+            count.saturating_add(2)
+        };
+        Extent {
+            need,
+            cost: count.saturating_add(1),
+            depth: 0,
+        }
+    }
+
+    // The extent of a core type.
+    fn of_core(ty: &CoreNode) -> Extent {
+        let is_empty = matches!(ty, CoreNode::Module(decls) if decls.is_empty());
+        Extent::of_members(core_size(ty), if is_empty { 0 } else { 2 })
+    }
+
+    // The extent of a type with one more declaration, which is of this extent.
+    fn with(self, next: Extent) -> Extent {
+        let need = self.cost.saturating_add(next.need.max(1)).saturating_add(1);
+        Extent {
+            need: self.need.max(need),
+            cost: self.cost.saturating_add(next.cost).saturating_add(1),
+            depth: self.depth.max(next.depth),
+        }
+    }
+
+    // The extent of a type that is declared.
+    fn nested(self) -> Extent {
+        Extent {
+            depth: self.depth.saturating_add(1).max(2),
+            ..self
+        }
+    }
 }
 
-fn lower(least: &mut usize, count: usize) {
-    *least = count.min(*least);
+// Adds one, as far as there are numbers.
+fn add_one(count: &mut usize) {
+    *count = count.saturating_add(1);
 }
 
 impl Needs {
     /// What a whole component needs.
-    pub(crate) fn of(tree: &ComponentTree) -> Needs {
+    pub(crate) fn of(alloc: Global, tree: &ComponentTree) -> Result<Needs, AllocError> {
         let mut needs = Needs {
             least_types: usize::MAX,
             least_imports: usize::MAX,
@@ -67,8 +107,18 @@ impl Needs {
             least_sections: usize::MAX,
             ..Needs::default()
         };
-        needs.add_component(1, &tree.parts);
-        needs
+        let mut opens = Nest::new(alloc, Own::default());
+        let mut steps = Steps::new(alloc, tree)?;
+        while let Some(step) = steps.next()? {
+            needs.add_extent(opens.depth(), step);
+            needs.add_step(&mut opens.own, step);
+            match step {
+                Step::Begin(Contents::Parts(_)) => opens.enter(Own::default())?,
+                Step::End(Contents::Parts(_)) if opens.depth() > 1 => opens.leave(),
+                _ => {}
+            }
+        }
+        Ok(needs)
     }
 
     fn add_values(&mut self, values: &[ValType]) {
@@ -85,55 +135,37 @@ impl Needs {
     fn add_function(&mut self, ty: &FuncType) {
         self.add_values(&ty.params);
         self.add_values(&ty.results);
-        if ty.results.len() > 1 {
-            self.multi_value = true;
-        }
+        self.multi_value |= ty.results.len() > 1;
     }
 
     fn add_entity(&mut self, ty: &EntityType) {
         match ty {
             EntityType::Func(_) | EntityType::Memory(_) => {}
-            EntityType::Table(table) => {
-                if table.element_type != RefType::FuncRef {
-                    self.references = true;
-                }
-            }
+            EntityType::Table(table) => self.references |= table.element_type != RefType::FuncRef,
             EntityType::Global(global) => self.add_values(&[global.val_type]),
             EntityType::Tag(_) => self.exceptions = true,
         }
     }
 
-    // Raises the most entities of a kind.
-    fn raise_kind(&mut self, kind: ExportKind, count: usize) {
-        match kind {
-            ExportKind::Func => raise(&mut self.funcs, count),
-            ExportKind::Table => raise(&mut self.tables, count),
-            ExportKind::Memory => raise(&mut self.memories, count),
-            ExportKind::Global => raise(&mut self.globals, count),
-            ExportKind::Tag => raise(&mut self.tags, count),
-        }
-    }
-
     fn add_module(&mut self, decls: &[ModuleNode]) {
         let mut types = 0;
-        let mut entities = [0usize; 5];
+        let mut kinds = [0usize; 5];
         for decl in decls {
             match decl {
                 ModuleNode::Func(ty) => {
-                    add(&mut types, 1);
+                    add_one(&mut types);
                     self.add_function(ty);
                 }
-                ModuleNode::OuterAlias { .. } => add(&mut types, 1),
+                ModuleNode::OuterAlias { .. } => add_one(&mut types),
                 ModuleNode::Import { entity, .. } | ModuleNode::Export { entity, .. } => {
-                    let kind = entity.kind();
-                    let count = entities[kind as usize].saturating_add(1);
-                    entities[kind as usize] = count;
-                    self.raise_kind(kind, count);
+                    let kind = entity.kind() as usize;
+                    kinds[kind] = kinds[kind].saturating_add(1);
+                    self.kinds[kind] = self.kinds[kind].max(kinds[kind]);
                     self.add_entity(entity);
                 }
             }
         }
-        raise(&mut self.types, types);
+        self.types = self.types.max(types);
     }
 
     // A core type, and its extent.
@@ -171,87 +203,57 @@ impl Needs {
         extent
     }
 
-    // The extent of a type in a component that deep.
-    fn raise_extent(&mut self, depth: usize, extent: Extent) {
-        raise(&mut self.type_size, extent.need);
-        raise(&mut self.depth, depth.saturating_add(extent.depth));
+    // What a step in a component that deep begins, by its extent.
+    fn add_extent(&mut self, depth: usize, step: Step<'_>) {
+        let extent = match step {
+            Step::CoreType(ty) => self.add_core_type(ty),
+            Step::Type(ty) => self.add_type(ty),
+            _ => Extent::default(),
+        };
+        self.type_size = self.type_size.max(extent.need);
+        self.depth = self.depth.max(depth.saturating_add(extent.depth));
     }
 
-    fn add_core_types(&mut self, depth: usize, types: &[CoreNode]) {
-        for ty in types {
-            let extent = self.add_core_type(ty);
-            self.raise_extent(depth, extent);
+    fn add_import(&mut self, own: &mut Own, to: ComponentTypeRef) {
+        add_one(&mut own.imports);
+        match to {
+            ComponentTypeRef::Module(_) => add_one(&mut self.modules),
+            ComponentTypeRef::Func(_) => add_one(&mut own.funcs),
+            ComponentTypeRef::Component(_) => add_one(&mut self.components),
+            ComponentTypeRef::Instance(_) => add_one(&mut self.instances),
+            ComponentTypeRef::TypeEq(_) => {}
         }
     }
 
-    fn add_types(&mut self, depth: usize, types: &[TypeNode]) {
-        for ty in types {
-            let extent = self.add_type(ty);
-            self.raise_extent(depth, extent);
+    // A step in a component that has these before it.
+    fn add_step(&mut self, own: &mut Own, step: Step<'_>) {
+        if let Step::Custom(_) | Step::CoreModule(_) | Step::Begin(_) = step {
+            add_one(&mut own.sections);
+        }
+        match step {
+            Step::CoreModule(_) => add_one(&mut self.modules),
+            Step::Begin(Contents::Parts(_)) => add_one(&mut self.components),
+            Step::End(Contents::Parts(_)) => self.end(own),
+            // If `max_exports` is 0, no export section is offered, not even an empty one.
+            Step::Begin(Contents::Exports(_)) => self.exports = self.exports.max(1),
+            Step::Custom(_) | Step::Begin(_) | Step::End(_) => {}
+            Step::CoreType(_) => add_one(&mut own.core_types),
+            Step::Type(_) => add_one(&mut own.types),
+            Step::Canon(_) => add_one(&mut own.funcs),
+            Step::Import(import) => self.add_import(own, import.to),
+            Step::Export(_) => add_one(&mut own.exports),
         }
     }
 
-    // Imports, of which there are that many functions.
-    fn add_imports(&mut self, imports: &[ImportNode]) -> usize {
-        let mut funcs = 0;
-        for import in imports {
-            match import.to {
-                ComponentTypeRef::Module(_) => add(&mut self.modules, 1),
-                ComponentTypeRef::Func(_) => add(&mut funcs, 1),
-                ComponentTypeRef::Component(_) => add(&mut self.components, 1),
-                ComponentTypeRef::Instance(_) => add(&mut self.instances, 1),
-                ComponentTypeRef::TypeEq(_) => {}
-            }
-        }
-        funcs
-    }
-
-    // A section of a component that deep, which has these before it.
-    #[cycle(parts)]
-    fn add_part(&mut self, depth: usize, own: &mut Own, part: &PartNode) {
-        match part {
-            PartNode::Custom(_) => {}
-            PartNode::CoreModule(_) => add(&mut self.modules, 1),
-            PartNode::CoreTypes(types) => {
-                add(&mut own.core_types, types.len());
-                self.add_core_types(depth, types);
-            }
-            PartNode::Component(parts) => {
-                add(&mut self.components, 1);
-                self.add_component(depth.saturating_add(1), parts);
-            }
-            PartNode::Types(types) => {
-                add(&mut own.types, types.len());
-                self.add_types(depth, types);
-            }
-            PartNode::Canons(canons) => add(&mut own.funcs, canons.len()),
-            PartNode::Imports(imports) => {
-                add(&mut own.imports, imports.len());
-                add(&mut own.funcs, self.add_imports(imports));
-            }
-            PartNode::Exports(exports) => {
-                // If `max_exports` is 0, no export section is offered, not even an empty one.
-                raise(&mut self.exports, 1);
-                add(&mut own.exports, exports.len());
-            }
-        }
-    }
-
-    // A component that deep.
-    #[cycle(parts)]
-    fn add_component(&mut self, depth: usize, parts: &[PartNode]) {
-        raise(&mut self.depth, depth);
-        let mut own = Own::default();
-        for part in parts {
-            self.add_part(depth, &mut own, part);
-        }
-        raise(&mut self.types, own.types.max(own.core_types));
-        raise(&mut self.imports, own.imports);
-        raise(&mut self.exports, own.exports);
-        raise(&mut self.funcs, own.funcs);
-        lower(&mut self.least_types, own.types);
-        lower(&mut self.least_imports, own.imports);
-        lower(&mut self.least_funcs, own.funcs);
-        lower(&mut self.least_sections, parts.len());
+    // The end of a component that has these.
+    fn end(&mut self, own: &Own) {
+        self.types = self.types.max(own.types).max(own.core_types);
+        self.imports = self.imports.max(own.imports);
+        self.exports = self.exports.max(own.exports);
+        self.funcs = self.funcs.max(own.funcs);
+        self.least_types = self.least_types.min(own.types);
+        self.least_imports = self.least_imports.min(own.imports);
+        self.least_funcs = self.least_funcs.min(own.funcs);
+        self.least_sections = self.least_sections.min(own.sections);
     }
 }

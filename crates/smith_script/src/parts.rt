@@ -1,28 +1,26 @@
 //! The sections of components.
 
-ghost use Rattle.std.specs.Prelude.{◌≡◌, ◌++◌, ◌-◌, List, IfOk, IfErr, OnOk, map};
+ghost use Rattle.std.specs.Prelude.{◌≡◌, ◌++◌, ◌-◌, List, IfOk, IfErr, OnOk, length, map};
 ghost use Rattle.smith_input.specs.Script.{script_bytes, script_text};
-ghost use Rattle.smith_core.specs.StandInScript.{script_stand_in, stand_in_of};
 ghost use Rattle.smith_syntax.specs.Marked.{Marked, empty_marked};
 ghost use Rattle.smith_tree.specs.Open.{scopes_in};
 ghost use Rattle.smith_tree.specs.Tree.{Tree, add, ends, tree_of};
 ghost use Rattle.smith_tree.specs.WellFormed.{Formed, FormedPart, WellFormed};
-ghost use Rattle.smith_tree.specs.Script.{script, script_from, script_part};
+ghost use Rattle.smith_tree.specs.Script.{item_of, script, script_from, script_part};
 ghost use Rattle.smith_read.specs.PartNodes.{shown_part_node, shown_tree};
 ghost use Rattle.smith_scopes.specs.NodeScopes.{outer_marked_in, own_marked_in};
-ghost use Rattle.smith_script_core.specs.Says.{Says};
+ghost use Rattle.smith_script_types.specs.Says.{Says};
 ghost use Rattle.smith_input.specs.declared.error.Error.TheVariants.{OutOfMemory};
-ghost use Rattle.smith_script.specs.Saying.{section_says};
-ghost use Rattle.smith_script.specs.Preceding.{IsAfter, after_module, after_section, empty_in, opened, preceding};
-ghost use Rattle.smith_script.specs.Preceding.{totals_in};
+ghost use Rattle.smith_script.specs.Saying.{item_says, section_says};
+ghost use Rattle.smith_script.specs.Preceding.{IsAfter, after_section, empty_in, opened, preceding, totals_in};
 
-use crate::items::{item_of, say_item};
 use crate::preceding::Open;
 use crate::rows::{Rows, say_rows};
+use crate::stand_ins::say_stand_in;
 use smith_read::{ComponentTree, PartNode};
 use smith_scopes::NodeScopes;
-use smith_script_types::{Error, Given, one_more, say_contents, say_stand_in, say_text};
-use smith_tree::{Item, RefTotals, Turn};
+use smith_script_types::{Error, Given, NONE_COUNTED, one_more, say_among, say_contents, say_text};
+use smith_tree::{Item, RefTotals, Turn, turn_items};
 
 // The totals when a component is opened.
 fn opened(totals: RefTotals) -> Result<RefTotals, Error>
@@ -45,20 +43,6 @@ fn say_custom(out: &mut Vec<u8>, name: &str, contents: &[u8]) -> Result<(), Erro
     say_contents(out, contents)
 }
 
-// A core module, which is added to what is before the next section.
-fn say_module(
-    given: Given<'_>,
-    out: &mut Vec<u8>,
-    here: &mut Open<'_>,
-    text: &[u8],
-) -> Result<(), Error>
-    ensures said { Says result out.old out.new (script_stand_in given.entry.config.now (stand_in_of text.now)) }
-    ensures added { (own : Marked) → OnOk result (preceding own here.new ≡ after_module (preceding own here.old)) }
-{
-    say_stand_in(given.alloc, out, given.config, text)?;
-    here.add_module()
-}
-
 // What follows the choice of the item of a section, which is added to what is before the next. A component in it is
 // none.
 fn say_section<'a>(
@@ -78,36 +62,63 @@ fn say_section<'a>(
     let config = given.config;
     match part {
         PartNode::Custom(section) => say_custom(out, &section.name, &section.bytes),
-        PartNode::CoreModule(text) => say_module(given, out, here, text),
-        PartNode::CoreTypes(types) => {
-            let max = config
-                .max_types
-                .saturating_sub(scopes.nest.own.core_types_len());
-            let section = Rows { max, rows: types };
-            say_rows(given, out, scopes, here, section)
+        PartNode::CoreModule(text) => {
+            say_stand_in(given.alloc, out, config, text)?;
+            here.add_module()
+        }
+        PartNode::CoreTypes(rows) => {
+            let before = scopes.nest.own.core_types_len();
+            let max = config.max_types.saturating_sub(before);
+            say_rows(given, out, scopes, here, Rows { max, rows })
         }
         PartNode::Component(_) => Ok(()),
-        PartNode::Types(types) => {
+        PartNode::Types(rows) => {
             let max = config.max_types.saturating_sub(scopes.nest.own.types_len());
-            let section = Rows { max, rows: types };
-            say_rows(given, out, scopes, here, section)
+            say_rows(given, out, scopes, here, Rows { max, rows })
         }
-        PartNode::Canons(canons) => {
+        PartNode::Canons(rows) => {
             let max = config.max_funcs.saturating_sub(here.totals.funcs);
-            let section = Rows { max, rows: canons };
-            say_rows(given, out, scopes, here, section)
+            say_rows(given, out, scopes, here, Rows { max, rows })
         }
-        PartNode::Imports(imports) => {
+        PartNode::Imports(rows) => {
             let max = config.max_imports.saturating_sub(here.imports);
-            let section = Rows { max, rows: imports };
-            say_rows(given, out, scopes, here, section)
+            say_rows(given, out, scopes, here, Rows { max, rows })
         }
-        PartNode::Exports(exports) => {
+        PartNode::Exports(rows) => {
             let max = config.max_exports.saturating_sub(here.exports);
-            let section = Rows { max, rows: exports };
-            say_rows(given, out, scopes, here, section)
+            say_rows(given, out, scopes, here, Rows { max, rows })
         }
     }
+}
+
+// The item of a part.
+fn item_of(part: &PartNode) -> Item
+    ensures { result ≡ item_of (shown_part_node part.now) }
+{
+    match part {
+        PartNode::Custom { .. } => Item::Custom,
+        PartNode::CoreModule(_) => Item::Module,
+        PartNode::CoreTypes(_) => Item::CoreTypes,
+        PartNode::Component(_) => Item::Component,
+        PartNode::Types(_) => Item::Types,
+        PartNode::Canons(_) => Item::Canonical,
+        PartNode::Imports(_) => Item::Imports,
+        PartNode::Exports(_) => Item::Exports,
+    }
+}
+
+// The choice of an item.
+fn say_item(
+    out: &mut Vec<u8>,
+    given: Given<'_>,
+    turn: Turn,
+    here: &Open<'_>,
+    item: Item,
+) -> Result<(), Error>
+    ensures { (own : Marked) (outer : List Marked) → length outer ≡ turn.depth → Says result out.old out.new
+        (item_says given.entry.config.now outer turn.sections (preceding own here.now) item) }
+{
+    say_among(out, turn_items(given.config, turn, here.totals), &item)
 }
 
 // What follows the choice of the item of a part, which is added to what is before the next.
@@ -199,13 +210,7 @@ pub(crate) fn say_tree(
     ensures { WellFormed (shown_tree tree.now)
         → Says result out.old out.new (script given.entry.config.now (shown_tree tree.now)) }
 {
-    let totals = RefTotals {
-        modules: 0,
-        funcs: 0,
-        components: 0,
-        instances: 0,
-    };
     let mut scopes = NodeScopes::with_marks(given.alloc, given.config.must_validate);
-    say_parts(given, out, &mut scopes, totals, &tree.parts)?;
+    say_parts(given, out, &mut scopes, NONE_COUNTED, &tree.parts)?;
     Ok(())
 }

@@ -1,7 +1,6 @@
 //! Sections that are lists.
 
-ghost use Rattle.std.specs.Prelude.{◌≡◌, ℕ, List, fold, map, slice_get, OnOk};
-ghost use Rattle.std.specs.Option.{option_to_list};
+ghost use Rattle.std.specs.Prelude.{◌≡◌, ℕ, List, fold, map, slice_get, OnOk, option_to_list};
 ghost use Rattle.smith_format.specs.declared.config.Config.{Config};
 ghost use Rattle.smith_syntax.specs.Entries.{CoreEntry, Entry, ImportEntry};
 ghost use Rattle.smith_syntax.specs.Marked.{Marked};
@@ -12,7 +11,7 @@ ghost use Rattle.smith_tree.specs.Shown.{shown_canon, shown_export};
 ghost use Rattle.smith_scopes.specs.NodeScopes.{outer_marked_in, own_marked_in};
 ghost use Rattle.smith_tree.specs.Marking.{with_exports_entry};
 ghost use Rattle.smith_tree.specs.Tree.{Canon, ExportEntry};
-ghost use Rattle.smith_script_core.specs.Says.{Says};
+ghost use Rattle.smith_script_types.specs.Says.{Says};
 ghost use Rattle.smith_script.specs.Saying.{canon_row_says, core_type_says, export_says, import_says, rows_say};
 ghost use Rattle.smith_script.specs.Saying.{type_says};
 ghost use Rattle.smith_script.specs.Preceding.{Preceding, after_canon, after_core_type, after_export, after_import};

@@ -1,6 +1,6 @@
 //! The script of a component.
 
-ghost use Rattle.std.specs.Prelude.{◌≡◌, ◌↔◌, ◌≤◌, ℕ, List, IfOk, IfErr};
+ghost use Rattle.std.specs.Prelude.{◌≡◌, ◌↔◌, ℕ, List, IfOk, IfErr};
 ghost use Rattle.smith_format.specs.Consistency.{IsConsistent};
 ghost use Rattle.smith_input.specs.Script.{AreBytes};
 ghost use Rattle.smith_tree.specs.Grammar.{Spells};
@@ -8,13 +8,11 @@ ghost use Rattle.smith_tree.specs.Script.{Within, script};
 ghost use Rattle.smith_tree.specs.Tree.{Tree};
 ghost use Rattle.smith_tree.specs.WellFormed.{WellFormed};
 ghost use Rattle.smith_read.specs.PartNodes.{shown_tree};
-ghost use Rattle.smith_script.specs.IsScript.{CannotBeGenerated, IsGiven, IsScript, IsScriptIfAny};
-ghost use Rattle.smith_script.specs.IsScript.{IsDraft};
-ghost use Rattle.smith_script.specs.Refusals.{AreReadAs, DiffersWithin, IsScriptRefusal};
+ghost use Rattle.smith_script.specs.IsScript.{CannotBeGenerated, IsGiven, IsScript, IsScriptIfAny, IsDraft};
+ghost use Rattle.smith_script.specs.Refusals.{AreReadAs, DiffersWithin, IsScriptRefusal, common_length};
 ghost use Rattle.smith_script.specs.declared.error.ScriptError.TheVariants.{InconsistentLimits, OutOfMemory};
 ghost use Rattle.smith_script.specs.declared.scripting.Trial.TheVariants as trial;
 
-use crate::difference::common_length;
 use crate::error::{ScriptError, Unkept};
 use crate::limits::unkept;
 use crate::parts::say_tree;
@@ -44,6 +42,19 @@ enum Draft {
     Whole(Vec<u8>),
     // What precedes a choice that no bytes say.
     Part(Vec<u8>),
+}
+
+// How many bytes both begin with.
+fn common_length(one: &[u8], other: &[u8]) -> usize
+    ensures { result ≡ common_length one.now other.now }
+{
+    let most = one.len().min(other.len());
+    for index in 0..most {
+        if one[index] != other[index] {
+            return index;
+        }
+    }
+    most
 }
 
 // Out of memory aside, a refusal says that an input produces no component.
@@ -94,7 +105,7 @@ fn would_be_given(alloc: Global, config: &Config, bytes: &[u8], tree: &Component
 
 // The limit that the component does not keep, if one is found.
 fn limit_of(given: Given<'_>, bytes: &[u8], tree: &ComponentTree) -> Option<Unkept> {
-    let limit = unkept(given.config, tree);
+    let limit = unkept(given, tree);
     let demands = limit.is_none() && given.config.must_validate;
     if demands && would_be_given(given.alloc, given.config, bytes, tree) {
         return Some(Unkept::On {
@@ -232,20 +243,6 @@ fn consistent_script(alloc: Global, config: &Config, bytes: &[u8]) -> Result<Vec
     }
 }
 
-// The same, whatever the limits.
-fn scripted(alloc: Global, config: &Config, bytes: &[u8]) -> Result<Vec<u8>, ScriptError>
-    ensures answered { IfOk result (λ b. (t : Tree) × Spells t bytes.now × IsScript config.now t b.items) }
-    ensures refuses { IfErr result (λ e. ¬ (e ≡ OutOfMemory)
-        → (t : Tree) → Spells t bytes.now → (b : List ℕ) → ¬ IsScript config.now t b) }
-    ensures why { IfErr result (IsScriptRefusal bytes.now) }
-    ensures limits { IfErr result (λ e. (e ≡ InconsistentLimits) ↔ (¬ IsConsistent config.now)) }
-{
-    if config.check().is_err() {
-        return Err(ScriptError::InconsistentLimits);
-    }
-    consistent_script(alloc, config, bytes)
-}
-
 /// The script of the component that these bytes are: the input from which `generate` produces them, with nothing left.
 ///
 /// The bytes are read and judged, the script is written as it is defined, and tried: it is returned exactly if
@@ -267,5 +264,8 @@ pub fn script(alloc: Global, config: &Config, bytes: &[u8]) -> Result<Vec<u8>, S
     ensures no_input { IsConsistent config.now → IfErr result (λ e. ¬ (e ≡ OutOfMemory)
         → (t : Tree) → Spells t bytes.now → CannotBeGenerated config.now t) }
 {
-    scripted(alloc, config, bytes)
+    if config.check().is_err() {
+        return Err(ScriptError::InconsistentLimits);
+    }
+    consistent_script(alloc, config, bytes)
 }

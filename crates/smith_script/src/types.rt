@@ -1,7 +1,7 @@
 //! The types of a component, by their signatures.
 
-ghost use Rattle.std.specs.Prelude.{◌≡◌, [], ◌∷◌, ◌++◌, Some, None, false, map, option_map, slice_get};
-ghost use Rattle.std.specs.Prelude.{IfOk, MatchOption, OnOk, OnErr};
+ghost use Rattle.std.specs.Prelude.{◌≡◌, [], ◌∷◌, ◌++◌, Some, None, false, map, option_map, slice_get, IfOk};
+ghost use Rattle.std.specs.Prelude.{MatchOption, OnOk, OnErr};
 ghost use Rattle.std.specs.HashMap.{get};
 ghost use Rattle.smith_syntax.specs.Entries.{Signature, function};
 ghost use Rattle.smith_syntax.specs.HasSignature.{is_of_signature};

@@ -11,8 +11,8 @@ use Rattle.smith_read.specs.TypeNodes.{shown_decl_node}
 use Rattle.smith_read.specs.declared.type_nodes.DeclNode.{DeclNode}
 use Rattle.smith_tree.specs.TypeNeeds.{decl_cost, decls_cost}
 use Rattle.smith_tree.specs.TypeScript.{Taken, after_taken, script_decl, script_decls}
-use Rattle.smith_script_core.proofs.Saying.{Towards, towards_step}
-use Rattle.smith_script_core.specs.Says.{Adds}
+use Rattle.smith_script_types.proofs.Saying.{Towards, towards_step}
+use Rattle.smith_script_types.specs.Says.{Adds}
 
 module _ (config : Config) (importing : Bool) (outer : List Marked) where
   -- a declaration, and the ones after it

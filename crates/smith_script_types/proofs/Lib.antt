@@ -1,5 +1,9 @@
+pub mod CoreTurns
 pub mod Decls
 pub mod ModuleTurns
+pub mod Picking
 pub mod Ranks
+pub mod ReadableTexts
+pub mod Saying
 pub mod TableSteps
 pub mod Turns

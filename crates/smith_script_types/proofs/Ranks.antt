@@ -9,12 +9,12 @@ use Rattle.std.specs.Prelude.{min, nat_eq, if◌then◌else◌}
 use Rattle.std.specs.Result.{result_unwrap_or}
 use Rattle.smith_input.specs.Script.{pick, rank_of, script_among}
 use Rattle.smith_syntax.specs.Places.{places}
-use Rattle.smith_core_types.proofs.MakingCore.{length-indexes}
+use Rattle.smith_types.proofs.MakingCore.{length-indexes}
 use Rattle.std.proofs.Common.{map, Option, None, Some}
-use Rattle.smith_scopes.specs.Kept.{AreOffered, is_offered, offered_places}
-use Rattle.smith_scopes.specs.declared.offers.Offer.{Offer}
-use Rattle.smith_scopes.specs.declared.offers.Offer.TheVariants as offer
-use Rattle.smith_scopes.proofs.Offered.{unmarked_places}
+use Rattle.smith_scope.specs.Kept.{AreOffered, is_offered, offered_places}
+use Rattle.smith_scope.specs.declared.offers.Offer.{Offer}
+use Rattle.smith_scope.specs.declared.offers.Offer.TheVariants as offer
+use Rattle.smith_scope.proofs.Offered.{unmarked_places}
 use Rattle.smith_syntax.specs.Marked.{Marked}
 
 -- the rank of what is at an index and not before it, or is nowhere

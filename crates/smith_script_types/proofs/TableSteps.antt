@@ -9,13 +9,13 @@ use Rattle.smith_format.specs.declared.types.FuncType.{FuncType}
 use Rattle.smith_syntax.specs.Entries.{ModuleDecl}
 use Rattle.smith_syntax.specs.ModuleTypes.{declared_in, func_of, is_tag_type}
 use Rattle.smith_syntax.specs.Places.{places}
-use Rattle.smith_scopes.proofs.Stack.{places-append}
+use Rattle.smith_scope.proofs.Places.{places-append}
 use Rattle.smith_read.specs.Nodes.{shown_module_node}
 use Rattle.smith_read.specs.declared.core_types.ModuleNode.{ModuleNode}
 use Rattle.smith_script_types.specs.Tables.{Keeps, functions_in}
 use Rattle.smith_script_types.specs.declared.tables.Tables.{Tables}
 use Rattle.smith_read.proofs.ShownNodes.{shown_nodes}
-use Rattle.smith_script_core.proofs.Saying.{saying}
+use Rattle.smith_script_types.proofs.Saying.{saying}
 
 -- the nodes of a list up to one, and it
 pub shown_more : (xs : List ModuleNode) (i : ℕ) (x : ModuleNode) → i < length xs → x ≡ get_or xs i x

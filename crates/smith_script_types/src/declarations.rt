@@ -1,18 +1,20 @@
 //! What a declaration says before what it declares, and outer aliases.
 
-ghost use Rattle.std.specs.Prelude.{◌≡◌, ◌∷◌, ◌+◌, ℕ, length, nat_eq};
+ghost use Rattle.std.specs.Prelude.{◌≡◌, ◌∷◌, ◌+◌, ℕ, if◌then◌else◌, length, nat_eq};
 ghost use Rattle.smith_input.specs.Script.{script_among};
 ghost use Rattle.smith_scopes.specs.NodeScopes.{shown_marked};
 ghost use Rattle.smith_tree.specs.TypeOffers.{aliases_of, occupied};
-ghost use Rattle.smith_tree.specs.TypeScript.{script_alias, script_declaration_item, script_declares, script_no_import};
-ghost use Rattle.smith_script_core.specs.Says.{Says};
+ghost use Rattle.smith_tree.specs.TypeScript.{script_alias, script_declares, script_no_import};
+ghost use Rattle.smith_script_types.specs.Says.{Says};
 ghost use Rattle.smith_script_types.specs.Places.{outer_at, own_at};
 
+use crate::choices::{say_choice, say_offered};
 use crate::declaring::Declaring;
 use crate::place::Place;
 use crate::positions::say_position;
-use smith_scopes::{NodeScope, occupied, offered_declarations};
-use smith_script_core::{Error, say_choice, say_offered};
+use smith_input::Error;
+use smith_scope::NodeScope;
+use smith_scopes::{occupied, offered_declarations};
 use smith_tree::DeclarationItem;
 
 // That no import is declared, when one might be.
@@ -23,15 +25,6 @@ fn say_no_import(out: &mut Vec<u8>, place: Place<'_, '_>, importing: bool) -> Re
         return say_choice(out, 4, 1);
     }
     Ok(())
-}
-
-// What is declared.
-fn say_item(out: &mut Vec<u8>, place: Place<'_, '_>, item: DeclarationItem) -> Result<(), Error>
-    ensures { Says result out.old out.new
-        (script_declaration_item place.entry.config.now (outer_at place.entry) (own_at place.entry) item) }
-{
-    let offers = offered_declarations(place.scopes, place.config);
-    say_offered(place.alloc, out, &offers, item)
 }
 
 /// What precedes that which is declared.
@@ -45,7 +38,8 @@ pub(crate) fn say_declares(
         (script_declares place.entry.config.now here.importing (own_at place.entry) (outer_at place.entry) item) }
 {
     say_no_import(out, place, here.importing)?;
-    say_item(out, place, item)
+    let offers = offered_declarations(place.scopes, place.config);
+    say_offered(place.alloc, out, &offers, item)
 }
 
 // The choice of the scope of an outer alias.
@@ -64,36 +58,25 @@ fn entries_in(scope: &NodeScope<'_>) -> usize
     scope.types_len() + scope.core_types_len()
 }
 
-/// An outer alias of a type: the scope, and its entry.
-pub(crate) fn say_type_alias(
+/// An outer alias: the scope, and its entry. The core types are after the types.
+pub(crate) fn say_alias(
     out: &mut Vec<u8>,
     place: Place<'_, '_>,
     count: u32,
     index: u32,
+    is_core: bool,
 ) -> Result<(), Error>
-    ensures { Says result out.old out.new
-        (script_alias (own_at place.entry ∷ outer_at place.entry) count (λ s. index)) }
+    ensures { Says result out.old out.new (script_alias (own_at place.entry ∷ outer_at place.entry) count
+        (λ s. if is_core then length s.types + index else index)) }
 {
     say_scope(out, place, count)?;
-    match place.scopes.scope_at(count) {
-        None => Ok(()),
-        Some(scope) => say_choice(out, entries_in(scope), index as usize),
-    }
-}
-
-/// An outer alias of a core type, which is after the types.
-pub(crate) fn say_core_type_alias(
-    out: &mut Vec<u8>,
-    place: Place<'_, '_>,
-    count: u32,
-    index: u32,
-) -> Result<(), Error>
-    ensures { Says result out.old out.new
-        (script_alias (own_at place.entry ∷ outer_at place.entry) count (λ s. length s.types + index)) }
-{
-    say_scope(out, place, count)?;
-    match place.scopes.scope_at(count) {
-        None => Ok(()),
-        Some(scope) => say_choice(out, entries_in(scope), scope.types_len() + index as usize),
-    }
+    let Some(scope) = place.scopes.scope_at(count) else {
+        return Ok(());
+    };
+    let entry = if is_core {
+        scope.types_len() + index as usize
+    } else {
+        index as usize
+    };
+    say_choice(out, entries_in(scope), entry)
 }

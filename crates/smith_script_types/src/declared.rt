@@ -6,9 +6,9 @@ ghost use Rattle.smith_script_types.specs.Tables.{Keeps, functions_in};
 
 use crate::tables::{Tables, count_from, declared_type};
 use smith_format::{Config, ExportKind, FuncType};
+use smith_input::Error;
 use smith_read::{CoreNode, ModuleNode};
 use smith_scopes::NodeScopes;
-use smith_script_core::Error;
 use std::alloc::Global;
 
 /// The declarations of a module type before one, and what is kept of them.

@@ -1,7 +1,6 @@
 //! Where a type of a component or an instance is in its declarations.
 
-ghost use Rattle.std.specs.Prelude.{◌≡◌, ◌≤◌, ◌+◌, ◌<◌, length};
-ghost use Rattle.smith_syntax.specs.WellFormed.{export_of, import_of};
+ghost use Rattle.std.specs.Prelude.{◌≡◌, ◌≤◌, ◌+◌, ◌<◌};
 ghost use Rattle.smith_tree.specs.TypeScript.{after_taken, none_taken};
 ghost use Rattle.smith_read.specs.TypeNodes.{shown_decl_node};
 ghost use Rattle.smith_script_types.specs.Declaring.{taken_in};
@@ -16,38 +15,6 @@ pub(crate) struct Declaring {
     pub(crate) fuel: u32,
     pub(crate) imports: usize,
     pub(crate) exports: usize,
-}
-
-// How many imports a declaration is.
-#[tactic(auto, using(crate::proofs::TableSteps::nodes))]
-fn import_count(decl: &DeclNode) -> usize
-    ensures count { result ≡ length (import_of (shown_decl_node decl.now)) }
-    ensures few { result ≤ 1 }
-{
-    match decl {
-        DeclNode::Import { .. } => 1,
-        DeclNode::Core(_)
-        | DeclNode::Type(_)
-        | DeclNode::TypeAlias { .. }
-        | DeclNode::CoreTypeAlias { .. }
-        | DeclNode::Export { .. } => 0,
-    }
-}
-
-// How many exports a declaration is.
-#[tactic(auto, using(crate::proofs::TableSteps::nodes))]
-fn export_count(decl: &DeclNode) -> usize
-    ensures count { result ≡ length (export_of (shown_decl_node decl.now)) }
-    ensures few { result ≤ 1 }
-{
-    match decl {
-        DeclNode::Export { .. } => 1,
-        DeclNode::Core(_)
-        | DeclNode::Type(_)
-        | DeclNode::TypeAlias { .. }
-        | DeclNode::CoreTypeAlias { .. }
-        | DeclNode::Import { .. } => 0,
-    }
 }
 
 impl Declaring {
@@ -75,6 +42,7 @@ impl Declaring {
     }
 
     /// After a declaration, which leaves that much fuel.
+    #[tactic(auto, using(crate::proofs::TableSteps::nodes))]
     pub(crate) fn after(self, decl: &DeclNode, fuel: u32) -> Declaring
         requires { (self.imports < 18446744073709551615) × (self.exports < 18446744073709551615) }
         ensures importing { result.importing ≡ self.importing }
@@ -82,11 +50,20 @@ impl Declaring {
         ensures taken { taken_in result ≡ after_taken (taken_in self) (shown_decl_node decl.now) }
         ensures few { (result.imports ≤ self.imports + 1) × (result.exports ≤ self.exports + 1) }
     {
-        Declaring {
-            importing: self.importing,
-            fuel,
-            imports: self.imports + import_count(decl),
-            exports: self.exports + export_count(decl),
+        let next = self.with_fuel(fuel);
+        match decl {
+            DeclNode::Import { .. } => Declaring {
+                imports: self.imports + 1,
+                ..next
+            },
+            DeclNode::Export { .. } => Declaring {
+                exports: self.exports + 1,
+                ..next
+            },
+            DeclNode::Core(_)
+            | DeclNode::Type(_)
+            | DeclNode::TypeAlias { .. }
+            | DeclNode::CoreTypeAlias { .. } => next,
         }
     }
 }

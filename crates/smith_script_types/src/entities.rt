@@ -7,16 +7,17 @@ ghost use Rattle.smith_format.specs.Limits.{configured};
 ghost use Rattle.smith_format.specs.contracts.types.ExportKindPartialEq.TheImpl.{ghosts as kinds};
 ghost use Rattle.smith_tree.specs.ModuleScript.{script_bit, script_element, script_entity, script_entity_of};
 ghost use Rattle.smith_tree.specs.CoreTypeOffers.{entity_kinds};
-ghost use Rattle.smith_script_core.specs.Says.{Says};
+ghost use Rattle.smith_script_types.specs.Says.{Says};
 ghost use Rattle.smith_script_types.specs.Places.{so_far};
 
+use crate::choices::{say_among, say_byte, say_offered};
 use crate::declared::Declared;
+use crate::limits::say_limits;
 use crate::place::Place;
 use crate::positions::{say_index, say_position};
-use smith_format::{Config, EntityType, ExportKind, GlobalType, RefType, configured_valtypes};
-use smith_script_core::{Error, say_among, say_byte, say_limits, say_offered};
+use smith_format::{Config, EntityType, ExportKind, GlobalType, RefType, valtypes_of};
+use smith_input::Error;
 use smith_tree::kind_offers;
-use std::alloc::Global;
 
 // What a table holds, if there is a choice.
 fn say_element(out: &mut Vec<u8>, config: &Config, ty: RefType) -> Result<(), Error>
@@ -29,17 +30,11 @@ fn say_element(out: &mut Vec<u8>, config: &Config, ty: RefType) -> Result<(), Er
 }
 
 // A global type: one of the value types, and whether it may change.
-fn say_global(
-    alloc: Global,
-    out: &mut Vec<u8>,
-    config: &Config,
-    ty: GlobalType,
-) -> Result<(), Error>
+fn say_global(out: &mut Vec<u8>, config: &Config, ty: GlobalType) -> Result<(), Error>
     ensures { Says result out.old out.new
         (script_among same_val (configured config.now) ty.val_type ++ script_bit ty.mutable) }
 {
-    let valtypes = configured_valtypes(alloc, config)?;
-    say_among(out, &valtypes, &ty.val_type)?;
+    say_among(out, valtypes_of(config), &ty.val_type)?;
     say_byte(out, u8::from(ty.mutable))
 }
 
@@ -83,7 +78,7 @@ fn say_entity_of(
             say_limits(out, table.minimum, table.maximum)
         }
         EntityType::Memory(memory) => say_limits(out, memory.minimum, memory.maximum),
-        EntityType::Global(global) => say_global(place.alloc, out, place.config, global),
+        EntityType::Global(global) => say_global(out, place.config, global),
         EntityType::Tag(tag) => say_position(out, &tables.tags, tag.func_type_idx as usize),
     }
 }

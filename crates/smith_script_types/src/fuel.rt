@@ -1,6 +1,6 @@
 //! How much fuel is left after a type.
 
-ghost use Rattle.std.specs.Prelude.{◌≡◌, ◌-◌, ◌+◌};
+ghost use Rattle.std.specs.Prelude.{◌≡◌, ◌-◌};
 ghost use Rattle.smith_syntax.specs.Entries.{defined, function};
 ghost use Rattle.smith_syntax.specs.Shown.{shown_defined};
 ghost use Rattle.smith_syntax.specs.WellFormed.{defined_size};
@@ -8,8 +8,8 @@ ghost use Rattle.smith_read.specs.Nodes.{shown_core_node};
 ghost use Rattle.smith_tree.specs.CoreTypeNeeds.{core_cost};
 ghost use Rattle.smith_tree.specs.TypeNeeds.{cost};
 
+use crate::fronts::core_size;
 use smith_read::CoreNode;
-use smith_script_core::core_size;
 use smith_syntax::{DefinedType, FuncType};
 
 // The fuel left after that many turns.

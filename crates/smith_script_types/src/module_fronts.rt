@@ -1,19 +1,21 @@
 //! What the canonical ABI asks of a module type, as its script begins with it.
 
-ghost use Rattle.std.specs.Prelude.{◌≡◌, ◌∷◌, [], ℕ, map, IfOk, IfErr};
-ghost use Rattle.std.specs.List.{flat_map};
+ghost use Rattle.std.specs.Prelude.{◌≡◌, ◌∷◌, [], ℕ, map, IfOk, IfErr, flat_map};
 ghost use Rattle.smith_syntax.specs.ModuleTypes.{after_front, after_memory, after_realloc, entities_of};
 ghost use Rattle.smith_read.specs.Nodes.{shown_module_node};
 ghost use Rattle.smith_tree.specs.ModuleScript.{front_before, in_front, may_declare, script_asked, script_front};
 ghost use Rattle.smith_tree.specs.ModuleScript.{script_line};
-ghost use Rattle.smith_script_core.specs.Says.{Says};
+ghost use Rattle.smith_script_types.specs.Says.{Says};
 ghost use Rattle.smith_input.specs.declared.error.Error.TheVariants.{OutOfMemory};
 
+use crate::choices::say_choice;
 use crate::declared::Declared;
+use crate::fronts::{after_front, after_memory, after_realloc};
+use crate::limits::say_limits;
 use crate::place::Place;
 use smith_format::EntityType;
+use smith_input::Error;
 use smith_read::ModuleNode;
-use smith_script_core::{Error, after_front, after_memory, after_realloc, say_choice, say_limits};
 
 // The declarations in front of these.
 fn in_front<'a>(decls: &'a [ModuleNode], after: &[ModuleNode]) -> &'a [ModuleNode]
@@ -94,16 +96,8 @@ pub(crate) fn say_front(
     let no_realloc = after_realloc(no_memory);
     let no_free = after_front(decls);
     say_line(out, 0 < place.config.max_memories, decls, no_memory)?;
-    say_line(
-        out,
-        may_declare(place, decls, no_memory)?,
-        no_memory,
-        no_realloc,
-    )?;
-    say_line(
-        out,
-        may_declare(place, decls, no_realloc)?,
-        no_realloc,
-        no_free,
-    )
+    let may_realloc = may_declare(place, decls, no_memory)?;
+    say_line(out, may_realloc, no_memory, no_realloc)?;
+    let may_free = may_declare(place, decls, no_realloc)?;
+    say_line(out, may_free, no_realloc, no_free)
 }

@@ -4,21 +4,21 @@ ghost use Rattle.std.specs.Prelude.{◌≡◌, ℕ, length, map};
 ghost use Rattle.smith_read.specs.Nodes.{shown_module_node};
 ghost use Rattle.smith_tree.specs.ModuleScript.{alias_place, script_decl, script_item, script_module};
 ghost use Rattle.smith_tree.specs.CoreTypeOffers.{alias_choices};
-ghost use Rattle.smith_script_core.specs.Says.{Says};
-ghost use Rattle.smith_script_types.specs.Places.{so_far};
-ghost use Rattle.smith_script_types.specs.Places.{plain_at};
+ghost use Rattle.smith_script_types.specs.Says.{Says};
+ghost use Rattle.smith_script_types.specs.Places.{so_far, plain_at};
 
+use crate::choices::{say_choice, say_end, say_more, say_offered};
 use crate::declared::Declared;
 use crate::entities::say_entity;
+use crate::fronts::after_front;
+use crate::members::say_core_function;
 use crate::module_fronts::say_front;
+use crate::names::{say_core_name, say_new_core_name};
 use crate::place::Place;
 use crate::positions::rank_of;
+use smith_input::Error;
 use smith_read::ModuleNode;
-use smith_scopes::Kind;
-use smith_script_core::{
-    Error, after_front, say_choice, say_core_function, say_core_name, say_end, say_more,
-    say_new_core_name, say_offered,
-};
+use smith_scope::Kind;
 use smith_tree::{ModuleItem, module_item_offers};
 
 // How many function types an outer alias is among.
@@ -40,12 +40,8 @@ fn say_item(
 {
     let with_type = declared.allows_type(place.config);
     let with_alias = with_type && alias_count(place, declared) > 0;
-    say_offered(
-        place.alloc,
-        out,
-        &module_item_offers(with_type, with_alias),
-        item,
-    )
+    let offers = module_item_offers(with_type, with_alias);
+    say_offered(place.alloc, out, &offers, item)
 }
 
 // The place of an outer alias among the function types of the scope around, and then the module type's own.
@@ -88,7 +84,7 @@ fn say_decl(
         }
         ModuleNode::Func(ty) => {
             say_item(out, place, declared, ModuleItem::Type)?;
-            say_core_function(place.alloc, out, place.config, ty)
+            say_core_function(out, place.config, ty)
         }
         ModuleNode::OuterAlias { count, index } => {
             say_item(out, place, declared, ModuleItem::Alias)?;

@@ -1,23 +1,20 @@
 //! What imports and exports are of, and their names.
 
-ghost use Rattle.std.specs.Prelude.{◌≡◌, ◌&&◌, length, nat_eq};
-ghost use Rattle.smith_input.specs.Offers.{offers_of};
+ghost use Rattle.std.specs.Prelude.{◌≡◌, nat_eq};
 ghost use Rattle.smith_input.specs.Script.{script_among};
 ghost use Rattle.smith_scopes.specs.NodeScopes.{shown_marked};
-ghost use Rattle.smith_tree.specs.TypeOffers.{allows_equal, allows_one, has_export, has_place, has_reference, has_room};
-ghost use Rattle.smith_tree.specs.TypeOffers.{kinds_offered, ref_kinds, ref_places};
-ghost use Rattle.smith_scopes.specs.Kept.{offered_places};
-ghost use Rattle.smith_syntax.specs.Marked.{Marked};
+ghost use Rattle.smith_tree.specs.TypeOffers.{ref_kinds, ref_places};
 ghost use Rattle.smith_tree.specs.TypeScript.{index_in, kind_in, script_extern, script_ref};
 ghost use Rattle.smith_tree.specs.contracts.choices.RefKindPartialEq.TheImpl.{ghosts as refs};
-ghost use Rattle.smith_script_core.specs.Says.{Says};
+ghost use Rattle.smith_script_types.specs.Says.{Says};
 ghost use Rattle.smith_script_types.specs.Places.{own_at};
 
+use crate::choices::{say_byte, say_offered};
+use crate::names::say_name;
 use crate::place::Place;
-use crate::positions::say_position;
-use crate::usable::say_usable;
-use smith_scopes::{Kind, NodeScope, Offer, Purpose, function_offer};
-use smith_script_core::{Error, say_byte, say_name, say_offered};
+use crate::positions::{say_position, say_usable};
+use smith_input::Error;
+use smith_scope::{Kind, NodeScope, Offer, Purpose, function_offer};
 use smith_syntax::ComponentTypeRef;
 use smith_tree::RefKind;
 
@@ -44,11 +41,8 @@ fn say_ref_kind(
         (ref_kinds place.entry.config.now (own_at place.entry) purpose.totals
         purpose.for_import purpose.for_type_def) kind) }
 {
-    let offers = place
-        .scopes
-        .nest
-        .own
-        .reference_offers(place.config, purpose);
+    let own = &place.scopes.nest.own;
+    let offers = own.reference_offers(place.config, purpose);
     say_offered(place.alloc, out, &offers, kind)
 }
 

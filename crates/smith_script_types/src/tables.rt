@@ -1,7 +1,7 @@
 //! What is kept of the declarations of a module type, so that none of them is counted again.
 
-ghost use Rattle.std.specs.Prelude.{◌≡◌, ◌+◌, ◌∷◌, ◌++◌, [], ℕ, List, bytes_eq, slice_index};
-ghost use Rattle.std.specs.Prelude.{IfOk, IfErr, OnOk, if◌then◌else◌};
+ghost use Rattle.std.specs.Prelude.{◌≡◌, ◌+◌, ◌∷◌, ◌++◌, [], ℕ, List, bytes_eq, slice_index, IfOk, IfErr, OnOk};
+ghost use Rattle.std.specs.Prelude.{if◌then◌else◌};
 ghost use Rattle.smith_format.specs.CoreTypes.{Function};
 ghost use Rattle.smith_format.specs.Entities.{kind_byte};
 ghost use Rattle.smith_format.specs.declared.types.ExportKind.{ExportKind};
@@ -12,8 +12,8 @@ ghost use Rattle.smith_input.specs.declared.error.Error.TheVariants.{OutOfMemory
 ghost use Rattle.smith_script_types.specs.Tables.{Keeps, count_from, function_in};
 
 use smith_format::{EntityType, ExportKind, FuncType};
+use smith_input::Error;
 use smith_read::ModuleNode;
-use smith_script_core::Error;
 use std::alloc::Global;
 use std::collections::BTreeMap;
 

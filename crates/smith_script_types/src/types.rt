@@ -8,24 +8,26 @@ ghost use Rattle.smith_read.specs.TypeNodes.{shown_decl_node, shown_type_node};
 ghost use Rattle.smith_tree.specs.TypeNeeds.{cost, decl_cost, decls_cost};
 ghost use Rattle.smith_tree.specs.TypeScript.{none_taken, script_decl, script_decls, script_type, script_type_kind};
 ghost use Rattle.smith_tree.specs.declared.choices.TypeKind.TheVariants.{Defined};
-ghost use Rattle.smith_script_core.specs.Says.{Says};
+ghost use Rattle.smith_script_types.specs.Says.{Says};
 ghost use Rattle.smith_script_types.specs.Declaring.{closed_in, taken_in};
 
+use crate::choices::{say_among, say_byte, say_choice, say_end};
 use crate::core_types::say_core;
-use crate::declarations::{say_core_type_alias, say_declares, say_type_alias};
+use crate::declarations::{say_alias, say_declares};
 use crate::declaring::Declaring;
 use crate::fuel::{after_core, after_defined, after_function};
 use crate::place::Given;
 use crate::references::{say_extern, say_reference};
 use crate::values::{say_defined, say_signature};
+use smith_input::Error;
 use smith_read::{DeclNode, TypeNode};
-use smith_scopes::{NodeScopes, Purpose};
-use smith_script_core::{Error, say_among, say_byte, say_choice, say_end};
+use smith_scope::Purpose;
+use smith_scopes::NodeScopes;
 use smith_syntax::Mark;
 use smith_tree::{DeclarationItem, RefTotals, TypeKind, type_kinds};
 
-// Nothing is counted within types.
-const UNCOUNTED: RefTotals = RefTotals {
+/// None of each, as is counted within types. Public only for the crate above.
+pub const NONE_COUNTED: RefTotals = RefTotals {
     modules: 0,
     funcs: 0,
     components: 0,
@@ -33,13 +35,13 @@ const UNCOUNTED: RefTotals = RefTotals {
 };
 
 const IMPORT: Purpose = Purpose {
-    totals: UNCOUNTED,
+    totals: NONE_COUNTED,
     for_import: true,
     for_type_def: true,
 };
 
 const EXPORT: Purpose = Purpose {
-    totals: UNCOUNTED,
+    totals: NONE_COUNTED,
     for_import: false,
     for_type_def: true,
 };
@@ -147,12 +149,12 @@ fn say_decl<'a>(
         }
         DeclNode::TypeAlias { count, index } => {
             say_declares(out, given.place(scopes), here, DeclarationItem::Alias)?;
-            say_type_alias(out, given.place(scopes), *count, *index)?;
+            say_alias(out, given.place(scopes), *count, *index, false)?;
             scopes.add_alias(*count, *index)?;
         }
         DeclNode::CoreTypeAlias { count, index } => {
             say_declares(out, given.place(scopes), here, DeclarationItem::Alias)?;
-            say_core_type_alias(out, given.place(scopes), *count, *index)?;
+            say_alias(out, given.place(scopes), *count, *index, true)?;
             scopes.add_core_alias(*count, *index)?;
         }
         DeclNode::Import { name, to } => {

@@ -1,19 +1,20 @@
 //! Types of values and of functions.
 
-ghost use Rattle.std.specs.Prelude.{List, ◌++◌, string_bytes};
-ghost use Rattle.std.specs.Option.{option_to_list};
+ghost use Rattle.std.specs.Prelude.{List, ◌++◌, string_bytes, option_to_list};
 ghost use Rattle.smith_syntax.specs.Shown.{shown_defined};
 ghost use Rattle.smith_syntax.specs.Signature.{named};
 ghost use Rattle.smith_tree.specs.TypeScript.{script_case, script_defined, script_either, script_field, script_kind};
-ghost use Rattle.smith_tree.specs.TypeScript.{script_label};
-ghost use Rattle.smith_tree.specs.TypeScript.{script_maybe, script_members, script_primitive, script_signature};
-ghost use Rattle.smith_tree.specs.TypeScript.{script_val};
+ghost use Rattle.smith_tree.specs.TypeScript.{script_label, script_maybe, script_members, script_primitive};
+ghost use Rattle.smith_tree.specs.TypeScript.{script_signature, script_val};
 ghost use Rattle.smith_scopes.specs.Nodes.{shown_marked};
-ghost use Rattle.smith_script_core.specs.Says.{Says};
+ghost use Rattle.smith_script_types.specs.Says.{Says};
 
-use crate::usable::say_usable;
-use smith_scopes::{NodeScope, Offer};
-use smith_script_core::{Error, Scripted, say_among, say_byte, say_choice, say_members, say_name};
+use crate::choices::{say_among, say_byte, say_choice};
+use crate::members::{Scripted, say_members};
+use crate::names::say_name;
+use crate::positions::say_usable;
+use smith_input::Error;
+use smith_scope::{NodeScope, Offer};
 use smith_syntax::{ComponentValType, DefinedType, FuncType, PrimitiveValType, ResultType};
 use smith_tree::{DefinedKind, defined_kinds, primitives};
 

@@ -46,6 +46,7 @@ fn flag(input: &[u8], index: usize) -> bool
 /// A number is its byte modulo how many values the limit may have, from 0 on; a feature is on if its byte is odd. The
 /// minima and `must_validate` are those given. So limits that fit together may become limits that do not, as when a
 /// minimum is above the maximum that a byte encodes: these are then refused like any others.
+#[tactic(auto, unfolding(crate::specs::Swarm::swarmed))]
 pub fn swarm_limits(config: &Config, input: &[u8]) -> SwarmLimits
     ensures config { result.config ≡ swarmed config.now input.now }
     ensures taken { result.taken ≡ front_len input.now }

@@ -9,9 +9,9 @@ mod externs;
 mod values;
 
 ghost use Rattle.std.specs.Prelude.{◌≤◌};
-ghost use Rattle.smith_format.specs.Piece.{◌⊕◌, byte, bytes};
+ghost use Rattle.smith_format.specs.Piece.{bytes};
 ghost use Rattle.smith_format.specs.Writing.{Puts, Appends, Takes, IsLengthOf};
-ghost use Rattle.smith_syntax.specs.Grammar.{valtype, resultlist, functype, entry};
+ghost use Rattle.smith_syntax.specs.Grammar.{resultlist, functype, entry};
 ghost use Rattle.smith_syntax.specs.Shown.{shown_type, shown_shared};
 
 use crate::deftype::DefType;

@@ -1,7 +1,6 @@
 //! Function types of a component (Explainer.md, type definitions).
 
-ghost use Rattle.std.specs.Prelude.{◌≡◌, IfOk, IfErr};
-ghost use Rattle.std.specs.Option.{is_some};
+ghost use Rattle.std.specs.Prelude.{◌≡◌, IfOk, IfErr, is_some};
 ghost use Rattle.smith_syntax.specs.Flat.{flat_value, is_scalar};
 
 use crate::types::{ComponentValType, PrimitiveValType};

@@ -1,8 +1,8 @@
 //! Marks: what is kept of types for a validator.
 
 ghost use Rattle.std.specs.Prelude.{◌≡◌};
-ghost use Rattle.smith_syntax.specs.Marks.{aliased_mark, closed_mark, elsewhere, equal_mark, narrower};
-ghost use Rattle.smith_syntax.specs.Marks.{is_everywhere, is_small, is_somewhere};
+ghost use Rattle.smith_syntax.specs.Marks.{aliased_mark, closed_mark, elsewhere, equal_mark, narrower, is_everywhere};
+ghost use Rattle.smith_syntax.specs.Marks.{is_small, is_somewhere};
 
 // The size that a type may have to be used, imported or exported.
 const SMALL_SIZE: u32 = 9_999;
@@ -47,7 +47,7 @@ impl Reach {
 /// What is kept of a type.
 #[derive(Debug, Clone, Copy, PartialEq, Eq)]
 pub struct Mark {
-    /// Is it a record, a variant, flags or an enum, which has to be named itself?
+    /// Is it nominal: does it have to be named itself, whatever it is made of?
     pub nominal: bool,
     /// Where what it is made of is named.
     pub parts: Reach,

@@ -18,8 +18,8 @@ pub record Extern : Type 0 where
   pub refers : List Id
   pub names : List Id
 
--- A type: where it was added; whether it is to be named itself, as records, variants, flags and enums are, and not only
--- what it is made of; the types to be named that it is made of; its effective size; for instances, its exports in order.
+-- A type: where it was added; whether it is to be named itself (`is_nominal`), and not only what it is made of; the
+-- types to be named that it is made of; its effective size; for instances, its exports in order.
 pub record Facts : Type 0 where
   pub id : Id
   pub nominal : Bool

@@ -31,7 +31,7 @@ use Rattle.std.specs.declared.alloc.Global.{Global}
 use Rattle.std.specs.declared.rc.Rc.{Rc}
 use Rattle.smith_scopes.specs.Scopes.{AddsMarked, AddsSized, Changes, Contents, inward_marked, last_of, outer_marked, own_marked, scope_at, shown_marked}
 use Rattle.smith_scopes.proofs.Marking.{core_size_found, grown_export, grown_import, length-changed, mark_found, marked_alike, sized_alike}
-use Rattle.smith_scopes.proofs.Places.{place_stands}
+use Rattle.smith_scope.proofs.Places.{place_stands}
 use Rattle.smith_scopes.proofs.Stack.{GrownMarked, grown_marked, grown_sized, keeps_last, length-inward_marked, marked_at, opened_outer, own_marked_last}
 use Rattle.smith_scopes.proofs.Stack.{split_marked}
 use Rattle.smith_tree.specs.TypeOffers.{is_occupied, occupied, aliases_of}

@@ -26,8 +26,8 @@ use Rattle.smith_tree.specs.declared.choices.DefinedKind.{DefinedKind}
 use Rattle.smith_tree.specs.declared.choices.DefinedKind.TheVariants as kind
 use Rattle.smith_syntax.specs.declared.types.ComponentValType.{ComponentValType}
 use Rattle.smith_syntax.specs.declared.types.ComponentValType.TheVariants.{Primitive, Indexed}
-use Rattle.smith_core_types.proofs.MadeCoreSame.{Same}
-use Rattle.smith_core_types.proofs.Takes.{used}
+use Rattle.smith_types.proofs.MadeCoreSame.{Same}
+use Rattle.smith_types.proofs.Takes.{used}
 use Rattle.smith_types.proofs.Judged.{IsDefined, IsMaybe, IsType, IsValue, cases_formed, cases_offered, fields_formed, fields_offered, one_formed}
 use Rattle.smith_types.proofs.Judged.{values_formed, values_offered}
 use Rattle.smith_types.proofs.MarkedPlaces.{marked_stands}

@@ -32,8 +32,8 @@ use Rattle.smith_tree.specs.TypeNeeds.{need_of, need, decl_need, decls_need, cos
 use Rattle.smith_tree.specs.declared.choices.DeclarationItem.{DeclarationItem}
 use Rattle.smith_tree.specs.declared.choices.DeclarationItem.TheVariants as item
 use Rattle.smith_tree.proofs.TypeNeeds.{decl_costs, declared_within, Nests, DeclNests, DeclsNest}
-use Rattle.smith_core_types.proofs.MadeCore.{core_fits}
-use Rattle.smith_core_types.proofs.Takes.{Takes, used}
+use Rattle.smith_types.proofs.MadeCore.{core_fits}
+use Rattle.smith_types.proofs.Takes.{Takes, used}
 use Rattle.smith_types.specs.Declarations.{NoImportDecl, SoFar, nothing_so_far, after_one}
 use Rattle.smith_types.specs.Made.{Made, spent_type, made_defined, made_function, made_component, made_instance, MadeDeclaration, made_import, made_export}
 use Rattle.smith_types.specs.Made.{made_alias, made_core_type, made_type, MadeDeclarations, no_more_decls, spent_decls, one_decl}

@@ -12,13 +12,13 @@ use Rattle.smith_tree.specs.TypeOffers.{declaration_items, type_kinds}
 use Rattle.smith_types.specs.Made.{MadeDefined, Made, spent_type, made_defined, made_function, made_component, made_instance, MadeDeclaration}
 use Rattle.smith_types.specs.Made.{made_import, made_export, made_alias, made_core_type, made_type, MadeDeclarations, no_more_decls, spent_decls, one_decl}
 use Rattle.smith_types.specs.MakingTypes.{MadeCoreTypeDecl, MadeKind, MadeTypeDecl}
-use Rattle.smith_core_types.specs.MadeCore.{named_by_core}
+use Rattle.smith_types.specs.MadeCore.{named_by_core}
 use Rattle.smith_tree.specs.declared.choices.TypeKind.{TypeKind}
 use Rattle.smith_tree.specs.declared.choices.DeclarationItem.{DeclarationItem}
 use Rattle.smith_tree.specs.declared.choices.DeclarationItem.TheVariants as item
 use Rattle.smith_types.proofs.ReadsDeclarations.{import_same, export_same, alias_same, no_import_same, import_or_none}
 use Rattle.smith_types.proofs.Made.{defined_same, function_same}
-use Rattle.smith_core_types.proofs.MadeCoreSame.{Same, made_core_same}
+use Rattle.smith_types.proofs.MadeCoreSame.{Same, made_core_same}
 
 -- A type as another of the same bytes and the same fuel is made: without fuel, or as a type of the chosen kind.
 

@@ -2,7 +2,7 @@
 use Rattle.std.proofs.Common.{◌≡◌, ℕ, zero, suc, ◌+◌, Bool, true, ◌&&◌, List, [], ◌∷◌, refl, sym, ap, ◌∙◌}
 use Rattle.std.proofs.lemmas.Bool.{and_from, and_parts}
 use Rattle.std.specs.Prelude.{None, Option, Some, if◌then◌else◌, option_map, slice_get}
-use Rattle.smith_scopes.proofs.Places.{place_found, place_stands}
+use Rattle.smith_scope.proofs.Places.{place_found, place_stands}
 use Rattle.smith_syntax.specs.Places.{places}
 use Rattle.smith_syntax.specs.Usable.{first_mark, later_marks, mark_at, marked_places}
 use Rattle.smith_syntax.specs.declared.marks.Mark.{Mark}

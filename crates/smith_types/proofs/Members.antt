@@ -20,8 +20,8 @@ use Rattle.smith_tree.specs.ReadableTypes.{AreReadableNames}
 use Rattle.smith_tree.specs.TypeScript.{script_members, script_label}
 use Rattle.smith_syntax.specs.Signature.{named}
 use Rattle.smith_syntax.specs.WellFormed.{Named}
-use Rattle.smith_core_types.proofs.MadeCoreSame.{Same}
-use Rattle.smith_core_types.proofs.Takes.{one_used, used}
+use Rattle.smith_types.proofs.MadeCoreSame.{Same}
+use Rattle.smith_types.proofs.Takes.{one_used, used}
 use Rattle.smith_input.proofs.DistinctNames.{AreNew, new_distinct}
 
 -- tails

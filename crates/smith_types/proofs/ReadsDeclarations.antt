@@ -26,7 +26,7 @@ use Rattle.smith_types.specs.References.{ref_to, ReadsRef}
 use Rattle.smith_tree.specs.declared.choices.DeclarationItem.{DeclarationItem}
 use Rattle.smith_tree.specs.declared.choices.RefKind.{RefKind}
 use Rattle.smith_tree.specs.declared.totals.RefTotals.{RefTotals}
-use Rattle.smith_scopes.proofs.Places.{get_either, get_left, get_right}
+use Rattle.smith_scope.proofs.Places.{get_either, get_left, get_right}
 use Rattle.smith_tree.proofs.Aliases.{length-numbered, numbered_here, numbered_stands}
 use Rattle.smith_types.proofs.References.{import_not_equal, ref_is}
 

@@ -15,11 +15,11 @@ use Rattle.smith_tree.specs.TypeOffers.{ref_places, has_place, has_room, kinds_o
 use Rattle.smith_tree.specs.declared.choices.RefKind.{RefKind}
 use Rattle.smith_tree.specs.declared.choices.RefKind.TheVariants as kind
 use Rattle.smith_tree.specs.declared.totals.RefTotals.{RefTotals}
-use Rattle.smith_scopes.proofs.Places.{place_stands}
+use Rattle.smith_scope.proofs.Places.{place_stands}
 use Rattle.smith_types.proofs.MarkedPlaces.{marked_stands, three_parts}
 use Rattle.smith_syntax.specs.Places.{places}
-use Rattle.smith_scopes.specs.Kept.{offered_places}
-use Rattle.smith_scopes.specs.declared.offers.Offer.{Offer}
+use Rattle.smith_scope.specs.Kept.{offered_places}
+use Rattle.smith_scope.specs.declared.offers.Offer.{Offer}
 
 -- It names what is in the scope and is of its kind, and it was offered.
 abbrev pub IsRef : Marked → Bool → ComponentTypeRef → Type 0

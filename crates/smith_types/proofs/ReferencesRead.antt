@@ -25,9 +25,9 @@ use Rattle.smith_syntax.specs.Usable.{OfferedRef, is_equatable, is_exportable, i
 use Rattle.smith_syntax.specs.WellFormed.{FormedRef, names}
 use Rattle.smith_syntax.specs.declared.deftype.ComponentTypeRef.{ComponentTypeRef}
 use Rattle.smith_syntax.specs.declared.deftype.ComponentTypeRef.TheVariants as to
-use Rattle.smith_scopes.proofs.Places.{get_mapped, place_found}
-use Rattle.smith_scopes.proofs.Offered.{length-marked_places}
-use Rattle.smith_scopes.proofs.Stack.{length-places}
+use Rattle.smith_scope.proofs.Places.{get_mapped, place_found}
+use Rattle.smith_scope.proofs.Offered.{length-marked_places}
+use Rattle.smith_scope.proofs.Places.{length-places}
 use Rattle.smith_tree.proofs.Aliases.{length-aliases}
 use Rattle.smith_types.specs.Declarations.{NamedExtern, ReadsNamedExtern, no_url, ReadsAlias, NoImportDecl, in_instance, nothing_there, not_asked}
 use Rattle.smith_tree.specs.TypeOffers.{IsAllowed, has_reference, is_occupied, occupied, aliases_of, declaration_offers, declaration_items}
@@ -202,11 +202,11 @@ pub function_chosen : (config : Config) (own : Marked) (totals : RefTotals) (i :
     → script_ref config own totals true false (to.Func i) ≡ script_among nat_eq (ref_places own true kind.Func) i
 unfolding pick
 function_chosen config own totals i modules components instances formed offered room allowed =
-    let a = none_there (ref_places own true kind.Module) (allows_one true false totals.modules config.max_modules) modules in
+    let a = none_there (ref_places own true kind.Module) _ modules in
     let b = and-false (has_place own true kind.TypeEq) in
     let c = and_from _ _ (place_there own true (to.Func i) formed offered) allowed in
-    let d = none_there (ref_places own true kind.Component) (allows_one true false totals.components config.max_components) components in
-    let e = none_there (ref_places own true kind.Instance) (allows_one true false totals.instances config.max_instances) instances in
+    let d = none_there (ref_places own true kind.Component) _ components in
+    let e = none_there (ref_places own true kind.Instance) _ instances in
     let one : kinds_offered config own totals true false ≡ kind.Func ∷ [] =
     λ j. offers_of ((a j, kind.Module) ∷ (b j, kind.TypeEq) ∷ (c j, kind.Func) ∷ (d j, kind.Component) ∷ (e j, kind.Instance) ∷ []) in
     ap (λ ks. script_among refs.eq ks kind.Func ++ script_among nat_eq (ref_places own true kind.Func) i)

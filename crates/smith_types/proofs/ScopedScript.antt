@@ -23,11 +23,11 @@ use Rattle.smith_syntax.specs.WellFormed.{FormedEntry, FormedDeclaration, Formed
 use Rattle.smith_syntax.specs.WellFormed.{FormedRef, is_type_eq}
 use Rattle.smith_syntax.specs.declared.deftype.ComponentTypeRef.{ComponentTypeRef}
 use Rattle.smith_syntax.specs.declared.deftype.ComponentTypeRef.TheVariants as to
-use Rattle.smith_core_types.specs.MadeCore.{named_by_core}
+use Rattle.smith_types.specs.MadeCore.{named_by_core}
 use Rattle.smith_tree.specs.CoreTypeNeeds.{core_cost}
 use Rattle.smith_tree.specs.CoreTypeScript.{script_core}
-use Rattle.smith_core_types.proofs.CoreScript.{core_read}
-use Rattle.smith_core_types.proofs.ScriptBytes.{small_core}
+use Rattle.smith_types.proofs.CoreScript.{core_read}
+use Rattle.smith_types.proofs.CoreScriptBytes.{small_core}
 use Rattle.smith_types.specs.Declarations.{NamedExtern, SoFar, nothing_so_far, after_one, ReadsImportDecl, ReadsExportDecl}
 use Rattle.smith_tree.specs.TypeOffers.{uncounted, IsAllowed}
 use Rattle.smith_types.specs.Made.{Made, made_component, made_instance, MadeWith, MadeDeclaration, made_import, made_export, made_alias, made_core_type}

@@ -42,7 +42,7 @@ use Rattle.smith_syntax.specs.declared.types.ComponentValType.TheVariants.{Primi
 use Rattle.smith_syntax.specs.declared.types.PrimitiveValType.{PrimitiveValType}
 use Rattle.smith_syntax.specs.declared.types.PrimitiveValType.TheVariants as prim
 use Rattle.smith_types.proofs.Members.{Ready, members_read, IsReady, named_ready, named_read, label_read, all_unit}
-use Rattle.smith_scopes.proofs.Offered.{length-marked_places}
+use Rattle.smith_scope.proofs.Offered.{length-marked_places}
 use Rattle.smith_types.proofs.Judged.{IsDefined, IsMaybe, IsType, IsValue, cases_are, fields_are, one_are, values_are}
 use Rattle.smith_types.proofs.MarkedPlaces.{marked_found}
 use Rattle.std.proofs.lemmas.Bool.{and_from}

@@ -24,7 +24,7 @@ use Rattle.smith_syntax.specs.declared.deftype.ComponentTypeRef.{ComponentTypeRe
 use Rattle.smith_syntax.specs.declared.types.ComponentValType.{ComponentValType}
 use Rattle.smith_syntax.specs.declared.types.ComponentValType.TheVariants.{Primitive, Indexed}
 use Rattle.smith_syntax.specs.declared.types.PrimitiveValType.{PrimitiveValType}
-use Rattle.smith_core_types.proofs.ScriptBytes.{small_place, small_said}
+use Rattle.smith_types.proofs.CoreScriptBytes.{small_place, small_said}
 use Rattle.smith_input.proofs.Loops.{along_all}
 use Rattle.smith_tree.specs.TypeOffers.{aliases_of, declaration_items, declaration_offers, defined_kinds, has_reference, is_occupied, lifted, primitives}
 use Rattle.smith_tree.specs.TypeOffers.{ref_kinds, ref_places, type_kinds}
@@ -45,7 +45,7 @@ use Rattle.smith_types.proofs.LiftingRead.{lifted_few}
 use Rattle.smith_types.proofs.ReferencesRead.{IsFew, kinds_few, places_few, ref_index, scope_there}
 use Rattle.smith_types.proofs.Judged.{IsDefined, IsMaybe, IsType, IsValue, cases_are, fields_are, one_are, values_are}
 use Rattle.smith_types.proofs.MarkedPlaces.{marked_found}
-use Rattle.smith_scopes.proofs.Offered.{length-marked_places}
+use Rattle.smith_scope.proofs.Offered.{length-marked_places}
 use Rattle.smith_tree.proofs.Aliases.{length-aliases}
 use Rattle.std.proofs.lemmas.Bool.{and_from, lt-ltb}
 

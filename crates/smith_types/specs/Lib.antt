@@ -1,6 +1,9 @@
-pub mod References
+pub mod Counts
 pub mod Declarations
-pub mod Made
-pub mod MakingTypes
 pub mod Lifting
+pub mod Made
+pub mod MadeCore
+pub mod MakingCore
+pub mod MakingTypes
+pub mod References
 pub mod Sayable

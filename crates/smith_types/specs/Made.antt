@@ -13,7 +13,7 @@ use Rattle.smith_syntax.specs.Usable.{value_places}
 use Rattle.smith_format.specs.declared.config.Config.{Config}
 use Rattle.smith_types.specs.Declarations.{SoFar, nothing_so_far, after_one, ReadsAlias, ReadsExportDecl, ReadsImportDecl, NoImportDecl}
 use Rattle.smith_tree.specs.TypeOffers.{declaration_items, primitives, defined_kinds, type_kinds}
-use Rattle.smith_core_types.specs.MadeCore.{MadeCore, named_by_core}
+use Rattle.smith_types.specs.MadeCore.{MadeCore, named_by_core}
 use Rattle.smith_tree.specs.declared.choices.DeclarationItem.TheVariants as item
 use Rattle.smith_tree.specs.declared.choices.TypeKind.TheVariants.{Defined, Function, Component, Instance}
 use Rattle.smith_tree.specs.declared.choices.DefinedKind.{DefinedKind}

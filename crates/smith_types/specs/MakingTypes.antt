@@ -23,7 +23,7 @@ use Rattle.smith_syntax.specs.declared.deftype.Import.{Import}
 use Rattle.smith_types.specs.Declarations.{NamedExtern, SoFar, after_one, nothing_so_far, ReadsImportDecl, NoImportDecl, url_names}
 use Rattle.smith_tree.specs.TypeOffers.{has_export, occupied}
 use Rattle.smith_types.specs.Made.{Made, MadeDeclaration, MadeDefined, MadeFunction, MadeDeclarations}
-use Rattle.smith_core_types.specs.MadeCore.{MadeCore, named_by_core}
+use Rattle.smith_types.specs.MadeCore.{MadeCore, named_by_core}
 use Rattle.smith_scopes.specs.Scopes.{Contents, last_of, own_marked, own_scope, outer_marked, outer_scopes}
 use Rattle.smith_tree.specs.declared.choices.TypeKind.{TypeKind}
 use Rattle.smith_tree.specs.declared.choices.TypeKind.TheVariants as kind

@@ -8,8 +8,8 @@ use Rattle.smith_syntax.specs.declared.deftype.ComponentTypeRef.TheVariants as t
 use Rattle.smith_tree.specs.declared.choices.RefKind.{RefKind}
 use Rattle.smith_tree.specs.declared.choices.RefKind.TheVariants as kind
 use Rattle.smith_tree.specs.declared.totals.RefTotals.{RefTotals}
-use Rattle.smith_scopes.specs.declared.offers.Offer.{Offer}
-use Rattle.smith_scopes.specs.declared.offers.Offer.TheVariants as offer
+use Rattle.smith_scope.specs.declared.offers.Offer.{Offer}
+use Rattle.smith_scope.specs.declared.offers.Offer.TheVariants as offer
 use Rattle.smith_tree.specs.TypeOffers.{ref_kinds, ref_places}
 
 -- the reference of a kind to an index

@@ -1,8 +1,7 @@
 //! Function types of components as core function types (CanonicalABI.md, flattening), and the other way round.
 
-ghost use Rattle.std.specs.Prelude.{◌≡◌, ◌++◌, ℕ, List, true, [], map, Some, IfOk, IfErr};
+ghost use Rattle.std.specs.Prelude.{◌≡◌, ◌++◌, ℕ, List, true, [], map, Some, IfOk, IfErr, is_some};
 ghost use Rattle.std.specs.List.{AllByRecursion, list_all};
-ghost use Rattle.std.specs.Option.{is_some};
 ghost use Rattle.smith_format.specs.Shown.{shown_func};
 ghost use Rattle.smith_input.specs.Choices.{ReadsAmong};
 ghost use Rattle.smith_input.specs.Consumes.{Consumes};

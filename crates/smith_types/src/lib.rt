@@ -2,15 +2,17 @@
 #![tactic(auto)]
 
 mod canonical;
+mod core_types;
 pub mod laws;
 mod make;
 
 pub use canonical::{canonical_abi_for, inverse_scalar_canonical_abi_for};
+pub use core_types::arbitrary_core_type;
 pub use make::{
     ExternNames, arbitrary_marked_type, arbitrary_type, arbitrary_type_ref, named_extern,
 };
-pub use smith_core_types::arbitrary_core_type;
-pub use smith_scopes::{Kind, Scopes};
+pub use smith_scope::Kind;
+pub use smith_scopes::Scopes;
 pub use smith_syntax::{
     Alias, ComponentFormat, ComponentType, ComponentTypeDef, ComponentTypeRef, ComponentValType,
     CoreType, DefType, DefinedType, EnumType, FlagsType, FuncType, Import, InstanceType,

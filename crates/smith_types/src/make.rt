@@ -23,7 +23,7 @@ ghost use Rattle.smith_syntax.specs.Shown.{full_type, shown_shared};
 ghost use Rattle.smith_syntax.specs.Marked.{mark};
 
 pub use externs::{ExternNames, named_extern};
-use kinds::made_type;
+use kinds::read_type;
 use making::Making;
 pub use references::arbitrary_type_ref;
 use smith_format::{Config, ValType};
@@ -94,6 +94,6 @@ pub fn arbitrary_marked_type(
         config,
         valtypes,
     };
-    let made = made_type(&making, u, scopes, fuel)?;
+    let made = read_type(&making, u, scopes, fuel)?;
     Ok(made)
 }

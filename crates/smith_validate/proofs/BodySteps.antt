@@ -17,7 +17,7 @@ use Rattle.smith_validate.specs.Tables.{AreAdded, AreExact, Fits, IsGrown, IsLiv
 use Rattle.smith_validate.specs.declared.body.Body.{Body as KeptBody}
 use Rattle.smith_validate.specs.declared.body.Exported.{Exported}
 use Rattle.smith_validate.specs.declared.body.Role.{Role}
-use Rattle.smith_validate.specs.declared.body.Role.TheVariants.{Names as Naming, Exports as Exporting}
+use Rattle.smith_validate.specs.declared.body.Role.TheVariants.{Names as Naming, Exporting}
 use Rattle.smith_validate.specs.declared.facts.Facts.{Facts as KeptFacts}
 use Rattle.smith_validate.specs.declared.instances.Exposed.{Exposed}
 use Rattle.smith_validate.specs.declared.known.Known.{Known}

@@ -59,7 +59,7 @@ deep_inside inner level place id h b =
           | inr v ↦ under_then x around place v (inside_under around place (child_inside place around c))
         ]
 
--- Exports that fit in another way too.
+-- What is exported, if it fits in another way too.
 pub fits_by : (a b : List Surface) (m n : ℕ) (around : Id) → ((k : ℕ) → IsSeen a m around k → (k < n) × (place_of b k ≡ place_of a k)) → (ps : List Piece)
     → AllByRecursion (Fits a m around) ps → AllByRecursion (Fits b n around) ps
 fits_by a b m n around f = all_by (Fits a m around) (Fits b n around) one

@@ -50,7 +50,7 @@ module _ {A B : Type 0} (f : A → B) (in_kept : Kept → List B) (in_plain : Fa
 
 -- the scopes after one was entered, and after one was left
 
-outer_sizes : (old : Known) (os : List Scope) → os ≡ old.scopes.outer.items ++ old.scopes.own ∷ [] → reverse (map kept_in os) ≡ own_in old ∷ outer_in old
+pub outer_sizes : (old : Known) (os : List Scope) → os ≡ old.scopes.outer.items ++ old.scopes.own ∷ [] → reverse (map kept_in os) ≡ own_in old ∷ outer_in old
 outer_sizes old os e = grind (arith, map-append, reverse-append)
 
 pub outer_kept : (old : Known) (os : List Scope) → os ≡ old.scopes.outer.items ++ old.scopes.own ∷ [] → reverse (map (λ o. o.types.items) os) ≡ types_in old

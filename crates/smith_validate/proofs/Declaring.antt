@@ -20,7 +20,7 @@ use Rattle.smith_validate.specs.Usual.{IsOfValues}
 use Rattle.smith_validate.specs.Values.{HasMarks, marks_from}
 use Rattle.smith_validate.specs.declared.body.Body.{Body as KeptBody}
 use Rattle.smith_validate.specs.declared.body.Role.{Role}
-use Rattle.smith_validate.specs.declared.body.Role.TheVariants.{Names as Naming, Exports as Exporting}
+use Rattle.smith_validate.specs.declared.body.Role.TheVariants.{Names as Naming, Exporting}
 use Rattle.smith_validate.specs.declared.facts.Facts.{Facts as KeptFacts}
 use Rattle.smith_validate.specs.declared.known.Known.{Known}
 use Rattle.smith_validate.specs.declared.known.Scope.{Scope}

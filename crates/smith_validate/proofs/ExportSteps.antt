@@ -21,7 +21,7 @@ use Rattle.smith_validate.specs.Marks.{named_facts}
 use Rattle.smith_validate.specs.Places.{IsBefore, IsOpen, IsUnder}
 use Rattle.smith_validate.specs.Tables.{names_in}
 use Rattle.smith_validate.specs.declared.body.Role.{Role}
-use Rattle.smith_validate.specs.declared.body.Role.TheVariants.{Names as Naming, Exports as Exporting}
+use Rattle.smith_validate.specs.declared.body.Role.TheVariants.{Names as Naming, Exporting}
 use Rattle.smith_validate.specs.declared.facts.Facts.{Facts as KeptFacts}
 use Rattle.smith_validate.specs.declared.known.Known.{Known}
 use Rattle.smith_validate.specs.declared.known.Scope.{Scope}

@@ -18,7 +18,7 @@ use Rattle.smith_validate.specs.Tables.{Fits, names_in}
 use Rattle.smith_validate.specs.declared.body.Exported.{Exported}
 use Rattle.smith_validate.specs.declared.body.Extern.{Extern as KeptExtern}
 use Rattle.smith_validate.specs.declared.body.Role.{Role}
-use Rattle.smith_validate.specs.declared.body.Role.TheVariants.{Names, Exports as Exporting}
+use Rattle.smith_validate.specs.declared.body.Role.TheVariants.{Names, Exporting}
 use Rattle.smith_validate.specs.declared.known.Known.{Known}
 use Rattle.smith_validate.proofs.Attaining.{attains_both}
 use Rattle.smith_validate.proofs.Closing.{scope_long}

@@ -1,17 +1,17 @@
 -- Steps of judgements.
-use Rattle.std.proofs.Common.{◌≡◌, ℕ, ◌<◌, Bool, true, false, List, [], ◌++◌, sym, subst, Result, Ok, Err, IsErrAnd}
+use Rattle.std.proofs.Common.{arith, ◌≡◌, ℕ, Bool, true, false, List, [], ◌++◌, sym, subst, Result, Ok, Err, IsErrAnd}
 use Rattle.std.proofs.Common.{append-nil, append_assoc}
 use Rattle.std.specs.Prelude.{IfErr, IfOk, OnOk}
 use Rattle.smith_syntax.specs.Entries.{export_decl}
 use Rattle.smith_syntax.specs.declared.deftype.ComponentTypeRef.{ComponentTypeRef}
 use Rattle.smith_tree.specs.Bodies.{Body, IsSmall, after_export, externs_at}
 use Rattle.smith_tree.specs.Demands.{Demands, Keeps, everything}
-use Rattle.smith_tree.specs.Facts.{FactScope}
+use Rattle.smith_tree.specs.Facts.{FactScope, Id}
 use Rattle.smith_tree.specs.Validates.{ValidDecl, exported}
 use Rattle.smith_validate.specs.Externs.{IsAskedFor}
 use Rattle.smith_validate.specs.Instances.{Surface}
-use Rattle.smith_validate.specs.Judges.{IsNamed, Judges, Refutes, asked}
-use Rattle.smith_validate.specs.Steps.{Later}
+use Rattle.smith_validate.specs.Judges.{IsNamed, IsUnnamed, Judges, Refutes, asked}
+use Rattle.smith_validate.specs.Steps.{ExactView, Later, Steps, StepsExactly, View}
 use Rattle.smith_validate.specs.declared.error.Stop.{Stop}
 
 -- a fact that another rests on
@@ -94,3 +94,17 @@ module _ {S N : Type 0} (V : S → List FactScope → N → List Surface → Typ
 
   pub later_more : (more : List Surface) → Later V at outer names (table ++ more) → Later V at outer names table
   later_more more h = (more ++ h.0, subst (λ t. V at outer names t) (append_assoc table more h.0) h.1)
+
+-- a call that finds nothing unnamed
+pub never_unnamed : {A S : Type 0} (result : Result A Stop) (after : S → List FactScope → S) {Before After : ExactView S}
+    {Usual Valid : S → List FactScope → Type 0} → IfErr result IsUnnamed
+    → ((at : S) (outer : List FactScope) (named : List Id) (table : List Surface) → Before at outer named table
+    → OnOk result (After (after at outer) outer named table)) → StepsExactly result Before After after Usual Valid
+never_unnamed result after bound exact = grind (arith, err_by)
+
+-- a call that fails
+pub steps_err : {A S : Type 0} (result : Result A Stop) (e : Stop) (is : IsErrAnd result (λ y. y ≡ e)) {Before After : View S}
+    {after : S → List FactScope → S} {Valid : Demands → S → List FactScope → Type 0}
+    → ((at : S) (outer : List FactScope) (names : List (List Id)) (table : List Surface) → Before at outer names table
+    → Refutes e (λ d. Valid d at outer)) → Steps result Before After after Valid
+steps_err result e is refuted = grind (arith, passed_on, on_err)

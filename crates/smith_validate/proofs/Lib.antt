@@ -27,6 +27,8 @@ pub mod Exporting
 pub mod ExportSteps
 pub mod Declaring
 pub mod PartsExactly
-pub mod ItemSteps
-pub mod Walking
+pub mod Sections
+pub mod Fitting
+pub mod Standing
+pub mod Going
 pub mod Usually

@@ -7,6 +7,8 @@ use Rattle.smith_input.specs.NewNames.{is_among}
 use Rattle.smith_syntax.specs.Scope.{empty_scope}
 use Rattle.smith_tree.specs.Bodies.{Body, empty_body}
 use Rattle.smith_tree.specs.Counts.{Counts, ValidCounts}
+use Rattle.smith_validate.specs.declared.body.Role.{Role}
+use Rattle.smith_validate.specs.declared.body.Role.TheVariants.{Exporting, Names}
 use Rattle.smith_tree.specs.Facts.{Extern, FactScope, Id, id_at}
 use Rattle.smith_tree.specs.Validates.{names_of}
 use Rattle.smith_validate.specs.Exact.{AreKnown, IsBodyExactly, IsBodyExactlyNow, IsRoleExactly}
@@ -15,8 +17,8 @@ use Rattle.smith_validate.specs.Kept.{own_in, types_in}
 use Rattle.smith_validate.specs.Places.{IsBefore}
 use Rattle.smith_validate.specs.Steps.{At, Later}
 use Rattle.smith_validate.specs.Tables.{AreAdded, AreExact, IsGrown, IsLive, names_in}
-use Rattle.smith_validate.specs.Bodies.{IsBody, IsEmpty, IsFresh, IsIn}
-use Rattle.smith_validate.specs.Parts.{IsBegun, IsOpen, IsOpenBoth}
+use Rattle.smith_validate.specs.Bodies.{IsBody, IsIn}
+use Rattle.smith_validate.specs.Parts.{IsNew, IsOpen, IsOpenBoth}
 use Rattle.smith_validate.specs.declared.open.Open.{Open}
 use Rattle.smith_tree.specs.Spaces.{no_spaces}
 use Rattle.smith_validate.proofs.Declaring.{empty_exactly, entered_known}
@@ -147,15 +149,44 @@ pub body_counted : (k : Known) (o : KeptBody) (b : Body) (outer : List FactScope
     → ValidCounts (after b.counts) → IsBody true k (record o { counts = new }) (record b { counts = after b.counts }) outer names table
 body_counted k o b outer names table h new after added valid = grind (arith, role_of)
 
+abbrev pub with_counts : KeptBody → Counted → KeptBody
+with_counts o n = record o { counts = n }
+
+abbrev pub recounted : Body → Counts → Body
+recounted b n = record b { counts = n }
+
+role_recounted : (table : List Surface) (outer : List FactScope) (named : List Id) (r : Role) (b : Body) (n : Counts)
+    → IsRoleExactly table outer named true r b → IsRoleExactly table outer named true r (recounted b n)
+role_recounted table outer named (Names s) b n h = h
+role_recounted table outer named (Exporting e) b n h = h
+
+pub exactly_counted : (k : Known) (o : KeptBody) (b : Body) (outer : List FactScope) (named : List Id) (table : List Surface) (m : Counted) (n : Counts)
+    → IsBodyExactly true k o b outer named table → IsBodyExactly true k (with_counts o m) (recounted b n) outer named table
+exactly_counted k o b outer named table m n h = record {
+  known = h.known;
+  depth_is = h.depth_is;
+  exports_are = h.exports_are;
+  imports_are = h.imports_are;
+  role_is = role_recounted table outer named o.role b n h.role_is;
+}
+
+-- A component begins in these scopes. What is kept is of them, and exact.
+pub record IsBegun (k : Known) (outer : List FactScope) (named : List Id) (table : List Surface) : Type 0 where
+  pub names : List (List Id)
+  pub covered : List Surface
+  pub is : IsIn k empty_scope outer [] names covered
+  pub known : AreKnown (types_in k) k.instances.items (empty_scope ∷ outer) named table
+  pub depth_is : length outer ≡ length k.scopes.outer.items
+
 -- a component that begins
 
 pub open_begin : (k : Known) (o : Open) (outer : List FactScope) (names : List (List Id)) (table : List Surface) → IsIn k empty_scope outer [] names table
-    → o.functions.items ≡ [] → IsEmpty o.body → IsFresh true o.body.role → IsOpen k o (no_spaces, empty_body) outer names table
-open_begin k o outer names table s f e fresh = record { body = empty_is true k o.body outer names table s e fresh; functions_are = f }
+    → IsNew o → IsOpen k o (no_spaces, empty_body) outer names table
+open_begin k o outer names table s n = record { body = empty_is true k o.body outer names table s n.empty n.fresh; functions_are = n.functions_are }
 
 pub begun_both : (k : Known) (o : Open) (outer : List FactScope) (named : List Id) (table : List Surface) → IsBegun k outer named table
-    → o.functions.items ≡ [] → IsEmpty o.body → IsFresh true o.body.role → IsOpenBoth k o (no_spaces, empty_body) outer named table
-begun_both k o outer named table h f e fresh = grind (arith, open_begin, empty_exactly)
+    → IsNew o → IsOpenBoth k o (no_spaces, empty_body) outer named table
+begun_both k o outer named table h n = grind (arith, open_begin, empty_exactly)
 
 -- a component within another
 pub entered_begun : (k new : Known) (o : Open) (at : At) (outer : List FactScope) (named : List Id) (table : List Surface)

@@ -18,7 +18,7 @@ use Rattle.smith_validate.specs.Nested.{IsDeclared, instance_plain}
 use Rattle.smith_validate.specs.declared.body.Exported.{Exported}
 use Rattle.smith_validate.specs.declared.body.Extern.{Extern as KeptExtern}
 use Rattle.smith_validate.specs.declared.body.Role.{Role}
-use Rattle.smith_validate.specs.declared.body.Role.TheVariants.{Names, Exports as Exporting}
+use Rattle.smith_validate.specs.declared.body.Role.TheVariants.{Names, Exporting}
 use Rattle.smith_validate.specs.declared.body.Sets.{Sets}
 use Rattle.smith_validate.specs.declared.facts.Needs.{Needs}
 use Rattle.smith_validate.specs.declared.instances.InstanceType.{InstanceType}

@@ -1,21 +1,9 @@
--- Entries of a section, and sections of a component, one by one.
+-- Declarations one by one.
 use Rattle.std.proofs.Common.{◌≡◌, ◌↔◌, ℕ, ◌+◌, ◌<◌, List, [], ◌∷◌, ◌++◌, map, length, get_or, take, sym, ap, ◌∙◌, subst, refl}
 use Rattle.std.proofs.Math.ListN.{drop}
-use Rattle.std.proofs.lemmas.List.{map-append, map_more, take-append-drop, take-map}
+use Rattle.std.proofs.lemmas.List.{map-append, map_more, take-append-drop}
 use Rattle.smith_input.proofs.Rests.{rest_at}
-use Rattle.smith_tree.specs.Demands.{Demands, everything}
-use Rattle.smith_tree.specs.Facts.{FactScope}
-use Rattle.smith_tree.specs.Tree.{Part, tree_of}
-use Rattle.smith_tree.specs.Validates.{ValidPart, ValidParts}
-use Rattle.smith_validate.specs.Judges.{Refutes, asked}
-use Rattle.smith_validate.specs.Outcome.{asking}
-use Rattle.smith_validate.specs.Parts.{after_section}
-use Rattle.smith_validate.specs.Sections.{AreByEntry}
-use Rattle.smith_validate.specs.Steps.{At}
-use Rattle.smith_validate.specs.Stopping.{StopsBefore}
-use Rattle.smith_validate.specs.Usual.{AreUsualParts, IsUsualPart}
-use Rattle.smith_validate.specs.declared.error.Demand.TheVariants.{Named}
-use Rattle.smith_validate.specs.declared.error.Stop.{Stop}
+use Rattle.smith_tree.specs.Demands.{Demands}
 
 -- How a row is judged: each by what precedes it, which it adds to.
 pub record Row (B St : Type 0) : Type 1 where
@@ -29,34 +17,6 @@ pub record IsRow {B St : Type 0} (r : Row B St) : Type 0 where
   pub none : (d : Demands) (s : St) → r.valid d [] s
   pub more : (d : Demands) (x : B) (xs : List B) (s : St) → r.valid d (x ∷ xs) s ↔ (r.one d x s × r.valid d xs (r.next x s))
   pub usual_more : (x : B) (xs : List B) (s : St) → r.usual (x ∷ xs) s → r.one_usual x s × r.usual xs (r.next x s)
-
-abbrev pub section_row : {B : Type 0} → (List B → Part) → List FactScope → Row B At
-section_row section outer = record {
-  valid = λ d xs at. ValidPart d (section xs) at.0 outer at.1;
-  usual = λ xs at. IsUsualPart (section xs) at.0 outer at.1;
-  one = λ d x at. ValidPart d (section (x ∷ [])) at.0 outer at.1;
-  one_usual = λ x at. IsUsualPart (section (x ∷ [])) at.0 outer at.1;
-  next = λ x at. after_section (section (x ∷ [])) at outer;
-}
-
-pub section_is : {B : Type 0} (section : List B → Part) → AreByEntry section → (outer : List FactScope) → IsRow (section_row section outer)
-section_is section by outer = record {
-  none = λ d at. by.valid_none d at outer;
-  more = λ d x xs at. by.valid_more d x xs at outer;
-  usual_more = λ x xs at. by.usual_more x xs at outer;
-}
-
-abbrev pub parts_row : List FactScope → Row Part At
-parts_row outer = record {
-  valid = λ d ps at. ValidParts d (tree_of ps) at.0 outer at.1;
-  usual = λ ps at. AreUsualParts (tree_of ps) at.0 outer at.1;
-  one = λ d p at. ValidPart d p at.0 outer at.1;
-  one_usual = λ p at. IsUsualPart p at.0 outer at.1;
-  next = λ p at. after_section p at outer;
-}
-
-pub parts_are : (outer : List FactScope) → IsRow (parts_row outer)
-parts_are outer = record { none = λ d at. tt; more = λ d p ps at. (λ q. q, λ q. q); usual_more = λ p ps at u. u }
 
 -- what there is after some of a row
 abbrev pub run : {B St : Type 0} → (B → St → St) → List B → St → St
@@ -123,21 +83,3 @@ module _ {B St : Type 0} (r : Row B St) (is : IsRow r) where
     usual_at u =
         let rest = map shown (drop (i + 1) xs) in
         (is.usual_more (shown x) rest before (usual_append first (shown x ∷ rest) s (subst (λ ys. r.usual ys s) split_at u))).0
-
-    -- It stops before an entry that is not valid.
-
-    pub stops_at : {e : Stop} → r.valid everything first s → Refutes e (λ d. r.one d (shown x) before)
-        → StopsBefore e (λ d n. r.valid d (take n (map shown xs)) s) i
-    stops_at {e} v f = record {
-      met = subst (λ ys. r.valid everything ys s) (sym (take-map shown i xs)) v;
-      unmet = λ passed q. f.is passed ((valid_next (asked e)).0 (subst (λ ys. r.valid (asked e) ys s) (take-map shown (i + 1) xs) q)).1;
-    }
-
-    pub unnamed_at : ¬ (r.one (asking Named) (shown x) before) → ¬ (r.valid (asking Named) (take (i + 1) (map shown xs)) s)
-    unnamed_at f = λ q. f ((valid_next (asking Named)).0 (subst (λ ys. r.valid (asking Named) ys s) (take-map shown (i + 1) xs) q)).1
-
--- of a section that is a list, all of it
-pub run_section : {B : Type 0} (section : List B → Part) (by : AreByEntry section) (outer : List FactScope) (xs : List B) (at : At)
-    → run (section_row section outer).next xs at ≡ after_section (section xs) at outer
-run_section section by outer [] at = sym (by.after_none at outer)
-run_section section by outer (x ∷ xs) at = run_section section by outer xs (after_section (section (x ∷ [])) at outer) ∙ sym (by.after_more x xs at outer)

@@ -37,8 +37,8 @@ module _ (table : List Surface) (s : Exposed) (b : Body) (xs : List Extern) wher
   after_import_too x = exposed_sub table s [] (exported b ++ names_of xs) (exported (with_imports b xs)) (imports_export b xs) import_back x
 
   -- for exports, after an export
-  after_export : IsExposed table s [] (exported b ++ names_of xs) → IsExposed table s [] (exported (with_exports b xs))
-  after_export x = grind (arith, append_assoc, names_append)
+  also_exported : IsExposed table s [] (exported b ++ names_of xs) → IsExposed table s [] (exported (with_exports b xs))
+  also_exported x = grind (arith, append_assoc, names_append)
 
 module _ (table : List Surface) (place around : Id) (full : List Id) (k : KeptExtern) (xs : List Extern) (added : AreAdded place table)
     (i : IsPieceExactly table place around full k xs) (b : Body) where
@@ -56,11 +56,11 @@ module _ (table : List Surface) (place around : Id) (full : List Id) (k : KeptEx
   )
 
   pub export_alone : (s : Sets) → AreSetsExactly table s b → k.used ≡ None → AreSetsExactly table s (with_exports b xs)
-  export_alone s a e = (a.0, after_export table s.exported b xs (single_exposed table place around full k xs added i s.exported (exported b) e a.1))
+  export_alone s a e = (a.0, also_exported table s.exported b xs (single_exposed table place around full k xs added i s.exported (exported b) e a.1))
 
   pub export_used : (s : Sets) (n : Exposed) (u : Use) → AreSetsExactly table s b → k.used ≡ Some u → IsExposed table n [] (named_after table u (exported b))
       → AreSetsExactly table (record { imported = s.imported; exported = n }) (with_exports b xs)
-  export_used s n u a e x = (a.0, after_export table n b xs (used_exposed table place around full k xs added i n (exported b) u e x))
+  export_used s n u a e x = (a.0, also_exported table n b xs (used_exposed table place around full k xs added i n (exported b) u e x))
 
   -- what is found not to be met
   pub import_unmet : (u : Use) → k.used ≡ Some u → ¬ (IsMet table u (imported b)) → ¬ (RefersTo (imported b) xs)

@@ -15,7 +15,7 @@ use Rattle.smith_validate.specs.Marks.{Covers, IsAbove, no_needs}
 use Rattle.smith_validate.specs.declared.body.Body.{Body as Kept}
 use Rattle.smith_validate.specs.declared.body.Exported.{Exported}
 use Rattle.smith_validate.specs.declared.body.Role.{Role}
-use Rattle.smith_validate.specs.declared.body.Role.TheVariants.{Names, Exports as Exporting}
+use Rattle.smith_validate.specs.declared.body.Role.TheVariants.{Names, Exporting}
 use Rattle.smith_validate.specs.declared.body.Sets.{Sets}
 use Rattle.smith_validate.specs.declared.error.Stop.{Stop}
 use Rattle.smith_validate.specs.declared.known.Known.{Known}

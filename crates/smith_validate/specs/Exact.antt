@@ -19,7 +19,7 @@ use Rattle.smith_validate.specs.declared.body.Body.{Body as KeptBody}
 use Rattle.smith_validate.specs.declared.body.Exported.{Exported}
 use Rattle.smith_validate.specs.declared.body.Extern.{Extern as KeptExtern}
 use Rattle.smith_validate.specs.declared.body.Role.{Role}
-use Rattle.smith_validate.specs.declared.body.Role.TheVariants.{Names, Exports as Exporting}
+use Rattle.smith_validate.specs.declared.body.Role.TheVariants.{Names, Exporting}
 use Rattle.smith_validate.specs.declared.body.Sets.{Sets}
 use Rattle.smith_validate.specs.declared.facts.Facts.{Facts as KeptFacts}
 use Rattle.smith_validate.specs.declared.instances.InstanceType.{InstanceType}

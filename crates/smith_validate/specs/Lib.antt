@@ -16,9 +16,9 @@ pub mod Values
 pub mod Attained
 pub mod Places
 pub mod Tables
-pub mod Stopping
 pub mod Exact
 pub mod Opening
 pub mod Usual
 pub mod Exposure
-pub mod Sections
+pub mod Preceding
+pub mod Stepping

@@ -6,7 +6,6 @@ use Rattle.smith_tree.specs.Facts.{FactScope, Id}
 use Rattle.smith_tree.specs.Spaces.{Spaces}
 use Rattle.smith_validate.specs.Instances.{Surface}
 use Rattle.smith_validate.specs.Judges.{IsNamed, Judges}
-use Rattle.smith_validate.specs.Stopping.{OnStop}
 use Rattle.smith_validate.specs.declared.body.Body.{Body as Kept}
 use Rattle.smith_validate.specs.declared.error.Stop.{Stop}
 use Rattle.smith_validate.specs.declared.known.Known.{Known}
@@ -42,20 +41,6 @@ pub record StepsExactly {A S : Type 0} (result : Result A Stop) (Before After : 
       → OnOk result (After (after at outer) outer named table)
   pub refused : (at : S) (outer : List FactScope) (named : List Id) (table : List Surface) → Before at outer named table → Usual at outer
       → IfErr result (λ e. IsNamed e → ¬ (Valid at outer))
-
--- The same of a call that says where it stops.
-
-pub record Walks {A S : Type 0} (result : Result A Stop) (Before After : View S) (after : S → List FactScope → S)
-    (Valid : Demands → S → List FactScope → Type 0) (Stops : Stop → S → List FactScope → Type 0) : Type 0 where
-  pub steps : Steps result Before After after Valid
-  pub place : (at : S) (outer : List FactScope) (names : List (List Id)) (table : List Surface) → Before at outer names table
-      → OnStop result (λ e. Stops e at outer)
-
-pub record WalksExactly {A S : Type 0} (result : Result A Stop) (Before After : ExactView S) (after : S → List FactScope → S)
-    (Usual Valid Unnamed : S → List FactScope → Type 0) : Type 0 where
-  pub steps : StepsExactly result Before After after Usual Valid
-  pub unnamed : (at : S) (outer : List FactScope) (named : List Id) (table : List Surface) → Before at outer named table → Usual at outer
-      → IfErr result (λ e. IsNamed e → Unnamed at outer)
 
 -- All beside the innermost scope is what it was.
 pub record SameBeside (old new : Known) : Type 0 where

@@ -1,14 +1,13 @@
 //! A component, a component type or an instance type as far as it was judged.
 
-ghost use Rattle.std.specs.Prelude.{◌≡◌, ◌+◌, ◌++◌, ◌<◌, ℕ, false, true, IfErr, OnOk};
-ghost use Rattle.std.specs.Option.{option_to_list};
+ghost use Rattle.std.specs.Prelude.{◌≡◌, ◌+◌, ◌++◌, ◌<◌, ℕ, false, true, IfErr, OnOk, option_to_list};
 ghost use Rattle.smith_tree.specs.Demands.{Keeps};
 ghost use Rattle.smith_tree.specs.Sizes.{size_bound};
 ghost use Rattle.smith_validate.specs.Bodies.{IsEmpty, IsFresh, IsOther};
 ghost use Rattle.smith_validate.specs.Judges.{IsUnnamed, Judges};
 ghost use Rattle.smith_syntax.specs.Sizes.{capped};
 ghost use Rattle.smith_validate.specs.Marks.{both, closed_needs, is_below, not_below};
-ghost use Rattle.smith_validate.specs.declared.body.Role.TheVariants.{Exports, Names};
+ghost use Rattle.smith_validate.specs.declared.body.Role.TheVariants.{Exporting, Names};
 ghost use Rattle.smith_validate.specs.declared.error.Stop.TheVariants.{OutOfMemory};
 
 use crate::counts::Counts;
@@ -56,7 +55,7 @@ pub(crate) struct Exported {
 
 impl Exported {
     pub(crate) fn new(alloc: Global) -> Exported
-        ensures { IsFresh false (Exports result) }
+        ensures { IsFresh false (Exporting result) }
     {
         Exported {
             any: false,
@@ -129,7 +128,7 @@ fn not_below(level: Option<usize>, depth: usize) -> Option<usize>
 #[derive(Drop)]
 pub(crate) enum Role {
     Names(Sets),
-    Exports(Exported),
+    Exporting(Exported),
 }
 
 /// The effective size so far, how many entries there are, and what is kept of imports and exports.

@@ -1,6 +1,6 @@
 //! Core modules, section by section.
 
-ghost use Rattle.std.specs.Prelude.{◌≡◌, ◌↔◌, ◌≤◌, ◌<◌, ◌++◌, List, length, true, IfErr, IfOk, MatchOption, OnOk};
+ghost use Rattle.std.specs.Prelude.{◌≡◌, ◌↔◌, ◌≤◌, ◌<◌, ◌++◌, length, true, IfErr, IfOk, MatchOption, OnOk};
 ghost use Rattle.smith_core.specs.Preamble.{core_preamble};
 ghost use Rattle.smith_format.specs.Piece.{◌⊕◌, bytes};
 ghost use Rattle.smith_tree.specs.CoreModules.{CountsFew, HasFewMemories, section};

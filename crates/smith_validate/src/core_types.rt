@@ -1,10 +1,8 @@
 //! Core types.
 
-ghost use Rattle.std.specs.Prelude.{◌≡◌, ◌+◌, ◌≤◌, ◌<◌, ◌++◌, [], List, map, option_map, slice_get, IfErr, IfOk};
-ghost use Rattle.std.specs.Prelude.{OnOk};
-ghost use Rattle.std.specs.Option.{option_to_list};
+ghost use Rattle.std.specs.Prelude.{◌≡◌, ◌+◌, ◌≤◌, ◌<◌, ◌++◌, [], List, map, option_map, IfErr, IfOk, OnOk};
+ghost use Rattle.std.specs.Prelude.{option_to_list};
 ghost use Rattle.smith_format.specs.CoreTypes.{Function};
-ghost use Rattle.smith_format.specs.Shown.{shown_func};
 ghost use Rattle.smith_format.specs.declared.types.ExportKind.TheVariants as kind;
 ghost use Rattle.smith_syntax.specs.Entries.{core_module};
 ghost use Rattle.smith_syntax.specs.ModuleTypes.{adds, aliased};
@@ -17,8 +15,8 @@ ghost use Rattle.smith_syntax.specs.Sizes.{capped};
 ghost use Rattle.smith_syntax.specs.OwnSizes.{added_size, sizes_in};
 ghost use Rattle.smith_validate.specs.Kept.{kept_core, kept_in, kept_of};
 ghost use Rattle.smith_validate.specs.declared.error.Stop.TheVariants.{Invalid};
-ghost use Rattle.smith_validate.specs.Modules.{Fits, Grows, IsSmallModule, entries_in, memories_in};
-ghost use Rattle.smith_validate.specs.Modules.{one_of_kind, tables_in};
+ghost use Rattle.smith_validate.specs.Modules.{Fits, Grows, IsSmallModule, entries_in, memories_in, one_of_kind};
+ghost use Rattle.smith_validate.specs.Modules.{tables_in};
 
 use crate::error::{Demand, Stop};
 use crate::facts::CoreFacts;

@@ -1,12 +1,11 @@
 //! How many entries there are, by their sort.
 
-ghost use Rattle.std.specs.Prelude.{◌≡◌, ◌+◌, ◌≤◌, IfErr, IfOk, OnOk};
-ghost use Rattle.smith_tree.specs.Counts.{no_counts, with_component, with_export, with_function};
-ghost use Rattle.smith_tree.specs.Counts.{with_import, with_module, with_reference, with_type_count};
+ghost use Rattle.std.specs.Prelude.{◌≡◌, ◌+◌, ◌≤◌, IfErr, IfOk};
+ghost use Rattle.smith_tree.specs.Counts.{no_counts, with_component, with_export, with_function, with_import};
+ghost use Rattle.smith_tree.specs.Counts.{with_module, with_reference, with_type_count};
 ghost use Rattle.smith_tree.specs.Demands.{Keeps};
 ghost use Rattle.smith_validate.specs.Counted.{IsCounted, counted};
 ghost use Rattle.smith_validate.specs.Judges.{IsUnnamed, Judges};
-ghost use Rattle.smith_validate.specs.declared.error.Stop.TheVariants.{OutOfMemory};
 
 use crate::error::{Demand, Stop};
 use smith_syntax::ComponentTypeRef;
@@ -41,15 +40,6 @@ fn one_more(count: usize, most: usize) -> Result<usize, Stop>
     } else {
         Err(Stop::Invalid(Demand::Count))
     }
-}
-
-/// Passes an item. Memory is exhausted before numbers are.
-pub(crate) fn pass_item(item: &mut usize) -> Result<(), Stop>
-    ensures passed { OnOk result (item.new ≡ item.old + 1) }
-    ensures memory { IfErr result (λ e. e ≡ OutOfMemory) }
-{
-    *item = item.checked_add(1).ok_or(Stop::OutOfMemory)?;
-    Ok(())
 }
 
 impl Counts {

@@ -1,7 +1,6 @@
 //! What is known of a type when it is named.
 
-ghost use Rattle.std.specs.Prelude.{◌≡◌, ◌+◌};
-ghost use Rattle.smith_syntax.specs.Sizes.{capped};
+ghost use Rattle.std.specs.Prelude.{◌≡◌};
 ghost use Rattle.smith_validate.specs.Marks.{both, greater_of, instance_facts, is_nothing, is_within, named_facts};
 ghost use Rattle.smith_validate.specs.Marks.{named_needs, no_needs, nominal_facts, outer_of, outer_outside};
 ghost use Rattle.smith_validate.specs.Marks.{plain_facts, unnamed_needs};

@@ -1,7 +1,7 @@
 //! What is known before a place.
 
-ghost use Rattle.std.specs.Prelude.{◌≡◌, ◌∷◌, ◌++◌, [], length, option_map, slice_get, IfErr, MatchOption};
-ghost use Rattle.std.specs.Prelude.{None, OnOk, Some};
+ghost use Rattle.std.specs.Prelude.{◌≡◌, ◌∷◌, ◌++◌, [], length, option_map, slice_get, IfErr, MatchOption, None, OnOk};
+ghost use Rattle.std.specs.Prelude.{Some};
 ghost use Rattle.smith_syntax.specs.Scope.{empty_scope, with_core_type, with_type};
 ghost use Rattle.smith_validate.specs.Kept.{kept_in, named_at, outer_in, own_in, type_in, types_in};
 ghost use Rattle.smith_validate.specs.Steps.{SameBeside};
@@ -10,7 +10,7 @@ ghost use Rattle.smith_validate.specs.declared.error.Stop.TheVariants.{OutOfMemo
 use crate::error::Stop;
 use crate::facts::{CoreFacts, Facts};
 use crate::instances::InstanceType;
-use smith_scopes::Nest;
+use smith_scope::Nest;
 use std::alloc::Global;
 
 /// The types and core types of a scope.

@@ -3,6 +3,7 @@
 #![tactic(auto)]
 
 mod body;
+mod check;
 mod core_modules;
 mod core_types;
 mod counts;
@@ -11,11 +12,11 @@ mod facts;
 mod instances;
 mod known;
 mod open;
-mod parts;
 mod references;
 mod rows;
 mod types;
 mod values;
+mod walk;
 
 pub use error::{Demand, Shortfall, Validity};
-pub use parts::validated;
+pub use walk::validated;

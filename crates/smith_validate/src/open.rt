@@ -1,7 +1,7 @@
 //! An open component without its types.
 
-ghost use Rattle.std.specs.Prelude.{◌≡◌, [], true, slice_get};
-ghost use Rattle.smith_validate.specs.Bodies.{IsEmpty, IsFresh};
+ghost use Rattle.std.specs.Prelude.{◌≡◌, slice_get};
+ghost use Rattle.smith_validate.specs.Parts.{IsNew};
 
 use crate::body::{Body, Role, Sets};
 use std::alloc::Global;
@@ -16,9 +16,7 @@ pub(crate) struct Open {
 impl Open {
     /// An empty one.
     pub(crate) fn new(alloc: Global) -> Open
-        ensures functions { result.functions.items ≡ [] }
-        ensures body { IsEmpty result.body }
-        ensures role { IsFresh true result.body.role }
+        ensures { IsNew result }
     {
         Open {
             functions: Vec::new(alloc),

@@ -1,9 +1,7 @@
 //! Imports and exports.
 
 ghost use Rattle.std.specs.Prelude.{◌≡◌, ◌∷◌, ◌+◌, ◌++◌, Bool, false, true, List, Some, get_or, length, map, slice_get};
-ghost use Rattle.std.specs.Prelude.{IfErr, OnOk};
-ghost use Rattle.std.specs.List.{flat_map};
-ghost use Rattle.std.specs.Option.{option_map, option_to_list};
+ghost use Rattle.std.specs.Prelude.{IfErr, OnOk, flat_map, option_map, option_to_list};
 ghost use Rattle.smith_syntax.specs.Scope.{with_types};
 ghost use Rattle.smith_tree.specs.Bodies.{Body as PlainBody, IsSmall, after_export, after_import, exported_facts};
 ghost use Rattle.smith_tree.specs.Bodies.{externs_at, module_size_at, reference_size};
@@ -13,10 +11,10 @@ ghost use Rattle.smith_tree.specs.Facts.{Extern as PlainExtern, FactScope, Facts
 ghost use Rattle.smith_tree.specs.Validates.{RefersTo, exported, imported, names_of};
 ghost use Rattle.smith_validate.specs.Bodies.{AreSets, IsBody, IsIn, IsOther, IsRole};
 ghost use Rattle.smith_validate.specs.Counted.{counted};
-ghost use Rattle.smith_validate.specs.Exact.{AreNamedFor, AreSetsExactly, IsBodyExactly, IsPieceExactly};
-ghost use Rattle.smith_validate.specs.Exact.{IsRoleExactly, IsRoleExported, IsKeptBody};
-ghost use Rattle.smith_validate.specs.Externs.{IsAsked, IsAskedFor, IsExtern, extern_of, instance_of};
-ghost use Rattle.smith_validate.specs.Externs.{exported_of, kept_extern, kept_instance, with_exports, with_imports};
+ghost use Rattle.smith_validate.specs.Exact.{AreNamedFor, AreSetsExactly, IsBodyExactly, IsPieceExactly, IsRoleExactly};
+ghost use Rattle.smith_validate.specs.Exact.{IsRoleExported};
+ghost use Rattle.smith_validate.specs.Externs.{IsAsked, IsAskedFor, IsExtern, extern_of, instance_of, exported_of};
+ghost use Rattle.smith_validate.specs.Externs.{kept_extern, kept_instance, with_exports, with_imports};
 ghost use Rattle.smith_validate.specs.Instances.{AreKept, Surface, IsTable};
 ghost use Rattle.smith_validate.specs.Judges.{IsNamed, IsUnnamed, Judges};
 ghost use Rattle.smith_syntax.specs.Sizes.{capped};
@@ -24,6 +22,7 @@ ghost use Rattle.smith_validate.specs.Kept.{kept_of, own_in};
 ghost use Rattle.smith_validate.specs.Steps.{SameBeside};
 ghost use Rattle.smith_validate.specs.Tables.{AreAdded, AreExact};
 ghost use Rattle.smith_validate.specs.Usual.{IsUsualImport};
+ghost use Rattle.smith_validate.specs.Preceding.{AmongKept, InBody, InBodyExactly, InScopes};
 
 use crate::body::{Body, Extern, Role, Sets};
 use crate::counts::Counts;
@@ -104,9 +103,8 @@ fn equal_at(known: &Known, index: u32) -> Option<Extern>
 #[tactic(auto, using(crate::proofs::Externs::instance_found, crate::proofs::Externs::instance_missing))]
 fn instance_at(known: &Known, index: u32) -> Option<Extern>
     ensures marks { result ≡ instance_of known.now.scopes.own.types.items index }
-    ensures found { (types : List PlainFacts) (names : List (List Id)) (table : List Surface)
-        → AreKept table names known.now.scopes.own.types.items types → IsExtern table names result
-        (flat_map (λ f. f.exports) (option_to_list (slice_get types index))) }
+    ensures found { AmongKept known.now.scopes.own.types.items (λ types names table.
+        IsExtern table names result (flat_map (λ f. f.exports) (option_to_list (slice_get types index)))) }
 {
     match known.scopes.own.type_at(index) {
         Some(facts) => instance_extern(facts),
@@ -220,19 +218,17 @@ fn name_import(
         (table : List Surface) → IsIn known.now b.own outer (names_of b.exports) names table
         → IsRole table names asks role.old b → OnOk result (RefersTo (imported b) (externs_at b.own outer to)
         × IsRole table names asks role.new (after_import outer b to)) }
-    ensures exact { (asks : Bool) (b : PlainBody) (outer : List FactScope) (named : List Id) (table : List Surface)
-        → IsKeptBody asks known.now role.old b outer named table → IsUsualImport asks to
-        → OnOk result (IsRoleExactly table outer named asks role.new (after_import outer b to)) }
-    ensures refused { (asks : Bool) (b : PlainBody) (outer : List FactScope) (named : List Id)
-        (table : List Surface) → IsKeptBody asks known.now role.old b outer named table → IsUsualImport asks to
-        → IfErr result (λ e. IsNamed e → ¬ (RefersTo (imported b) (externs_at b.own outer to))) }
+    ensures exact { InBodyExactly known.now role.old (λ asks b outer named table. IsUsualImport asks to
+        → OnOk result (IsRoleExactly table outer named asks role.new (after_import outer b to))) }
+    ensures refused { InBodyExactly known.now role.old (λ asks b outer named table. IsUsualImport asks to
+        → IfErr result (λ e. IsNamed e → ¬ (RefersTo (imported b) (externs_at b.own outer to)))) }
 {
     let Some(what) = extern_at(known, to) else {
         return Ok(());
     };
     match role {
         Role::Names(sets) => sets.import(alloc, &known.instances, what),
-        Role::Exports(_) => check(false),
+        Role::Exporting(_) => check(false),
     }
 }
 
@@ -248,19 +244,17 @@ fn name_export(
         (table : List Surface) → IsIn known.now b.own outer (names_of b.exports) names table
         → IsRole table names asks role.old b → OnOk result (IsAsked asks (exported b) (externs_at b.own outer to)
         × IsRole table names asks role.new (after_export outer b to)) }
-    ensures exact { (asks : Bool) (b : PlainBody) (outer : List FactScope) (named : List Id) (table : List Surface)
-        → IsKeptBody asks known.now role.old b outer named table
-        → OnOk result (IsRoleExported table outer named asks role.new b (externs_at b.own outer to)) }
-    ensures refused { (asks : Bool) (b : PlainBody) (outer : List FactScope) (named : List Id)
-        (table : List Surface) → IsKeptBody asks known.now role.old b outer named table
-        → IfErr result (λ e. IsNamed e → ¬ (IsAsked asks (exported b) (externs_at b.own outer to))) }
+    ensures exact { InBodyExactly known.now role.old (λ asks b outer named table.
+        OnOk result (IsRoleExported table outer named asks role.new b (externs_at b.own outer to))) }
+    ensures refused { InBodyExactly known.now role.old (λ asks b outer named table.
+        IfErr result (λ e. IsNamed e → ¬ (IsAsked asks (exported b) (externs_at b.own outer to)))) }
 {
     let Some(what) = extern_at(known, to) else {
         return Ok(());
     };
     match role {
         Role::Names(sets) => sets.export(alloc, &known.instances, known.depth(), what),
-        Role::Exports(exported) => exported.export(what),
+        Role::Exporting(exported) => exported.export(what),
     }
 }
 
@@ -271,19 +265,14 @@ pub(crate) fn add_import(
     body: &mut Body,
     to: ComponentTypeRef,
 ) -> Result<(), Stop>
-    ensures judged { (asks : Bool) (b : PlainBody) (outer : List FactScope) (names : List (List Id))
-        (table : List Surface) → IsBody asks known.now body.old b outer names table
-        → Judges result (λ d. Keeps d.names (RefersTo (imported b) (externs_at b.own outer to))
-        × IsSmall d (after_import outer b to)) }
-    ensures added { (asks : Bool) (b : PlainBody) (outer : List FactScope) (names : List (List Id))
-        (table : List Surface) → IsBody asks known.now body.old b outer names table
-        → OnOk result (IsBody asks known.now body.new (after_import outer b to) outer names table) }
-    ensures exact { (asks : Bool) (b : PlainBody) (outer : List FactScope) (named : List Id) (table : List Surface)
-        → IsBodyExactly asks known.now body.old b outer named table → IsUsualImport asks to
-        → OnOk result (IsBodyExactly asks known.now body.new (after_import outer b to) outer named table) }
-    ensures refused { (asks : Bool) (b : PlainBody) (outer : List FactScope) (named : List Id)
-        (table : List Surface) → IsBodyExactly asks known.now body.old b outer named table → IsUsualImport asks to
-        → IfErr result (λ e. IsNamed e → ¬ (RefersTo (imported b) (externs_at b.own outer to))) }
+    ensures judged { InBody known.now body.old (λ asks b outer names table. Judges result (λ d.
+        Keeps d.names (RefersTo (imported b) (externs_at b.own outer to)) × IsSmall d (after_import outer b to))) }
+    ensures added { InBody known.now body.old (λ asks b outer names table.
+        OnOk result (IsBody asks known.now body.new (after_import outer b to) outer names table)) }
+    ensures exact { InBodyExactly known.now body.old.role (λ asks b outer named table. IsUsualImport asks to
+        → OnOk result (IsBodyExactly asks known.now body.new (after_import outer b to) outer named table)) }
+    ensures refused { InBodyExactly known.now body.old.role (λ asks b outer named table. IsUsualImport asks to
+        → IfErr result (λ e. IsNamed e → ¬ (RefersTo (imported b) (externs_at b.own outer to)))) }
 {
     name_import(alloc, known, &mut body.role, to)?;
     body.counts.add_import(to)?;
@@ -296,17 +285,14 @@ fn add_exported(known: &mut Known, counts: &mut Counts, to: ComponentTypeRef) ->
     ensures types { OnOk result (known.new.scopes.own.types.items ≡ known.old.scopes.own.types.items
         ++ exported_of known.old.scopes.own.types.items (length known.old.scopes.outer.items) to) }
     ensures beside { SameBeside known.old known.new }
-    ensures judged { (own : FactScope) (outer : List FactScope) (here : List Id) (names : List (List Id))
-        (table : List Surface) → IsIn known.old own outer here names table → ValidCounts (counted counts.old)
+    ensures judged { InScopes known.old (λ own outer here names table. ValidCounts (counted counts.old)
         → Judges result (λ d. Keeps d.counts
-        (ValidCounts (with_type_count (counted counts.old) (length (exported_facts own outer to))))) }
-    ensures added { (own : FactScope) (outer : List FactScope) (here : List Id) (names : List (List Id))
-        (table : List Surface) → IsIn known.old own outer here names table → OnOk result
+        (ValidCounts (with_type_count (counted counts.old) (length (exported_facts own outer to)))))) }
+    ensures added { InScopes known.old (λ own outer here names table. OnOk result
         (IsIn known.new (with_types own (exported_facts own outer to)) outer
-        (here ++ names_of (externs_at own outer to)) names table) }
-    ensures counts { (own : FactScope) (outer : List FactScope) (here : List Id) (names : List (List Id))
-        (table : List Surface) → IsIn known.old own outer here names table → OnOk result
-        (counted counts.new ≡ with_type_count (counted counts.old) (length (exported_facts own outer to))) }
+        (here ++ names_of (externs_at own outer to)) names table)) }
+    ensures counts { InScopes known.old (λ own outer here names table. OnOk result
+        (counted counts.new ≡ with_type_count (counted counts.old) (length (exported_facts own outer to)))) }
 {
     let ComponentTypeRef::TypeEq(index) = to else {
         return Ok(());
@@ -326,19 +312,14 @@ pub(crate) fn add_export(
     body: &mut Body,
     to: ComponentTypeRef,
 ) -> Result<(), Stop>
-    ensures judged { (asks : Bool) (b : PlainBody) (outer : List FactScope) (names : List (List Id))
-        (table : List Surface) → IsBody asks known.old body.old b outer names table
-        → Judges result (λ d. IsAskedFor d asks (exported b) (externs_at b.own outer to)
-        × IsSmall d (after_export outer b to)) }
-    ensures added { (asks : Bool) (b : PlainBody) (outer : List FactScope) (names : List (List Id))
-        (table : List Surface) → IsBody asks known.old body.old b outer names table
-        → OnOk result (IsBody asks known.new body.new (after_export outer b to) outer names table) }
-    ensures exact { (asks : Bool) (b : PlainBody) (outer : List FactScope) (named : List Id) (table : List Surface)
-        → IsBodyExactly asks known.old body.old b outer named table
-        → OnOk result (IsBodyExactly asks known.new body.new (after_export outer b to) outer named table) }
-    ensures refused { (asks : Bool) (b : PlainBody) (outer : List FactScope) (named : List Id)
-        (table : List Surface) → IsBodyExactly asks known.old body.old b outer named table
-        → IfErr result (λ e. IsNamed e → ¬ (IsAsked asks (exported b) (externs_at b.own outer to))) }
+    ensures judged { InBody known.old body.old (λ asks b outer names table. Judges result (λ d.
+        IsAskedFor d asks (exported b) (externs_at b.own outer to) × IsSmall d (after_export outer b to))) }
+    ensures added { InBody known.old body.old (λ asks b outer names table.
+        OnOk result (IsBody asks known.new body.new (after_export outer b to) outer names table)) }
+    ensures exact { InBodyExactly known.old body.old.role (λ asks b outer named table.
+        OnOk result (IsBodyExactly asks known.new body.new (after_export outer b to) outer named table)) }
+    ensures refused { InBodyExactly known.old body.old.role (λ asks b outer named table.
+        IfErr result (λ e. IsNamed e → ¬ (IsAsked asks (exported b) (externs_at b.own outer to)))) }
     ensures outer { known.new.scopes.outer.items ≡ known.old.scopes.outer.items }
 {
     name_export(alloc, known, &mut body.role, to)?;

@@ -1,25 +1,21 @@
 //! Types of values and of functions.
 
 ghost use Rattle.std.specs.Prelude.{◌≡◌, ◌+◌, ◌<◌, ◌++◌, ◌∷◌, [], false, List, Option, None, Some, map, sum, IfErr};
-ghost use Rattle.std.specs.Prelude.{IfOk};
-ghost use Rattle.std.specs.List.{flat_map};
-ghost use Rattle.std.specs.Option.{option_to_list};
+ghost use Rattle.std.specs.Prelude.{IfOk, flat_map, option_to_list};
 ghost use Rattle.smith_syntax.specs.Shown.{shown_defined};
 ghost use Rattle.smith_syntax.specs.declared.types.ComponentValType.{ComponentValType};
-ghost use Rattle.smith_tree.specs.Facts.{FactScope, Facts as PlainFacts, Id, is_nominal, members, sizes};
-ghost use Rattle.smith_tree.specs.Facts.{value_needs};
+ghost use Rattle.smith_tree.specs.Facts.{FactScope, Facts as PlainFacts, Id, is_nominal, members, sizes, value_needs};
 ghost use Rattle.smith_tree.specs.Demands.{Keeps};
-ghost use Rattle.smith_tree.specs.Sizes.{SmallDefined, defined_size, maybe_size, signature_members};
-ghost use Rattle.smith_tree.specs.Sizes.{signature_size, size_bound};
-ghost use Rattle.smith_tree.specs.Sizes.{summed, value_size};
+ghost use Rattle.smith_tree.specs.Sizes.{SmallDefined, defined_size, maybe_size, signature_members, signature_size};
+ghost use Rattle.smith_tree.specs.Sizes.{size_bound, summed, value_size};
 ghost use Rattle.smith_validate.specs.Instances.{AreKept, Surface, IsKept};
 ghost use Rattle.smith_validate.specs.Judges.{IsUnnamed, Judges};
 ghost use Rattle.smith_syntax.specs.Sizes.{capped};
 ghost use Rattle.smith_validate.specs.Kept.{kept_in, kept_of};
 ghost use Rattle.smith_validate.specs.Marks.{Covers, both, no_needs, nominal_facts, plain_facts};
 ghost use Rattle.smith_validate.specs.Values.{AreValues, CoversValues, HasMarks, defined_plain, function_plain};
-ghost use Rattle.smith_validate.specs.Values.{marks_from};
-ghost use Rattle.smith_validate.specs.Values.{value_marks};
+ghost use Rattle.smith_validate.specs.Values.{marks_from, value_marks};
+ghost use Rattle.smith_validate.specs.Preceding.{AmongKept};
 
 use crate::error::{Demand, Stop};
 use crate::facts::{Facts, Needs};
@@ -102,8 +98,8 @@ impl Values {
 fn value_of(scope: &Scope, ty: ComponentValType) -> (Needs, u32)
     ensures size { (own : FactScope) → kept_in scope.now ≡ kept_of own
         → result.1 ≡ capped (value_size (sizes own.types) ty) }
-    ensures needs { (types : List PlainFacts) (names : List (List Id)) (table : List Surface)
-        → AreKept table names scope.now.types.items types → Covers names result.0 (value_needs types ty) }
+    ensures needs { AmongKept scope.now.types.items (λ types names table.
+        Covers names result.0 (value_needs types ty)) }
     ensures marks { result.0 ≡ value_marks scope.now.types.items ty }
 {
     match ty {
@@ -119,9 +115,8 @@ fn value_of(scope: &Scope, ty: ComponentValType) -> (Needs, u32)
 fn values_of<T: Valued>(scope: &Scope, items: &[T]) -> Values
     ensures size { (own : FactScope) → kept_in scope.now ≡ kept_of own
         → result.size ≡ capped (summed (sizes own.types) (flat_map (λ i. option_to_list (T.value i)) items.now)) }
-    ensures needs { (types : List PlainFacts) (names : List (List Id)) (table : List Surface)
-        → AreKept table names scope.now.types.items types
-        → CoversValues types names result.needs (flat_map (λ i. option_to_list (T.value i)) items.now) }
+    ensures needs { AmongKept scope.now.types.items (λ types names table.
+        CoversValues types names result.needs (flat_map (λ i. option_to_list (T.value i)) items.now)) }
     ensures marks { result.needs
         ≡ marks_from scope.now.types.items no_needs (flat_map (λ i. option_to_list (T.value i)) items.now) }
 {
@@ -217,9 +212,8 @@ pub(crate) fn defined_facts(scope: &Scope, ty: &DefinedType) -> Result<Facts, St
         → Judges result (λ d. Keeps d.sizes (SmallDefined (sizes own.types) (shown_defined ty.now))) }
     ensures size { (own : FactScope) → kept_in scope.now ≡ kept_of own
         → IfOk result (λ f. f.size ≡ capped (defined_size (sizes own.types) (shown_defined ty.now))) }
-    ensures kept { (id : Id) (types : List PlainFacts) (names : List (List Id)) (table : List Surface)
-        → AreKept table names scope.now.types.items types
-        → IfOk result (λ f. IsKept table names f (defined_plain id types (shown_defined ty.now))) }
+    ensures kept { (id : Id) → AmongKept scope.now.types.items (λ types names table.
+        IfOk result (λ f. IsKept table names f (defined_plain id types (shown_defined ty.now)))) }
     ensures marks { IfOk result (λ f. HasMarks f (is_nominal (shown_defined ty.now))
         (marks_from scope.now.types.items no_needs (members (shown_defined ty.now)))) }
 {
@@ -237,9 +231,8 @@ pub(crate) fn function_facts(scope: &Scope, ty: &FuncType) -> Result<Facts, Stop
         → Judges result (λ d. Keeps d.sizes (signature_size (sizes own.types) ty.now < size_bound)) }
     ensures size { (own : FactScope) → kept_in scope.now ≡ kept_of own
         → IfOk result (λ f. f.size ≡ capped (signature_size (sizes own.types) ty.now)) }
-    ensures kept { (id : Id) (types : List PlainFacts) (names : List (List Id)) (table : List Surface)
-        → AreKept table names scope.now.types.items types
-        → IfOk result (λ f. IsKept table names f (function_plain id types ty.now)) }
+    ensures kept { (id : Id) → AmongKept scope.now.types.items (λ types names table.
+        IfOk result (λ f. IsKept table names f (function_plain id types ty.now))) }
     ensures marks { IfOk result (λ f. HasMarks f false
         (marks_from scope.now.types.items no_needs (signature_members ty.now))) }
 {

@@ -13,12 +13,14 @@ use crate::validity::Validity;
 use crate::verdict::Verdict;
 
 /// The bytes of a component that can be generated, such as `generate` returns, are found well formed.
+#[tactic(auto, using(crate::proofs::WellFormed::found_formed))]
 pub fn generated_components_are_well_formed()
     ensures { (config : Config) (tree : Tree) (bytes : List ℕ) (found : Verdict) → IsConsistent config
         → CanBeGenerated config tree → Spells tree bytes → IsVerdict bytes found → found ≡ Verdict.WellFormed }
 {}
 
 /// If components must validate, the bytes of one that can be generated, such as `generate` returns, are found valid.
+#[tactic(auto, using(crate::proofs::WellFormed::found_valid))]
 pub fn generated_components_are_valid()
     ensures { (config : Config) (tree : Tree) (bytes : List ℕ) (found : Validity) → config.must_validate ≡ true
         → IsConsistent config → CanBeGenerated config tree → Spells tree bytes → IsValidity bytes found

@@ -1,7 +1,6 @@
 //! Canonical functions: component functions are lowered, and core functions lifted.
 
-ghost use Rattle.std.specs.Prelude.{◌≡◌, ◌-◌, ◌<◌, ◌≤◌, List, [], length, IfOk, OnOk};
-ghost use Rattle.std.specs.Prelude.{IfErr, MatchOption};
+ghost use Rattle.std.specs.Prelude.{◌≡◌, ◌-◌, ◌<◌, ◌≤◌, List, [], length, IfOk, OnOk, IfErr, MatchOption};
 ghost use Rattle.smith_input.specs.Choices.{ReadsAmong};
 ghost use Rattle.smith_input.specs.Loops.{Loop};
 ghost use Rattle.smith_input.specs.Consumes.{Consumes};

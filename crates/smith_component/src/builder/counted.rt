@@ -3,9 +3,8 @@
 ghost use Rattle.std.specs.Prelude.{◌≡◌, ◌≤◌, OnOk};
 ghost use Rattle.smith_input.specs.Consumes.{Consumes};
 ghost use Rattle.smith_component.specs.BuilderView.{stack_of, IsSound};
-ghost use Rattle.smith_component.specs.Fills.{count_of, minimum_of};
+ghost use Rattle.smith_component.specs.Fills.{count_of, minimum_of, Fills};
 ghost use Rattle.smith_component.specs.Filling.{IsMinimum};
-ghost use Rattle.smith_component.specs.Fills.{Fills};
 ghost use Rattle.smith_component.specs.Refusals.{IsAnswered};
 ghost use Rattle.smith_component.specs.Steps.{Grows};
 

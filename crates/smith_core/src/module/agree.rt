@@ -1,6 +1,6 @@
 //! Whether the parts of a core module agree with one another.
 
-ghost use Rattle.std.specs.Prelude.{◌≡◌, ◌<◌, ◌≤◌, ◌↔◌, length, IsTrue};
+ghost use Rattle.std.specs.Prelude.{◌<◌, ◌≤◌, ◌↔◌, length, IsTrue};
 ghost use Rattle.std.specs.List.{AllByRecursion};
 ghost use Rattle.smith_core.specs.Parts.{Agree, AgreesWith, NamesTable, Tiles};
 

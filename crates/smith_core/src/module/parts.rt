@@ -1,6 +1,6 @@
 //! The parts of a core module.
 
-ghost use Rattle.std.specs.Prelude.{◌≡◌, false, [], None};
+ghost use Rattle.std.specs.Prelude.{false, None};
 
 use crate::module::segments::{Code, DataSegment, ElementSegment};
 use crate::module::types::SubType;

@@ -2,7 +2,7 @@
 //! The length of each is put before its contents once they are written.
 #![tactic(auto, using(smith_format::proofs::Steps::writing, smith_format::proofs::Sizes::measuring))]
 
-ghost use Rattle.std.specs.Prelude.{◌≡◌, ℕ, ◌≤◌, ◌<◌, ◌^◌, length, IfOk};
+ghost use Rattle.std.specs.Prelude.{◌≡◌, ◌≤◌, ◌<◌, ◌^◌, length, IfOk};
 ghost use Rattle.smith_format.specs.Writing.{Puts, IsLengthOf, Measures};
 ghost use Rattle.smith_core.specs.Module.{contents, is_written, section, module_text, last, start};
 ghost use Rattle.smith_core.specs.Parts.{Agree};

@@ -4,6 +4,7 @@ ghost use Rattle.std.specs.Prelude.{◌≡◌, map, IfOk};
 ghost use Rattle.smith_format.specs.Shown.{shown_func};
 
 use crate::rows::Row;
+use crate::walk::Walk;
 use smith_format::FuncType;
 use smith_read::{CoreNode, Func, ModuleNode};
 use std::alloc::{AllocError, Global};
@@ -14,37 +15,19 @@ pub(crate) trait Simplest: Row {
         ensures { IfOk result (λ x. Self.shown x ≡ Self.shown self.now) };
 }
 
+impl Simplest for ModuleNode {
+    #[tactic(auto, using(crate::proofs::Still::module_still))]
+    fn copied(&self, alloc: Global) -> Result<ModuleNode, AllocError> {
+        self.edited(&mut Walk::still(alloc))?.ok_or(AllocError)
+    }
+}
+
 fn copy_function(alloc: Global, ty: &FuncType) -> Result<FuncType, AllocError>
     ensures { IfOk result (λ f. shown_func f ≡ shown_func ty.now) }
 {
     let params = Vec::from_slice(alloc, &ty.params)?;
     let results = Vec::from_slice(alloc, &ty.results)?;
     Ok(FuncType { params, results })
-}
-
-impl Simplest for ModuleNode {
-    fn copied(&self, alloc: Global) -> Result<ModuleNode, AllocError> {
-        match self {
-            ModuleNode::Func(ty) => Ok(ModuleNode::Func(copy_function(alloc, ty)?)),
-            ModuleNode::Import {
-                module,
-                name,
-                entity,
-            } => Ok(ModuleNode::Import {
-                module: String::from_str(alloc, module.as_str())?,
-                name: String::from_str(alloc, name.as_str())?,
-                entity: *entity,
-            }),
-            ModuleNode::OuterAlias { count, index } => Ok(ModuleNode::OuterAlias {
-                count: *count,
-                index: *index,
-            }),
-            ModuleNode::Export { name, entity } => Ok(ModuleNode::Export {
-                name: String::from_str(alloc, name.as_str())?,
-                entity: *entity,
-            }),
-        }
-    }
 }
 
 impl Simplest for CoreNode {
@@ -57,23 +40,12 @@ impl Simplest for CoreNode {
 }
 
 impl Simplest for Func {
-    fn copied(&self, _alloc: Global) -> Result<Func, AllocError> {
-        match self {
-            Func::CanonLift {
-                func_ty,
-                core_func_index,
-            } => Ok(Func::CanonLift {
-                func_ty: *func_ty,
-                core_func_index: *core_func_index,
-            }),
-            Func::CanonLower { func_index } => Ok(Func::CanonLower {
-                func_index: *func_index,
-            }),
-        }
+    #[tactic(auto, using(crate::proofs::Still::canon_still))]
+    fn copied(&self, alloc: Global) -> Result<Func, AllocError> {
+        self.edited(&mut Walk::still(alloc))?.ok_or(AllocError)
     }
 }
 
-/// Copies of all.
 pub(crate) fn copy_all<T: Simplest>(alloc: Global, items: &[T]) -> Result<Vec<T>, AllocError>
     ensures { IfOk result (λ v. map T.shown v.items ≡ map T.shown items.now) }
 {

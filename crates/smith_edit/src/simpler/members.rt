@@ -1,14 +1,13 @@
 //! What has a name and nothing inside: members of types, imports and exports.
 
-ghost use Rattle.std.specs.Prelude.{◌≡◌, ℕ, List, None, length, map, refl, string_bytes, IfOk, IsSome};
-ghost use Rattle.std.specs.Option.{option_map};
+ghost use Rattle.std.specs.Prelude.{◌≡◌, ℕ, List, length, map, refl, string_bytes, IfOk, IsSome, option_map};
 ghost use Rattle.smith_syntax.specs.Signature.{named};
 ghost use Rattle.smith_edit.specs.Names.{Knows};
 ghost use Rattle.smith_edit.specs.Search.{past, sought};
 ghost use Rattle.smith_edit.specs.Simpler.{label_renamed, member_renamed, pair_renamed, renamed_at};
 
 use crate::names::{Named, Names};
-use crate::simpler::search::Search;
+use crate::simpler::search::{Finder, Simplified};
 use std::alloc::{AllocError, Global};
 
 impl<T: Copy + Drop> Named for (String, T) {
@@ -73,7 +72,7 @@ pub(crate) fn rename_at<T: Named>(
     known: &Names,
     items: &[T],
     place: usize,
-) -> Result<Option<Vec<T>>, AllocError>
+) -> Simplified<Vec<T>>
     ensures { (names : List (List ℕ)) → Knows known.now names → IfOk result (λ r.
         option_map (λ v. map T.shown v.items) r ≡ renamed_at T.name T.rename names place (map T.shown items.now)) }
 {
@@ -90,37 +89,17 @@ pub(crate) fn rename_at<T: Named>(
 }
 
 /// The members of a type, the one that is sought with a new name; none if that is not shorter.
-pub(crate) fn simplify_members<T: Named>(
-    alloc: Global,
-    search: &mut Search,
-    items: &[T],
-) -> Result<Option<Vec<T>>, AllocError>
-    ensures members { IfOk result (λ r. option_map (λ v. map T.shown v.items) r ≡ sought (length items.now) search.old
-        (λ k. member_renamed T.name T.rename k (map T.shown items.now)) (map T.shown items.now)) }
-    ensures moved { IfOk result (λ r. IsSome r → search.new ≡ past (length items.now) search.old) }
+pub(crate) fn simplify_members<T: Named>(finder: &mut Finder, items: &[T]) -> Simplified<Vec<T>>
+    ensures members { let all = map T.shown items.now in IfOk result (λ r. option_map (λ v. map T.shown v.items) r
+        ≡ sought (length items.now) finder.old.search (λ k. member_renamed T.name T.rename k all) all) }
+    ensures moved { IfOk result (λ r. IsSome r → finder.new.search ≡ past (length items.now) finder.old.search) }
 {
-    match search.pass(items.len()) {
-        None => Ok(Some(copy_named(alloc, items)?)),
+    match finder.search.pass(items.len()) {
+        None => Ok(Some(copy_named(finder.alloc, items)?)),
         Some(place) => {
-            let mut known = Names::new(alloc);
-            known.add_all(alloc, items)?;
-            rename_at(alloc, &known, items, place)
+            let mut known = Names::new(finder.alloc);
+            known.add_all(finder.alloc, items)?;
+            rename_at(finder.alloc, &known, items, place)
         }
     }
-}
-
-/// Copies of members without names; none if the one that is sought is among them.
-pub(crate) fn copy_unnamed<T: Copy>(
-    alloc: Global,
-    search: &mut Search,
-    items: &[T],
-) -> Result<Option<Vec<T>>, AllocError>
-    ensures members { IfOk result (λ r. option_map (λ v. v.items) r
-        ≡ sought (length items.now) search.old (λ k. None) items.now) }
-    ensures moved { IfOk result (λ r. IsSome r → search.new ≡ past (length items.now) search.old) }
-{
-    if search.pass(items.len()).is_some() {
-        return Ok(None);
-    }
-    Ok(Some(Vec::from_slice(alloc, items)?))
 }

@@ -3,6 +3,8 @@
 ghost use Rattle.std.specs.Prelude.{◌≡◌};
 ghost use Rattle.smith_edit.specs.Search.{among, is_here, past};
 
+use std::alloc::{AllocError, Global};
+
 /// Where the item that is sought is, seen from a place in a component.
 #[derive(Clone, Copy)]
 pub(crate) enum Search {
@@ -39,3 +41,13 @@ impl Search {
         }
     }
 }
+
+/// A search that copies what it passes.
+#[derive(Drop)]
+pub(crate) struct Finder {
+    pub(crate) alloc: Global,
+    pub(crate) search: Search,
+}
+
+/// A copy, with what is sought made simpler; none if that has no simpler form.
+pub(crate) type Simplified<T> = Result<Option<T>, AllocError>;

@@ -2,9 +2,7 @@
 //! there before its head, which says how long they are, and no byte is moved again for each section around it.
 #![tactic(auto, using(smith_format::proofs::Steps::writing))]
 
-ghost use Rattle.std.specs.Prelude.{◌≡◌, ℕ, ◌≤◌};
-ghost use Rattle.std.specs.Vec.{vec_len};
-ghost use Rattle.std.specs.declared.vec.Vec.{Vec};
+ghost use Rattle.std.specs.Prelude.{◌≡◌, ℕ, ◌≤◌, vec_len, Vec};
 ghost use Rattle.std.specs.declared.alloc.Global.{Global};
 ghost use Rattle.smith_format.specs.Piece.{Piece, sized};
 ghost use Rattle.smith_format.specs.Writing.{Gains};

@@ -1,16 +1,13 @@
 //! Types of a scope with what is kept of them.
 
-ghost use Rattle.std.specs.Prelude.{◌≡◌, if◌then◌else◌, map, option_map, nat_le, true, IfOk, OnOk};
-ghost use Rattle.std.specs.Option.{option_to_list};
-ghost use Rattle.smith_syntax.specs.Marked.{marked_after, more_kept, scopes_in_marked, with_export, with_import};
-ghost use Rattle.smith_syntax.specs.Marked.{with_exported, with_marked, with_sized};
-ghost use Rattle.smith_syntax.specs.Marks.{aliased_mark, closed_mark, room_size};
-ghost use Rattle.smith_syntax.specs.Scope.{core_type_named, type_named};
+ghost use Rattle.std.specs.Prelude.{◌≡◌, if◌then◌else◌, true, IfOk, OnOk};
+ghost use Rattle.smith_syntax.specs.Marked.{with_export, with_import, with_exported, with_marked, with_sized};
+ghost use Rattle.smith_syntax.specs.Marks.{closed_mark};
 ghost use Rattle.smith_syntax.specs.Sizes.{capped, module_type_size};
 ghost use Rattle.smith_read.specs.Nodes.{shown_core_node};
 ghost use Rattle.smith_read.specs.TypeNodes.{shown_type_node};
-ghost use Rattle.smith_scopes.specs.Naming.{Exported, Found, FoundCore, after_alias};
-ghost use Rattle.smith_scopes.specs.Naming.{after_core_alias, with_found, with_found_core};
+ghost use Rattle.smith_scopes.specs.Naming.{Exported, Found, FoundCore, after_alias, after_core_alias, with_found};
+ghost use Rattle.smith_scopes.specs.Naming.{with_found_core};
 ghost use Rattle.smith_scopes.specs.NodeScopes.{outer_marked_in, own_marked_in};
 
 use super::NodeScopes;

@@ -8,8 +8,8 @@ ghost use Rattle.smith_scopes.specs.Rows.{IsChosenEqual};
 ghost use Rattle.smith_scopes.specs.Scopes.{equal_places};
 
 use super::equals::{Equals, later_at, later_len};
-use crate::scope::Scope;
 use smith_input::{Error, Unstructured};
+use smith_scope::Scope;
 use smith_syntax::{ComponentTypeRef, CoreType, DefType, FuncType, Mark};
 use std::alloc::Global;
 use std::marker::Model;

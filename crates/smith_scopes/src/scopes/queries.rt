@@ -2,16 +2,14 @@
 
 ghost use Rattle.std.specs.Prelude.{◌≡◌, ◌<◌, ◌≤◌, get_or, length, true, Some, slice_get};
 ghost use Rattle.smith_format.specs.Consistency.{max_u32};
-ghost use Rattle.smith_scopes.specs.Kept.{offered_places};
+ghost use Rattle.smith_scope.specs.Kept.{offered_places};
 ghost use Rattle.smith_syntax.specs.Marks.{no_mark};
-ghost use Rattle.smith_scopes.specs.Scopes.{own_marked, own_scope, kind_places, last_of, scope_at};
-ghost use Rattle.smith_scopes.specs.Scopes.{equal_places, lists_at, lists_in, shown_marked, shown_scope, shown_types};
+ghost use Rattle.smith_scopes.specs.Scopes.{own_marked, own_scope, kind_places, last_of, scope_at, equal_places};
+ghost use Rattle.smith_scopes.specs.Scopes.{lists_at, lists_in, shown_marked, shown_scope, shown_types};
 ghost use Rattle.smith_syntax.specs.Marked.{scope_in};
 
 use super::Scopes;
-use crate::kinds::Kind;
-use crate::offers::Offer;
-use crate::scope::Scope;
+use smith_scope::{Kind, Offer, Scope};
 use smith_syntax::{CoreType, DefType, FuncType, Mark};
 use std::rc::Rc;
 

@@ -1,8 +1,7 @@
 //! Core types in the binary format (Binary.md, core type definitions).
 #![tactic(auto, using(crate::proofs::Encoding::encoding))]
 
-ghost use Rattle.std.specs.Prelude.{ℕ, map};
-ghost use Rattle.smith_format.specs.Piece.{Piece, ◌⊕◌, byte, bytes, many, text, u};
+ghost use Rattle.smith_format.specs.Piece.{bytes};
 ghost use Rattle.smith_format.specs.Writing.{Puts, Appends, IsLengthOf};
 ghost use Rattle.smith_syntax.specs.Grammar.{moduledecl, core_entry};
 ghost use Rattle.smith_syntax.specs.Shown.{shown_decl, shown_core, shown_shared_core};

@@ -1,10 +1,8 @@
 //! Types of values in the binary format (Binary.md, type definitions).
 #![tactic(auto, using(crate::proofs::Encoding::encoding))]
 
-ghost use Rattle.std.specs.Prelude.{map};
-ghost use Rattle.smith_format.specs.Piece.{◌⊕◌, byte, many, text};
 ghost use Rattle.smith_format.specs.Writing.{Puts, IsLengthOf};
-ghost use Rattle.smith_syntax.specs.Grammar.{valtype, labelvaltype, maybe_valtype, case, defvaltype};
+ghost use Rattle.smith_syntax.specs.Grammar.{labelvaltype, case, defvaltype};
 ghost use Rattle.smith_syntax.specs.Shown.{shown_defined};
 ghost use Rattle.smith_syntax.specs.Signature.{named};
 

@@ -2,7 +2,7 @@
 #![tactic(auto, using(crate::proofs::Encoding::encoding))]
 
 ghost use Rattle.std.specs.Prelude.{◌≤◌};
-ghost use Rattle.smith_format.specs.Piece.{◌⊕◌, byte, bytes, text, u};
+ghost use Rattle.smith_format.specs.Piece.{bytes};
 ghost use Rattle.smith_format.specs.Writing.{Puts, Appends, Takes, IsLengthOf};
 ghost use Rattle.smith_syntax.specs.Grammar.{externdesc, named_extern, import_entry};
 ghost use Rattle.smith_syntax.specs.Shown.{import_shown};

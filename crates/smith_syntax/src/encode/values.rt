@@ -2,7 +2,6 @@
 #![tactic(auto, using(crate::proofs::Encoding::encoding))]
 
 ghost use Rattle.std.specs.Prelude.{◌≡◌, ◌≤◌};
-ghost use Rattle.smith_format.specs.Piece.{◌⊕◌, byte, s_index};
 ghost use Rattle.smith_format.specs.Writing.{Puts, Takes};
 ghost use Rattle.smith_syntax.specs.Grammar.{primvaltype, valtype, maybe_valtype};
 

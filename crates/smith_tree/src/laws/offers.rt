@@ -1,15 +1,15 @@
 //! Laws of what is offered. Each function does nothing: its contract is the law.
 
+ghost use Rattle.std.specs.Prelude.{◌≡◌, ◌≤◌, Bool, List, false, true};
 ghost use Rattle.smith_format.specs.Consistency.{IsConsistent};
 ghost use Rattle.smith_format.specs.declared.config.Config.{Config};
 ghost use Rattle.smith_syntax.specs.CoreLimits.{CoreLimits};
-ghost use Rattle.smith_syntax.specs.Entries.{CoreEntry};
+ghost use Rattle.smith_syntax.specs.Entries.{CoreEntry, Decl};
 ghost use Rattle.smith_syntax.specs.Marks.{small_size};
 ghost use Rattle.smith_syntax.specs.Sizes.{module_type_size};
 ghost use Rattle.smith_tree.specs.Offered.{IsOffered};
 ghost use Rattle.smith_tree.specs.Tree.{Tree};
 ghost use Rattle.smith_tree.specs.Unmarked.{KeepsNothing};
-ghost use Rattle.smith_syntax.specs.Entries.{Decl};
 ghost use Rattle.smith_syntax.specs.Marked.{Marked, empty_marked, marked_after, scope_in, scopes_in_marked};
 ghost use Rattle.smith_syntax.specs.Places.{places};
 ghost use Rattle.smith_syntax.specs.Scope.{after_decl, is_component, is_defined, is_func, is_instance};
@@ -30,7 +30,6 @@ ghost use Rattle.smith_tree.specs.Examples.{names_type_of_exported_instance};
 ghost use Rattle.smith_tree.specs.Sizes.{ValidCore};
 ghost use Rattle.smith_tree.specs.Validates.{Validates};
 ghost use Rattle.std.specs.List.{AllByRecursion};
-ghost use Rattle.std.specs.Prelude.{◌≡◌, ◌≤◌, Bool, List, false, true};
 
 /// If components must validate, every component that can be generated does: each type, import and export of it was
 /// offered.

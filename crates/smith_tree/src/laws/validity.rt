@@ -1,13 +1,12 @@
 //! Laws of validity, each about components that differ as little as possible. Each function does nothing: its contract
 //! is the law.
 
-ghost use Rattle.smith_tree.specs.Examples.{imports_function_of_enum, has_function_of_enum};
-ghost use Rattle.smith_tree.specs.Examples.{imports_function_of_tuple, imports_function_of_named_enum};
-ghost use Rattle.smith_tree.specs.Examples.{exports_function_of_named_enum, exports_function_of_unnamed_enum};
-ghost use Rattle.smith_tree.specs.Examples.{exports_function_of_aliased_enum, imports_instance};
-ghost use Rattle.smith_tree.specs.Examples.{names_instance_type, names_type_of_exported_instance, exports_instance};
-ghost use Rattle.smith_tree.specs.Examples.{names_record_of_enum, names_enum};
 ghost use Rattle.std.specs.Prelude.{◌≡◌, ◌↔◌, ◌≤◌, ℕ, List, Some};
+ghost use Rattle.smith_tree.specs.Examples.{imports_function_of_enum, has_function_of_enum, imports_function_of_tuple};
+ghost use Rattle.smith_tree.specs.Examples.{imports_function_of_named_enum, exports_function_of_named_enum};
+ghost use Rattle.smith_tree.specs.Examples.{exports_function_of_unnamed_enum, exports_function_of_aliased_enum};
+ghost use Rattle.smith_tree.specs.Examples.{imports_instance, names_instance_type, names_type_of_exported_instance};
+ghost use Rattle.smith_tree.specs.Examples.{exports_instance, names_record_of_enum, names_enum};
 ghost use Rattle.smith_core.specs.Preamble.{core_preamble};
 ghost use Rattle.smith_format.specs.Piece.{◌⊕◌, bytes, sized, u};
 ghost use Rattle.smith_tree.specs.Tree.{Tree};

@@ -1,7 +1,6 @@
 //! Declarations of component types and instance types, from the input, except for the types in them.
 
-ghost use Rattle.std.specs.Prelude.{◌≡◌, ◌<◌, ◌≤◌, List, ◌∷◌, ◌++◌, true, length};
-ghost use Rattle.std.specs.Prelude.{IfOk, OnOk, IfErr};
+ghost use Rattle.std.specs.Prelude.{◌≡◌, ◌<◌, ◌≤◌, List, ◌∷◌, ◌++◌, true, length, IfOk, OnOk, IfErr};
 ghost use Rattle.smith_input.specs.Choices.{ReadsAmong};
 ghost use Rattle.smith_input.specs.Consumes.{Consumes};
 ghost use Rattle.smith_syntax.specs.ShownDecls.{full_alias, full_instance_decl};
@@ -17,7 +16,7 @@ ghost use Rattle.smith_scopes.specs.Scopes.{inward_marked, own_marked, outer_mar
 use super::externs::{ExternNames, named_extern};
 use super::making::Making;
 use super::references::arbitrary_type_ref;
-use smith_core_types::arbitrary_core_type;
+use crate::core_types::arbitrary_core_type;
 use smith_format::Config;
 use smith_input::{Error, Unstructured, choose_offered};
 use smith_scopes::{Scopes, occupied, offered_declarations};
@@ -35,7 +34,7 @@ const UNCOUNTED: RefTotals = RefTotals {
 
 // What sort of declaration is read.
 #[inline(always)]
-pub(super) fn declaration_item(
+pub(super) fn read_declaration_item(
     u: &mut Unstructured,
     config: &Config,
     scopes: &Scopes,
@@ -49,7 +48,7 @@ pub(super) fn declaration_item(
 }
 
 // An import, or none if it is not asked for or nothing can be imported.
-pub(super) fn import(
+pub(super) fn read_import(
     making: &Making,
     u: &mut Unstructured,
     scopes: &Scopes,
@@ -92,7 +91,7 @@ fn add_exported(scopes: &mut Scopes, ty: ComponentTypeRef) -> Result<(), Error>
 }
 
 // An export. A type that it is equal to is added to the scope before the name is read.
-pub(super) fn export(
+pub(super) fn read_export(
     making: &Making,
     u: &mut Unstructured,
     scopes: &mut Scopes,
@@ -116,7 +115,11 @@ pub(super) fn export(
 }
 
 // An outer alias of an entry of one of these scopes.
-fn alias_choice(u: &mut Unstructured, scopes: &Scopes, counts: &[usize]) -> Result<Alias, Error>
+fn read_alias_choice(
+    u: &mut Unstructured,
+    scopes: &Scopes,
+    counts: &[usize],
+) -> Result<Alias, Error>
     requires few { length scopes.now ≤ 1002 }
     requires places { counts.now ≡ occupied (inward_marked scopes.now) }
     requires some { 0 < length counts.now }
@@ -162,7 +165,7 @@ fn add_aliased(scopes: &mut Scopes, alias: &Alias) -> Result<(), Error>
 
 // An outer alias, which keeps what it names.
 #[tactic(auto, using(crate::proofs::ReadsDeclarations::alias_kept))]
-pub(super) fn outer_alias(
+pub(super) fn read_outer_alias(
     alloc: Global,
     u: &mut Unstructured,
     scopes: &mut Scopes,
@@ -175,13 +178,13 @@ pub(super) fn outer_alias(
     ensures input { Consumes result u.old u.new }
 {
     let counts = occupied(alloc, scopes)?;
-    let alias = alias_choice(u, scopes, &counts)?;
+    let alias = read_alias_choice(u, scopes, &counts)?;
     add_aliased(scopes, &alias)?;
     Ok(InstanceTypeDecl::Alias(alias))
 }
 
 // A core type, with the rest of the fuel.
-pub(super) fn core_type_decl(
+pub(super) fn read_core_type(
     making: &Making,
     u: &mut Unstructured,
     scopes: &mut Scopes,

@@ -1,18 +1,18 @@
 //! Defined types from the input.
 
-ghost use Rattle.std.specs.Prelude.{◌≡◌, ◌+◌, ◌-◌, ℕ, List, map, string_bytes, IfOk};
+ghost use Rattle.std.specs.Prelude.{◌≡◌, ◌-◌, ℕ, List, map, string_bytes, IfOk};
 ghost use Rattle.smith_input.specs.Consumes.{Consumes};
 ghost use Rattle.smith_input.specs.Reading.{IsTail};
-ghost use Rattle.smith_syntax.specs.Entries.{primitive_type, record_type, variant_type};
-ghost use Rattle.smith_syntax.specs.Entries.{tuple_type, flags_type, enum_type};
+ghost use Rattle.smith_syntax.specs.Entries.{primitive_type, record_type, variant_type, tuple_type, flags_type};
+ghost use Rattle.smith_syntax.specs.Entries.{enum_type};
 ghost use Rattle.smith_types.specs.Made.{MadeAs, MadeDefined, ReadsMaybe, or_bool};
 ghost use Rattle.smith_scopes.specs.Scopes.{own_marked};
 ghost use Rattle.smith_syntax.specs.Shown.{shown_defined};
 ghost use Rattle.smith_syntax.specs.Signature.{named};
 ghost use Rattle.smith_syntax.specs.declared.types.PrimitiveValType.TheVariants as prim;
 
-use super::members::members;
-use super::values::{maybe_value_type, primitive_type, value_type};
+use super::members::read_members;
+use super::values::{read_maybe_value_type, read_primitive, read_value_type};
 use smith_input::{Error, Unstructured};
 use smith_scopes::Scopes;
 use smith_syntax::{
@@ -80,18 +80,18 @@ fn enum_type(members: Vec<String>) -> DefinedType
 }
 
 // A result, whose two types are read one after the other.
-fn result_type(u: &mut Unstructured, scopes: &Scopes) -> ResultType
+fn read_result_type(u: &mut Unstructured, scopes: &Scopes) -> ResultType
     ensures reads { (mid : List ℕ) × ReadsMaybe (own_marked scopes.now) u.old result.ok_ty mid
         × ReadsMaybe (own_marked scopes.now) mid result.err_ty u.new }
     ensures tail { IsTail u.new u.old }
 {
-    let ok_ty = maybe_value_type(u, scopes);
-    let err_ty = maybe_value_type(u, scopes);
+    let ok_ty = read_maybe_value_type(u, scopes);
+    let err_ty = read_maybe_value_type(u, scopes);
     ResultType { ok_ty, err_ty }
 }
 
 // A defined type of one kind.
-fn type_of_kind(
+fn read_defined_of(
     alloc: Global,
     u: &mut Unstructured,
     scopes: &Scopes,
@@ -103,24 +103,24 @@ fn type_of_kind(
     ensures input { Consumes result u.old u.new }
 {
     match kind {
-        DefinedKind::Primitive => Ok(DefinedType::Primitive(primitive_type(u))),
-        DefinedKind::Record => Ok(record_type(members(alloc, u, scopes, fuel, (1, 100))?)),
-        DefinedKind::Variant => Ok(variant_type(members(alloc, u, scopes, fuel, (1, 100))?)),
+        DefinedKind::Primitive => Ok(DefinedType::Primitive(read_primitive(u))),
+        DefinedKind::Record => Ok(record_type(read_members(alloc, u, scopes, fuel, (1, 100))?)),
+        DefinedKind::Variant => Ok(variant_type(read_members(alloc, u, scopes, fuel, (1, 100))?)),
         DefinedKind::List => Ok(DefinedType::List(ListType {
-            elem_ty: value_type(u, scopes),
+            elem_ty: read_value_type(u, scopes),
         })),
-        DefinedKind::Tuple => Ok(tuple_type(members(alloc, u, scopes, fuel, (1, 100))?)),
-        DefinedKind::Flags => Ok(flags_type(members(alloc, u, scopes, fuel, (1, 32))?)),
-        DefinedKind::Enum => Ok(enum_type(members(alloc, u, scopes, fuel, (1, 100))?)),
+        DefinedKind::Tuple => Ok(tuple_type(read_members(alloc, u, scopes, fuel, (1, 100))?)),
+        DefinedKind::Flags => Ok(flags_type(read_members(alloc, u, scopes, fuel, (1, 32))?)),
+        DefinedKind::Enum => Ok(enum_type(read_members(alloc, u, scopes, fuel, (1, 100))?)),
         DefinedKind::Option => Ok(DefinedType::Option(OptionType {
-            inner_ty: value_type(u, scopes),
+            inner_ty: read_value_type(u, scopes),
         })),
-        DefinedKind::Result => Ok(DefinedType::Result(result_type(u, scopes))),
+        DefinedKind::Result => Ok(DefinedType::Result(read_result_type(u, scopes))),
     }
 }
 
 // A defined type: a choice of nine kinds, and a type of that kind.
-pub(super) fn defined_type(
+pub(super) fn read_defined_type(
     alloc: Global,
     u: &mut Unstructured,
     scopes: &Scopes,
@@ -131,5 +131,5 @@ pub(super) fn defined_type(
     ensures input { Consumes result u.old u.new }
 {
     let kind = *u.choose(defined_kinds());
-    type_of_kind(alloc, u, scopes, fuel, kind)
+    read_defined_of(alloc, u, scopes, fuel, kind)
 }

@@ -46,7 +46,7 @@ pub(super) struct ComponentNames {
 }
 
 // A boolean, and a URL if it is true, which has a name that no URL has so far.
-fn maybe_url(
+fn read_url(
     alloc: Global,
     u: &mut Unstructured,
     urls: &mut BTreeSet<String>,
@@ -82,7 +82,7 @@ pub fn named_extern(
     ensures input { Consumes result u.old u.new }
 {
     let name = unique_kebab_string(alloc, MAX_NAME_LEN, &mut externs.names, u)?;
-    match maybe_url(alloc, u, &mut externs.urls) {
+    match read_url(alloc, u, &mut externs.urls) {
         Ok(url) => Ok((name, url)),
         Err(refused) => {
             // The name was gained before the URL was refused.

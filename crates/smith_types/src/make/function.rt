@@ -1,13 +1,13 @@
 //! Function types from the input.
 
-ghost use Rattle.std.specs.Prelude.{[], IfOk};
+ghost use Rattle.std.specs.Prelude.{IfOk};
 ghost use Rattle.smith_input.specs.Consumes.{Consumes};
 ghost use Rattle.smith_input.specs.Reading.{IsTail};
 ghost use Rattle.smith_types.specs.Made.{MadeFunction, ReadsResult};
 ghost use Rattle.smith_scopes.specs.Scopes.{own_marked};
 
-use super::members::members;
-use super::values::value_type;
+use super::members::read_members;
+use super::values::read_value_type;
 use smith_format::burn;
 use smith_input::{Error, Unstructured};
 use smith_scopes::Scopes;
@@ -15,7 +15,7 @@ use smith_syntax::{ComponentValType, FuncType};
 use std::alloc::Global;
 
 // The result of a function, or none: a loop of at most one turn.
-fn result_of(u: &mut Unstructured, scopes: &Scopes, fuel: &mut u32) -> Option<ComponentValType>
+fn read_result(u: &mut Unstructured, scopes: &Scopes, fuel: &mut u32) -> Option<ComponentValType>
     ensures reads { ReadsResult (own_marked scopes.now) u.old fuel.old result u.new fuel.new }
     ensures tail { IsTail u.new u.old }
 {
@@ -26,11 +26,11 @@ fn result_of(u: &mut Unstructured, scopes: &Scopes, fuel: &mut u32) -> Option<Co
     if *fuel == 0 {
         return None;
     }
-    Some(value_type(u, scopes))
+    Some(read_value_type(u, scopes))
 }
 
 // A function type: at most 16 parameters, and then a result or none.
-pub(super) fn function_type(
+pub(super) fn read_function_type(
     alloc: Global,
     u: &mut Unstructured,
     scopes: &Scopes,
@@ -39,7 +39,7 @@ pub(super) fn function_type(
     ensures made { IfOk result (λ f. MadeFunction (own_marked scopes.now) u.old fuel.old f u.new fuel.new) }
     ensures input { Consumes result u.old u.new }
 {
-    let params = members(alloc, u, scopes, fuel, (0, 16))?;
-    let result = result_of(u, scopes, fuel);
+    let params = read_members(alloc, u, scopes, fuel, (0, 16))?;
+    let result = read_result(u, scopes, fuel);
     Ok(FuncType { params, result })
 }

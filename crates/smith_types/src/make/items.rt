@@ -1,7 +1,6 @@
 //! Declarations of each sort, types among them, from the input.
 
-ghost use Rattle.std.specs.Prelude.{◌≡◌, ◌≤◌, ◌<◌, List, [], ◌++◌, true};
-ghost use Rattle.std.specs.Prelude.{length, IfOk};
+ghost use Rattle.std.specs.Prelude.{◌≤◌, ◌<◌, List, ◌++◌, true, length, IfOk};
 ghost use Rattle.smith_input.specs.Consumes.{Consumes};
 ghost use Rattle.smith_syntax.specs.ShownDecls.{full_component_decl, full_instance_decl};
 ghost use Rattle.smith_syntax.specs.WellFormed.{export_of, import_of};
@@ -11,9 +10,11 @@ ghost use Rattle.smith_types.specs.MakingTypes.{DeclaresInLast, ExportsOnly, Has
 ghost use Rattle.smith_types.specs.MakingTypes.{MadeTypeDecl};
 ghost use Rattle.smith_scopes.specs.Scopes.{own_marked, outer_marked};
 
-use super::declarations::{core_type_decl, declaration_item, export, import, outer_alias};
+use super::declarations::{
+    read_core_type, read_declaration_item, read_export, read_import, read_outer_alias,
+};
 use super::externs::{ComponentNames, ExternNames};
-use super::kinds::made_type;
+use super::kinds::read_type;
 use super::making::Making;
 use smith_input::{Error, Unstructured};
 use smith_scopes::Scopes;
@@ -22,7 +23,7 @@ use smith_tree::DeclarationItem;
 
 // A type, with the rest of the fuel.
 #[cycle(making)]
-fn type_decl(
+fn read_type_decl(
     making: &Making,
     u: &mut Unstructured,
     scopes: &mut Scopes,
@@ -36,7 +37,7 @@ fn type_decl(
     ensures scopes { DeclaresInLast result full_instance_decl scopes.old scopes.new }
     ensures input { Consumes result u.old u.new }
 {
-    let (ty, mark) = made_type(making, u, scopes, fuel)?;
+    let (ty, mark) = read_type(making, u, scopes, fuel)?;
     let entry = ty.clone()?;
     scopes.push_marked(entry, mark)?;
     Ok(InstanceTypeDecl::TypeDecl(ty))
@@ -44,7 +45,7 @@ fn type_decl(
 
 // A declaration that is not an import: a choice of its sort, and one of that sort.
 #[cycle(making)]
-pub(super) fn declaration(
+pub(super) fn read_declaration(
     making: &Making,
     u: &mut Unstructured,
     scopes: &mut Scopes,
@@ -62,17 +63,17 @@ pub(super) fn declaration(
     ensures scopes { DeclaresInLast result full_instance_decl scopes.old scopes.new }
     ensures input { Consumes result u.old u.new }
 {
-    match declaration_item(u, making.config, scopes) {
-        DeclarationItem::Export => export(making, u, scopes, exports),
-        DeclarationItem::Alias => outer_alias(making.alloc, u, scopes),
-        DeclarationItem::CoreType => core_type_decl(making, u, scopes, fuel),
-        DeclarationItem::Type => type_decl(making, u, scopes, fuel),
+    match read_declaration_item(u, making.config, scopes) {
+        DeclarationItem::Export => read_export(making, u, scopes, exports),
+        DeclarationItem::Alias => read_outer_alias(making.alloc, u, scopes),
+        DeclarationItem::CoreType => read_core_type(making, u, scopes, fuel),
+        DeclarationItem::Type => read_type_decl(making, u, scopes, fuel),
     }
 }
 
 // A declaration of a component type: an import if it is asked for and possible, otherwise one as in an instance type.
 #[cycle(making)]
-pub(super) fn component_declaration(
+pub(super) fn read_component_declaration(
     making: &Making,
     u: &mut Unstructured,
     scopes: &mut Scopes,
@@ -91,10 +92,10 @@ pub(super) fn component_declaration(
     ensures scopes { DeclaresInLast result full_component_decl scopes.old scopes.new }
     ensures input { Consumes result u.old u.new }
 {
-    if let Some(import) = import(making, u, scopes, &mut names.imports)? {
+    if let Some(import) = read_import(making, u, scopes, &mut names.imports)? {
         scopes.note_import(import.ty);
         return Ok(ComponentTypeDef::Import(import));
     }
-    let decl = declaration(making, u, scopes, fuel, &mut names.exports)?;
+    let decl = read_declaration(making, u, scopes, fuel, &mut names.exports)?;
     Ok(ComponentTypeDef::from(decl))
 }

@@ -1,7 +1,6 @@
 //! A type of each kind, from the input.
 
-ghost use Rattle.std.specs.Prelude.{◌≡◌, ◌≤◌, ◌<◌};
-ghost use Rattle.std.specs.Prelude.{length, IfOk};
+ghost use Rattle.std.specs.Prelude.{◌≡◌, ◌≤◌, ◌<◌, length, IfOk};
 ghost use Rattle.smith_input.specs.Choices.{ReadsAmong};
 ghost use Rattle.smith_input.specs.Consumes.{Consumes};
 ghost use Rattle.smith_input.specs.Reading.{IsTail};
@@ -12,10 +11,10 @@ ghost use Rattle.smith_tree.specs.TypeOffers.{type_kinds};
 ghost use Rattle.smith_scopes.specs.Scopes.{own_marked, outer_marked};
 ghost use Rattle.smith_tree.specs.declared.choices.TypeKind.TheVariants as kind;
 
-use super::defined::defined_type;
-use super::function::function_type;
+use super::defined::read_defined_type;
+use super::function::read_function_type;
 use super::making::Making;
-use super::scoped::scoped_type;
+use super::scoped::read_scoped_type;
 use smith_format::burn;
 use smith_input::{Error, Unstructured};
 use smith_scopes::Scopes;
@@ -24,7 +23,7 @@ use smith_tree::{TypeKind, type_kinds};
 use std::rc::Rc;
 
 // What kind of type is read: a defined type if no fuel is left, otherwise one of four.
-fn type_kind(u: &mut Unstructured, fuel: u32) -> TypeKind
+fn read_type_kind(u: &mut Unstructured, fuel: u32) -> TypeKind
     ensures spent { fuel ≡ 0 → (result ≡ kind.Defined) × (u.new ≡ u.old) }
     ensures chosen { 0 < fuel → ReadsAmong type_kinds u.old result u.new }
     ensures tail { IsTail u.new u.old }
@@ -37,7 +36,7 @@ fn type_kind(u: &mut Unstructured, fuel: u32) -> TypeKind
 
 // A type of one kind.
 #[cycle(making)]
-fn type_of(
+fn read_type_of(
     making: &Making,
     u: &mut Unstructured,
     scopes: &mut Scopes,
@@ -53,23 +52,23 @@ fn type_of(
 {
     match kind {
         TypeKind::Defined => {
-            let ty = defined_type(making.alloc, u, scopes, fuel)?;
+            let ty = read_defined_type(making.alloc, u, scopes, fuel)?;
             let mark = scopes.defined_mark(&ty);
             Ok((DefType::Defined(ty), mark))
         }
         TypeKind::Function => {
-            let func = function_type(making.alloc, u, scopes, fuel)?;
+            let func = read_function_type(making.alloc, u, scopes, fuel)?;
             let mark = scopes.function_mark(&func);
             Ok((DefType::Func(Rc::new(making.alloc, func)?), mark))
         }
-        TypeKind::Component => scoped_type(making, u, scopes, fuel, true),
-        TypeKind::Instance => scoped_type(making, u, scopes, fuel, false),
+        TypeKind::Component => read_scoped_type(making, u, scopes, fuel, true),
+        TypeKind::Instance => read_scoped_type(making, u, scopes, fuel, false),
     }
 }
 
 // A type, by the rules of `arbitrary_type`, and its mark.
 #[cycle(making)]
-pub(super) fn made_type(
+pub(super) fn read_type(
     making: &Making,
     u: &mut Unstructured,
     scopes: &mut Scopes,
@@ -83,8 +82,8 @@ pub(super) fn made_type(
     ensures input { Consumes result u.old u.new }
 {
     burn(fuel);
-    let kind = type_kind(u, *fuel);
-    let (made, mark) = type_of(making, u, scopes, fuel, kind)?;
+    let kind = read_type_kind(u, *fuel);
+    let (made, mark) = read_type_of(making, u, scopes, fuel, kind)?;
     let shared = Rc::new(making.alloc, made)?;
     Ok((shared, mark))
 }

@@ -10,7 +10,7 @@ ghost use Rattle.smith_scopes.specs.Scopes.{own_marked};
 ghost use Rattle.smith_syntax.specs.Signature.{named};
 ghost use Rattle.smith_syntax.specs.declared.types.ComponentValType.{ComponentValType as Val};
 
-use super::values::{maybe_value_type, value_type};
+use super::values::{read_maybe_value_type, read_value_type};
 use smith_format::burn;
 use smith_input::{Error, MAX_NAME_LEN, Unstructured, new_kebab_string};
 use smith_scopes::Scopes;
@@ -38,7 +38,7 @@ pub(super) trait Member: Drop {
 }
 
 // The members of a type: at least `counts.0` if the fuel lasts, and at most `counts.1`.
-pub(super) fn members<M: Member>(
+pub(super) fn read_members<M: Member>(
     alloc: Global,
     u: &mut Unstructured,
     scopes: &Scopes,
@@ -78,7 +78,7 @@ impl Member for ComponentValType {
         scopes: &Scopes,
         _so_far: &[ComponentValType],
     ) -> Result<ComponentValType, Error> {
-        Ok(value_type(u, scopes))
+        Ok(read_value_type(u, scopes))
     }
 }
 
@@ -113,7 +113,7 @@ impl Member for (String, ComponentValType) {
         so_far: &[(String, ComponentValType)],
     ) -> Result<(String, ComponentValType), Error> {
         let name = new_kebab_string(alloc, MAX_NAME_LEN, &so_far, u)?;
-        Ok((name, value_type(u, scopes)))
+        Ok((name, read_value_type(u, scopes)))
     }
 }
 
@@ -131,6 +131,6 @@ impl Member for (String, Option<ComponentValType>) {
         so_far: &[(String, Option<ComponentValType>)],
     ) -> Result<(String, Option<ComponentValType>), Error> {
         let name = new_kebab_string(alloc, MAX_NAME_LEN, &so_far, u)?;
-        Ok((name, maybe_value_type(u, scopes)))
+        Ok((name, read_maybe_value_type(u, scopes)))
     }
 }

@@ -1,22 +1,21 @@
 //! What imports and exports are of, from the input.
 
-ghost use Rattle.std.specs.Prelude.{◌≡◌, ◌<◌, ◌≤◌, ◌&&◌, ◌++◌, ℕ, List, [], true, length};
-ghost use Rattle.std.specs.Prelude.{slice_get, Some, MatchOption};
+ghost use Rattle.std.specs.Prelude.{◌≡◌, ◌<◌, ◌≤◌, ◌++◌, ℕ, List, [], true, length, slice_get, Some, MatchOption};
 ghost use Rattle.smith_input.specs.Choices.{ReadsAmong};
 ghost use Rattle.smith_input.specs.Reading.{IsTail};
 ghost use Rattle.smith_format.specs.Consistency.{max_u32};
 ghost use Rattle.smith_syntax.specs.Marked.{scope_in};
 ghost use Rattle.smith_syntax.specs.Usable.{OfferedRef};
 ghost use Rattle.smith_syntax.specs.WellFormed.{FormedRef};
-ghost use Rattle.smith_tree.specs.TypeOffers.{IsAllowed, allows_equal, allows_one, has_place, has_room};
-ghost use Rattle.smith_tree.specs.TypeOffers.{kinds_offered, ref_kinds, ref_places};
+ghost use Rattle.smith_tree.specs.TypeOffers.{IsAllowed, has_room, ref_kinds, ref_places};
 ghost use Rattle.smith_types.specs.References.{MaybeRef, offer_of, ref_to};
 ghost use Rattle.smith_tree.specs.TypeScript.{script_ref};
 ghost use Rattle.smith_scopes.specs.Scopes.{own_marked};
 
 use smith_format::Config;
 use smith_input::{Unstructured, choose_offered};
-use smith_scopes::{Kind, Offer, Purpose, Scopes};
+use smith_scope::{Kind, Offer, Purpose};
+use smith_scopes::Scopes;
 use smith_syntax::ComponentTypeRef;
 use smith_tree::{RefKind, RefTotals};
 
@@ -71,7 +70,7 @@ fn reference(kind: RefKind, i: u32) -> ComponentTypeRef
 }
 
 // Which kind, among the kinds that have an entry that may be named, if there is room for one more.
-fn ref_kind(
+fn read_ref_kind(
     u: &mut Unstructured,
     config: &Config,
     scopes: &Scopes,
@@ -118,7 +117,7 @@ pub fn arbitrary_type_ref(
         for_import,
         for_type_def,
     };
-    let kind = ref_kind(u, config, scopes, purpose)?;
+    let kind = read_ref_kind(u, config, scopes, purpose)?;
     let rank = u.choose_index(place_count(scopes, kind, for_import));
     Some(reference(kind, place_at(scopes, kind, for_import, rank)))
 }

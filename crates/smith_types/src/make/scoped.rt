@@ -1,7 +1,6 @@
 //! Types of components and of instances, from the input.
 
-ghost use Rattle.std.specs.Prelude.{◌≡◌, ◌≤◌, [], List, true, false};
-ghost use Rattle.std.specs.Prelude.{length, IfOk, IfErr, OnOk, OnErr};
+ghost use Rattle.std.specs.Prelude.{◌≡◌, ◌≤◌, [], List, true, false, length, IfOk, IfErr, OnOk, OnErr};
 ghost use Rattle.smith_input.specs.Consumes.{Consumes};
 ghost use Rattle.smith_syntax.specs.Entries.{in_order};
 ghost use Rattle.smith_syntax.specs.Shown.{full_type};
@@ -12,7 +11,7 @@ ghost use Rattle.smith_types.specs.MakingTypes.{MadeScoped, OpensInner, SameOute
 ghost use Rattle.smith_scopes.specs.Scopes.{own_marked, outer_marked};
 
 use super::externs::{ComponentNames, ExternNames};
-use super::items::{component_declaration, declaration};
+use super::items::{read_component_declaration, read_declaration};
 use super::making::Making;
 use smith_format::burn;
 use smith_input::{Error, Unstructured};
@@ -102,11 +101,11 @@ fn declare(
 {
     match declared {
         TypeBody::Component(body) => {
-            let def = component_declaration(making, u, scopes, fuel, &mut body.names)?;
+            let def = read_component_declaration(making, u, scopes, fuel, &mut body.names)?;
             body.defs.push(def)?;
         }
         TypeBody::Instance(body) => {
-            let decl = declaration(making, u, scopes, fuel, &mut body.exports)?;
+            let decl = read_declaration(making, u, scopes, fuel, &mut body.exports)?;
             body.defs.push(decl)?;
         }
     }
@@ -115,7 +114,7 @@ fn declare(
 
 // The declarations of a component type (true) or of an instance type (false), whose scope is the last one and empty.
 #[cycle(making)]
-fn declarations(
+fn read_declarations(
     making: &Making,
     u: &mut Unstructured,
     scopes: &mut Scopes,
@@ -145,7 +144,7 @@ fn declarations(
 
 // The type of a component (true) or of an instance (false). Its scope is closed again, after a refusal too.
 #[cycle(making)]
-pub(super) fn scoped_type(
+pub(super) fn read_scoped_type(
     making: &Making,
     u: &mut Unstructured,
     scopes: &mut Scopes,
@@ -160,7 +159,7 @@ pub(super) fn scoped_type(
     ensures input { Consumes result u.old u.new }
 {
     open_inner(scopes)?;
-    let made = declarations(making, u, scopes, fuel, importing);
+    let made = read_declarations(making, u, scopes, fuel, importing);
     let mark = scopes.closed_mark(!importing);
     scopes.close_scope();
     Ok((made?.finish(), mark))

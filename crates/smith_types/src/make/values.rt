@@ -1,6 +1,5 @@
 //! Value types from the input.
 
-ghost use Rattle.std.specs.Prelude.{◌≡◌};
 ghost use Rattle.smith_input.specs.Reading.{IsTail};
 ghost use Rattle.smith_input.specs.Choices.{ReadsAmong};
 ghost use Rattle.smith_tree.specs.TypeOffers.{primitives};
@@ -8,12 +7,13 @@ ghost use Rattle.smith_types.specs.Made.{ReadsVal, ReadsMaybe};
 ghost use Rattle.smith_scopes.specs.Scopes.{own_marked};
 
 use smith_input::Unstructured;
-use smith_scopes::{Offer, Scopes};
+use smith_scope::Offer;
+use smith_scopes::Scopes;
 use smith_syntax::{ComponentValType, PrimitiveValType};
 use smith_tree::primitives;
 
 // A primitive value type, by a choice among the thirteen.
-pub(super) fn primitive_type(u: &mut Unstructured) -> PrimitiveValType
+pub(super) fn read_primitive(u: &mut Unstructured) -> PrimitiveValType
     ensures reads { ReadsAmong primitives u.old result u.new }
     ensures tail { IsTail u.new u.old }
 {
@@ -22,7 +22,7 @@ pub(super) fn primitive_type(u: &mut Unstructured) -> PrimitiveValType
 
 // A value type: primitive, or one of the defined types of the last scope that may be used.
 #[inline(always)]
-pub(super) fn value_type(u: &mut Unstructured, scopes: &Scopes) -> ComponentValType
+pub(super) fn read_value_type(u: &mut Unstructured, scopes: &Scopes) -> ComponentValType
     ensures reads { ReadsVal (own_marked scopes.now) u.old result u.new }
     ensures tail { IsTail u.new u.old }
 {
@@ -31,16 +31,19 @@ pub(super) fn value_type(u: &mut Unstructured, scopes: &Scopes) -> ComponentValT
         let rank = u.choose_index(usable);
         return ComponentValType::Indexed(scopes.offered_at(Offer::Value, rank));
     }
-    ComponentValType::Primitive(primitive_type(u))
+    ComponentValType::Primitive(read_primitive(u))
 }
 
 // A boolean, and a value type if it is true.
-pub(super) fn maybe_value_type(u: &mut Unstructured, scopes: &Scopes) -> Option<ComponentValType>
+pub(super) fn read_maybe_value_type(
+    u: &mut Unstructured,
+    scopes: &Scopes,
+) -> Option<ComponentValType>
     ensures reads { ReadsMaybe (own_marked scopes.now) u.old result u.new }
     ensures tail { IsTail u.new u.old }
 {
     if u.arbitrary_bool() {
-        Some(value_type(u, scopes))
+        Some(read_value_type(u, scopes))
     } else {
         None
     }

@@ -1,4 +1,4 @@
-use Rattle.smith_check.proofs.KebabSteps.{kebab_whole}
+use Rattle.smith_check.proofs.NameSteps.{kebab_whole}
 use Rattle.smith_check.proofs.names.is_kebab.Goals as goal
 
 pub loop-byte-init : goal.loop-byte-init

@@ -2,8 +2,8 @@
 //! constant expressions.
 #![tactic(auto, using(smith_format::proofs::Steps::writing, smith_format::proofs::Sizes::measuring))]
 
-ghost use Rattle.std.specs.Prelude.{◌≡◌, ◌<◌, length};
-ghost use Rattle.std.specs.List.{AllByRecursion, slice_get, zip};
+ghost use Rattle.std.specs.Prelude.{◌≡◌, ◌<◌, length, slice_get, zip};
+ghost use Rattle.std.specs.List.{AllByRecursion};
 ghost use Rattle.smith_format.specs.Piece.{◌⊕◌, many};
 ghost use Rattle.smith_format.specs.Writing.{Puts, IsLengthOf};
 ghost use Rattle.smith_core.specs.Segments.{export, expression, named_type, table};

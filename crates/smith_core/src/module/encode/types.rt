@@ -1,9 +1,8 @@
 //! Types of core modules in the binary format (core specification, Binary Format, Types).
 #![tactic(auto, using(smith_format::proofs::Steps::writing, smith_format::proofs::Sizes::measuring))]
 
-ghost use Rattle.std.specs.Prelude.{ℕ, length, ◌≤◌};
-ghost use Rattle.std.specs.List.{slice_range};
-ghost use Rattle.smith_format.specs.Piece.{Piece, ◌⊕◌, byte, u, many};
+ghost use Rattle.std.specs.Prelude.{length, ◌≤◌, slice_range};
+ghost use Rattle.smith_format.specs.Piece.{many};
 ghost use Rattle.smith_format.specs.Writing.{Puts, Takes, IsLengthOf};
 ghost use Rattle.smith_core.specs.Parts.{Tiles};
 ghost use Rattle.smith_core.specs.SubTypes.{storage, field, composite, sub_prefix, sub_type, rec_type};

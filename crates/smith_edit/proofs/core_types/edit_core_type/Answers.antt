@@ -2,7 +2,7 @@ use Rattle.std.proofs.Common.{map}
 use Rattle.smith_read.specs.Nodes.{shown_module_node}
 use Rattle.smith_edit.specs.Edited.{after_module_decl, module_decl_edited}
 use Rattle.smith_edit.specs.Items.{module_decl_items}
-use Rattle.smith_edit.proofs.AfterRows.{scope_left}
+use Rattle.smith_edit.proofs.Past.{scope_left}
 use Rattle.smith_edit.proofs.core_types.edit_core_type.Goals as goal
 
 pub returns-in_ok-nodes-in-Module-clause-walk : goal.returns-in_ok-nodes-in-Module-clause-walk

@@ -7,7 +7,7 @@ use Rattle.smith_edit.specs.Edited.{tree_edited}
 use Rattle.smith_edit.specs.Edits.{moved, renamed}
 use Rattle.smith_edit.specs.Names.{KnowsBoth}
 use Rattle.smith_edit.specs.Walk.{shown_walk}
-use Rattle.smith_edit.specs.declared.removal.Removal.TheVariants.{Nothing}
+use Rattle.smith_edit.specs.declared.walk.Removal.TheVariants.{Nothing}
 use Rattle.smith_edit.proofs.edits.joined.Given as goal
 
 abbrev pub invariant-loop-node : goal.invariant-loop-node

@@ -2,7 +2,7 @@ use Rattle.std.proofs.Common.{◌∙◌, ap, sym}
 use Rattle.smith_read.specs.PartNodes.{shown_part_node}
 use Rattle.smith_edit.specs.Edited.{within}
 use Rattle.smith_edit.specs.Walk.{shown_walk}
-use Rattle.smith_edit.proofs.AfterRows.{after_kept, part_outer}
+use Rattle.smith_edit.proofs.Past.{after_kept, part_outer}
 use Rattle.smith_edit.proofs.Editing.{edited_end, edited_step, part_editing, removal_end, removal_step}
 use Rattle.smith_edit.proofs.parts.+parts.Goals as goal
 

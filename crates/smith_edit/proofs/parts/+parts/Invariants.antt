@@ -5,7 +5,7 @@ use Rattle.smith_edit.specs.Edited.{tree_edited}
 use Rattle.smith_edit.specs.Items.{tree_items}
 use Rattle.smith_edit.specs.Removal.{past}
 use Rattle.smith_edit.specs.Walk.{shown_walk}
-use Rattle.smith_edit.proofs.InTurn.{prepend}
+use Rattle.smith_edit.proofs.Seeking.{prepend}
 use Rattle.smith_edit.proofs.parts.+parts.Given as goal
 
 abbrev pub invariant-edit_parts-loop-node : goal.invariant-edit_parts-loop-node

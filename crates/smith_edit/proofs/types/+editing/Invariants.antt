@@ -5,7 +5,7 @@ use Rattle.smith_edit.specs.Edited.{decls_edited}
 use Rattle.smith_edit.specs.Items.{decls_items}
 use Rattle.smith_edit.specs.Removal.{past}
 use Rattle.smith_edit.specs.Walk.{shown_walk}
-use Rattle.smith_edit.proofs.InTurn.{prepend}
+use Rattle.smith_edit.proofs.Seeking.{prepend}
 use Rattle.smith_edit.proofs.types.+editing.Given as goal
 
 abbrev pub invariant-edit_declarations-loop-node : goal.invariant-edit_declarations-loop-node

@@ -1,7 +1,6 @@
 use Rattle.std.proofs.Common.{◌≡◌, ◌∙◌, ap, sym, subst, Some, false, option_map}
 use Rattle.toml.specs.View.{table_view, view}
-use Rattle.smith_limits.specs.Keys.{most_of}
-use Rattle.smith_limits.specs.Limits.{is_no_number, value_at}
+use Rattle.smith_limits.specs.Limits.{is_no_number, most_of, value_at}
 use Rattle.smith_limits.proofs.Sets.{integer_right, number_right}
 use Rattle.smith_limits.proofs.keys.number.Goals as goal
 

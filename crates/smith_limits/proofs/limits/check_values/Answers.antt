@@ -2,8 +2,7 @@ use Rattle.std.proofs.Common.{◌≡◌, ◌∙◌, ap, sym, false}
 use Rattle.std.proofs.lemmas.Bool.{false≢true}
 use Rattle.std.specs.Option.{is_some}
 use Rattle.toml.specs.View.{table_view}
-use Rattle.smith_limits.specs.Keys.{all_keys}
-use Rattle.smith_limits.specs.Limits.{is_wrong}
+use Rattle.smith_limits.specs.Limits.{all_keys, is_wrong}
 use Rattle.smith_limits.proofs.Sets.{found_meets}
 use Rattle.smith_limits.proofs.limits.check_values.Goals as goal
 

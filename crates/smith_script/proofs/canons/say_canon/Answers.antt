@@ -1,4 +1,4 @@
-use Rattle.smith_script_core.proofs.Saying.{ends, gives_up, unsaid_left}
+use Rattle.smith_script_types.proofs.Saying.{ends, gives_up, unsaid_left}
 use Rattle.smith_script.proofs.canons.say_canon.Goals as goal
 
 pub returns-in_err-say_canon_item : goal.returns-in_err-say_canon_item

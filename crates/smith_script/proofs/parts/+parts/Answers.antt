@@ -4,12 +4,12 @@ use Rattle.std.proofs.lemmas.Result.{on_ok_weaker}
 use Rattle.smith_read.specs.PartNodes.{shown_part_node}
 use Rattle.smith_read.proofs.PartNodes.{shown_canons, shown_core_types, shown_custom, shown_exports, shown_imports, shown_module, shown_nested, shown_types}
 use Rattle.smith_read.specs.declared.nodes.PartNode.{PartNode}
-use Rattle.smith_scopes.proofs.Lists.{head_same}
+use Rattle.smith_scope.proofs.Lists.{head_same}
 use Rattle.smith_scopes.specs.NodeScopes.{outer_marked_in, own_marked_in}
 use Rattle.smith_syntax.specs.Marked.{Marked}
 use Rattle.smith_tree.specs.Tree.{components_in, ends, tree_of}
-use Rattle.smith_script_core.specs.Says.{Adds, IsUnsaid, Says}
-use Rattle.smith_script_core.proofs.Saying.{gives_up, towards_done, towards_exit, towards_start, towards_step, unsaid_left, unsaid_right}
+use Rattle.smith_script_types.specs.Says.{Adds, IsUnsaid, Says}
+use Rattle.smith_script_types.proofs.Saying.{gives_up, towards_done, towards_exit, towards_start, towards_step, unsaid_left, unsaid_right}
 use Rattle.smith_tree.specs.declared.choices.Item.TheVariants as item
 use Rattle.smith_script.specs.Preceding.{IsAfter, Preceding, preceding, totals_in}
 use Rattle.smith_script.proofs.Keeps.{section_keeps}

@@ -1,5 +1,5 @@
 use Rattle.std.proofs.Common.{[], refl}
-use Rattle.smith_script_core.proofs.Saying.{gives_up}
+use Rattle.smith_script_types.proofs.Saying.{gives_up}
 use Rattle.smith_script.proofs.parts.say_tree.Goals as goal
 
 pub returns-in_err-say_parts : goal.returns-in_err-say_parts

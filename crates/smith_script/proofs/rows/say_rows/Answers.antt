@@ -1,4 +1,4 @@
-use Rattle.smith_script_core.proofs.Saying.{gives_up, towards_exit, unsaid_right}
+use Rattle.smith_script_types.proofs.Saying.{gives_up, towards_exit, unsaid_right}
 use Rattle.smith_script.proofs.Turns.{rows_at}
 use Rattle.smith_script.proofs.rows.say_rows.Goals as goal
 

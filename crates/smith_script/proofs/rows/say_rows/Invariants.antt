@@ -1,7 +1,7 @@
 use Rattle.std.proofs.Common.{◌≡◌, drop, fold, map}
 use Rattle.smith_input.specs.Script.{script_loop}
 use Rattle.smith_scopes.specs.NodeScopes.{outer_marked_in, own_marked_in}
-use Rattle.smith_script_core.proofs.Saying.{Towards}
+use Rattle.smith_script_types.proofs.Saying.{Towards}
 use Rattle.smith_script.specs.Saying.{rows_say}
 use Rattle.smith_script.specs.Preceding.{preceding}
 use Rattle.smith_script.proofs.rows.say_rows.Given as goal

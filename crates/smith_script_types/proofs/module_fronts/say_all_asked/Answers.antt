@@ -1,4 +1,4 @@
-use Rattle.smith_script_core.proofs.Saying.{gives_up, towards_exit, towards_step}
+use Rattle.smith_script_types.proofs.Saying.{gives_up, towards_exit, towards_step}
 use Rattle.smith_script_types.proofs.ModuleTurns.{asked_at}
 use Rattle.smith_script_types.proofs.module_fronts.say_all_asked.Goals as goal
 

@@ -1,7 +1,7 @@
 use Rattle.std.proofs.Common.{map, arith}
 use Rattle.std.proofs.lemmas.List.{length-map}
 use Rattle.smith_read.specs.Nodes.{shown_module_node}
-use Rattle.smith_script_core.proofs.Saying.{ends}
+use Rattle.smith_script_types.proofs.Saying.{ends}
 use Rattle.smith_script_types.proofs.ModuleTurns.{line_taken}
 use Rattle.smith_script_types.proofs.module_fronts.say_line.Goals as goal
 

@@ -1,6 +1,6 @@
 use Rattle.std.proofs.Common.{ap, arith, length}
 use Rattle.std.proofs.lemmas.List.{length-map}
-use Rattle.smith_core_types.proofs.MakingCore.{choices_count}
+use Rattle.smith_types.proofs.MakingCore.{choices_count}
 use Rattle.smith_format.specs.Shown.{shown_func}
 use Rattle.smith_script_types.specs.Places.{so_far}
 use Rattle.smith_script_types.specs.Places.{plain_at}

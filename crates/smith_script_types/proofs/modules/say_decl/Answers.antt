@@ -1,4 +1,4 @@
-use Rattle.smith_script_core.proofs.Saying.{ends}
+use Rattle.smith_script_types.proofs.Saying.{ends}
 use Rattle.smith_script_types.proofs.modules.say_decl.Goals as goal
 
 pub returns-in_ok-say_new_core_name-in-Import : goal.returns-in_ok-say_new_core_name-in-Import

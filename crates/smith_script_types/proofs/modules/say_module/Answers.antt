@@ -2,8 +2,8 @@ use Rattle.std.proofs.Common.{◌≡◌, ◌-◌, ◌++◌, ◌∷◌, [], ap, l
 use Rattle.std.proofs.lemmas.List.{length-map}
 use Rattle.smith_syntax.specs.ModuleTypes.{after_front}
 use Rattle.smith_read.specs.Nodes.{shown_module_node}
-use Rattle.smith_script_core.proofs.Saying.{Towards, adds_then, gives_up, memory_unsaid, towards_end, towards_exit}
-use Rattle.smith_script_core.proofs.Saying.{towards_start, towards_step, unsaid_left, unsaid_right}
+use Rattle.smith_script_types.proofs.Saying.{Towards, adds_then, gives_up, memory_unsaid, towards_end, towards_exit}
+use Rattle.smith_script_types.proofs.Saying.{towards_start, towards_step, unsaid_left, unsaid_right}
 use Rattle.smith_script_types.proofs.ModuleTurns.{after_within, module_at, module_over, module_start}
 use Rattle.smith_script_types.proofs.TableSteps.{shown_more}
 use Rattle.smith_script_types.specs.Places.{plain_at}

@@ -4,7 +4,7 @@ use Rattle.smith_input.specs.Script.{script_loop}
 use Rattle.smith_read.specs.Nodes.{shown_module_node}
 use Rattle.smith_tree.specs.ModuleScript.{script_decl, script_module}
 use Rattle.smith_tree.specs.CoreTypeOffers.{with_decl}
-use Rattle.smith_script_core.proofs.Saying.{Towards}
+use Rattle.smith_script_types.proofs.Saying.{Towards}
 use Rattle.smith_script_types.specs.Places.{so_far}
 use Rattle.smith_script_types.specs.Places.{plain_at}
 use Rattle.smith_script_types.proofs.modules.say_module.Given as goal

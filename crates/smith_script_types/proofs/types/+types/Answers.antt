@@ -11,8 +11,8 @@ use Rattle.smith_syntax.specs.Marked.{Marked, mark, marked_after, with_marked}
 use Rattle.smith_tree.specs.TypeOffers.{uncounted}
 use Rattle.smith_tree.specs.TypeScript.{script_alias, script_decl, script_declares, script_extern, script_ref}
 use Rattle.smith_tree.specs.declared.choices.DeclarationItem.TheVariants as item
-use Rattle.smith_script_core.specs.Says.{Adds}
-use Rattle.smith_script_core.proofs.Saying.{adds_then, gives_up, towards_exit, towards_step}
+use Rattle.smith_script_types.specs.Says.{Adds}
+use Rattle.smith_script_types.proofs.Saying.{adds_then, gives_up, towards_exit, towards_step}
 use Rattle.smith_script_types.proofs.Decls.{decls_at, decls_over}
 use Rattle.smith_script_types.specs.Declaring.{taken_in}
 use Rattle.smith_script_types.proofs.types.+types.Goals as goal
@@ -67,7 +67,7 @@ say_decl-returns-in_ok-add_alias-in-TypeAlias-clause-said t c =
     let q = c.place-in-TypeAlias-2.ensures in
     let shows = ap shown_decl_node c.in-TypeAlias.is ∙ shown_alias c.in-TypeAlias.count c.in-TypeAlias.index in
     subst
-    (λ (d : Decl). Adds c.args.out.now c.say_type_alias.new.out
+    (λ (d : Decl). Adds c.args.out.now c.say_alias.new.out
     (script_decl d c.args.given.config.now c.args.here.importing c.args.here.fuel (taken_in c.args.here) (own_marked_in c.args.scopes.now)
     (outer_marked_in c.args.scopes.now)))
     (sym shows)
@@ -75,7 +75,7 @@ say_decl-returns-in_ok-add_alias-in-TypeAlias-clause-said t c =
     (subst (Adds _ _) (λ j. script_declares (p.config j) c.args.here.importing (p.own j) (p.outer j) item.Alias)
     (c.in_ok-say_declares-in-TypeAlias.ensures {u = tt}))
     (subst (Adds _ _) (λ j. script_alias (q.own j ∷ q.outer j) c.in-TypeAlias.count (λ s. c.in-TypeAlias.index))
-    (c.in_ok-say_type_alias-in-TypeAlias.ensures {u = tt})))
+    (c.in_ok-say_alias-in-TypeAlias.ensures {u = tt})))
 
 pub say_decl-returns-in_ok-add_core_alias-in-CoreTypeAlias-clause-said : goal.say_decl-returns-in_ok-add_core_alias-in-CoreTypeAlias-clause-said
 say_decl-returns-in_ok-add_core_alias-in-CoreTypeAlias-clause-said t c =
@@ -83,7 +83,7 @@ say_decl-returns-in_ok-add_core_alias-in-CoreTypeAlias-clause-said t c =
     let q = c.place-in-CoreTypeAlias-2.ensures in
     let shows = ap shown_decl_node c.in-CoreTypeAlias.is ∙ shown_core_alias c.in-CoreTypeAlias.count c.in-CoreTypeAlias.index in
     subst
-    (λ (d : Decl). Adds c.args.out.now c.say_core_type_alias.new.out
+    (λ (d : Decl). Adds c.args.out.now c.say_alias-in-CoreTypeAlias.new.out
     (script_decl d c.args.given.config.now c.args.here.importing c.args.here.fuel (taken_in c.args.here) (own_marked_in c.args.scopes.now)
     (outer_marked_in c.args.scopes.now)))
     (sym shows)
@@ -91,7 +91,7 @@ say_decl-returns-in_ok-add_core_alias-in-CoreTypeAlias-clause-said t c =
     (subst (Adds _ _) (λ j. script_declares (p.config j) c.args.here.importing (p.own j) (p.outer j) item.Alias)
     (c.in_ok-say_declares-in-CoreTypeAlias.ensures {u = tt}))
     (subst (Adds _ _) (λ j. script_alias (q.own j ∷ q.outer j) c.in-CoreTypeAlias.count (λ s. length s.types + c.in-CoreTypeAlias.index))
-    (c.in_ok-say_core_type_alias-in-CoreTypeAlias.ensures {u = tt})))
+    (c.in_ok-say_alias-in-CoreTypeAlias.ensures {u = tt})))
 
 pub say_decl-returns-in_ok-say_extern-in-Import-clause-said : goal.say_decl-returns-in_ok-say_extern-in-Import-clause-said
 say_decl-returns-in_ok-say_extern-in-Import-clause-said t c =

@@ -4,7 +4,7 @@ use Rattle.smith_syntax.specs.Marked.{empty_marked}
 use Rattle.smith_scopes.specs.NodeScopes.{outer_marked_in, own_marked_in}
 use Rattle.smith_read.specs.TypeNodes.{shown_decl_node}
 use Rattle.smith_tree.specs.TypeScript.{none_taken, script_decls}
-use Rattle.smith_script_core.proofs.Saying.{Towards}
+use Rattle.smith_script_types.proofs.Saying.{Towards}
 use Rattle.smith_script_types.specs.Declaring.{taken_in}
 use Rattle.smith_script_types.proofs.Decls.{cost_from, scope_after}
 use Rattle.smith_script_types.proofs.types.+types.Given as goal

@@ -1,4 +1,4 @@
-use Rattle.smith_script_core.proofs.Saying.{ends, gives_up, unsaid_left}
+use Rattle.smith_script_types.proofs.Saying.{ends, gives_up, unsaid_left}
 use Rattle.smith_script_types.proofs.Turns.{signature_is}
 use Rattle.smith_scopes.specs.Nodes.{shown_marked}
 use Rattle.smith_script_types.proofs.values.say_signature.Goals as goal

@@ -21,17 +21,17 @@ returns-in-Names-clause-named c = λ asks b outer names table s r.
     ))
     ((rw c.deref.ensures.value at (c.export.ensures.named table names b xs)) s.instances_are found (s.depth_is ∙ sym c.depth.ensures) role.1)
 
-pub returns-in-Exports-clause-named : goal.returns-in-Exports-clause-named
-returns-in-Exports-clause-named c = λ asks b outer names table s r.
+pub returns-in-Exporting-clause-named : goal.returns-in-Exporting-clause-named
+returns-in-Exporting-clause-named c = λ asks b outer names table s r.
     let xs = externs_at b.own outer c.args.to in
-    let role = rw c.in-Exports.is at r in
+    let role = rw c.in-Exporting.is at r in
     let found = c.in-Some.ensures.found b.own outer (names_of b.exports ∷ names) table s.types_are.0 in
-    on_all c.export-in-Exports.result
+    on_all c.export-in-Exporting.result
     (λ refers uses any. (
       subst (λ a. IsAsked a (exported b) xs) (sym role.0) tt,
-      (role.0, exports_push table names c.in-Exports.exported c.export-in-Exports.new.self b.exports xs c.in-Some.what role.1 found refers uses any),
+      (role.0, exports_push table names c.in-Exporting.exported c.export-in-Exporting.new.self b.exports xs c.in-Some.what role.1 found refers uses any),
     ))
-    c.export-in-Exports.ensures.refers c.export-in-Exports.ensures.uses c.export-in-Exports.ensures.any
+    c.export-in-Exporting.ensures.refers c.export-in-Exporting.ensures.uses c.export-in-Exporting.ensures.any
 
 pub returns-in_default-clause-exact : goal.returns-in_default-clause-exact
 returns-in_default-clause-exact c = grind (arith, role_exported_none, piece_none)
@@ -64,19 +64,19 @@ returns-in-Names-clause-refused c = λ asks b outer named table h.
     ((rw c.deref.ensures.value at (c.export.ensures.refused table place (id_at outer) full b xs)) h.known.instances_are h.known.added i role.1
     (named_for asks k r b outer named table h) depth)
 
-pub returns-in-Exports-clause-exact : goal.returns-in-Exports-clause-exact
-returns-in-Exports-clause-exact c = λ asks b outer named table h.
+pub returns-in-Exporting-clause-exact : goal.returns-in-Exporting-clause-exact
+returns-in-Exporting-clause-exact c = λ asks b outer named table h.
     let k = c.args.known.now in
     let r = c.args.role.now in
     let xs = externs_at b.own outer c.args.to in
-    let role = rw c.in-Exports.is at h.role_is in
+    let role = rw c.in-Exporting.is at h.role_is in
     let i = piece_some asks k r b outer named table h c.args.to c.in-Some.what c.in-Some.ensures.marks in
     let place = id_at (b.own ∷ outer) in
     let full = (names_of b.exports ++ named) ++ names_in table in
-    on_all c.export-in-Exports.result
+    on_all c.export-in-Exporting.result
     (λ refers uses any. (
       role.0,
-      exports_push_exactly table place (id_at outer) full c.in-Exports.exported c.export-in-Exports.new.self b.exports xs c.in-Some.what role.1 i
+      exports_push_exactly table place (id_at outer) full c.in-Exporting.exported c.export-in-Exporting.new.self b.exports xs c.in-Some.what role.1 i
           refers uses any,
     ))
-    c.export-in-Exports.ensures.refers c.export-in-Exports.ensures.uses c.export-in-Exports.ensures.any
+    c.export-in-Exporting.ensures.refers c.export-in-Exporting.ensures.uses c.export-in-Exporting.ensures.any

@@ -48,7 +48,7 @@ add_decl-returns-in_ok-facts-in-Core-clause-judged t c = λ asks b outer names t
     let done = c.in_ok-facts-in-Core.ensures {u = tt} in
     rw (c.in-Core.is, shown_core c.in-Core.ty)
     (judged_by c.add_core_type.result (λ p. (done.judged b.own s.scopes.own_is, p)) (λ d q. q.1)
-    (c.add_core_type.ensures.judged asks b outer names table (core_facts (shown_core_node c.in-Core.ty) b.own) s))
+    (c.add_core_type.ensures.judged asks b outer names table s (core_facts (shown_core_node c.in-Core.ty) b.own)))
 
 pub add_decl-returns-in_ok-facts-in-Core-clause-added : goal.add_decl-returns-in_ok-facts-in-Core-clause-added
 add_decl-returns-in_ok-facts-in-Core-clause-added t c = λ asks b outer names table s.
@@ -57,7 +57,7 @@ add_decl-returns-in_ok-facts-in-Core-clause-added t c = λ asks b outer names ta
     rw (c.in-Core.is, shown_core c.in-Core.ty)
     (on_by c.add_core_type.result
     (λ k. later_none (IsBody asks c.add_core_type.new.known c.add_core_type.new.body) (with_core_facts b (f ∷ [])) outer names table k)
-    (c.add_core_type.ensures.added asks b outer names table f s (done.kept b.own s.scopes.own_is)))
+    (c.add_core_type.ensures.added asks b outer names table s f (done.kept b.own s.scopes.own_is)))
 
 pub add_decl-returns-in_ok-facts-in-Type-clause-judged : goal.add_decl-returns-in_ok-facts-in-Type-clause-judged
 add_decl-returns-in_ok-facts-in-Type-clause-judged t c = λ asks b outer names table s.
@@ -66,8 +66,9 @@ add_decl-returns-in_ok-facts-in-Type-clause-judged t c = λ asks b outer names t
     let kept = done.kept b.own outer here names table s.scopes in
     rw (c.in-Type.is, shown_declared c.in-Type.ty)
     (judged_by c.add_type.result (λ p. (done.judged b.own outer here names table s.scopes, p)) (λ d q. q.1)
-    (c.add_type.ensures.judged asks b outer names (table ++ kept.more) (facts (shown_type_node c.in-Type.ty) b.own outer)
-    (body_declared asks c.args.known.now _ c.args.body.now b outer names table kept.more s done.scopes.own done.scopes.outer kept.instances_are)))
+    (c.add_type.ensures.judged asks b outer names (table ++ kept.more)
+    (body_declared asks c.args.known.now _ c.args.body.now b outer names table kept.more s done.scopes.own done.scopes.outer kept.instances_are)
+    (facts (shown_type_node c.in-Type.ty) b.own outer)))
 
 pub add_decl-returns-in_ok-facts-in-Type-clause-added : goal.add_decl-returns-in_ok-facts-in-Type-clause-added
 add_decl-returns-in_ok-facts-in-Type-clause-added t c = λ asks b outer names table s.
@@ -78,9 +79,9 @@ add_decl-returns-in_ok-facts-in-Type-clause-added t c = λ asks b outer names ta
     rw (c.in-Type.is, shown_declared c.in-Type.ty)
     (on_by c.add_type.result
     (λ k. (kept.more, k))
-    (c.add_type.ensures.added asks b outer names (table ++ kept.more) f
+    (c.add_type.ensures.added asks b outer names (table ++ kept.more)
     (body_declared asks c.args.known.now _ c.args.body.now b outer names table kept.more s done.scopes.own done.scopes.outer kept.instances_are)
-    (done.size b.own outer here names table s.scopes) kept.is))
+    f (done.size b.own outer here names table s.scopes) kept.is))
 
 pub add_decl-returns-in-TypeAlias-clause-judged : goal.add_decl-returns-in-TypeAlias-clause-judged
 add_decl-returns-in-TypeAlias-clause-judged t c = λ asks b outer names table s.
@@ -92,7 +93,7 @@ add_decl-returns-in-TypeAlias-clause-judged t c = λ asks b outer names table s.
     (λ o. o.types) (λ o. o.types) (λ o. refl) count i
     (b.own ∷ outer)) in
     rw (c.in-TypeAlias.is, shown_alias count i)
-    (judged_by c.add_named.result (λ p. (tt, p)) (λ d q. q.1) (c.add_named.ensures.judged asks b outer names table _ s found))
+    (judged_by c.add_named.result (λ p. (tt, p)) (λ d q. q.1) (c.add_named.ensures.judged asks b outer names table s _ found))
 
 pub add_decl-returns-in-TypeAlias-clause-added : goal.add_decl-returns-in-TypeAlias-clause-added
 add_decl-returns-in-TypeAlias-clause-added t c = λ asks b outer names table s.
@@ -110,7 +111,7 @@ add_decl-returns-in-TypeAlias-clause-added t c = λ asks b outer names table s.
     rw (c.in-TypeAlias.is, shown_alias count i)
     (on_by c.add_named.result
     (λ k. later_none (IsBody asks c.add_named.new.known c.add_named.new.body) (with_facts b (option_to_list f)) outer names table k)
-    (c.add_named.ensures.added asks b outer names table f s found kept))
+    (c.add_named.ensures.added asks b outer names table s f found kept))
 
 pub add_decl-returns-in-CoreTypeAlias-clause-judged : goal.add_decl-returns-in-CoreTypeAlias-clause-judged
 add_decl-returns-in-CoreTypeAlias-clause-judged t c = λ asks b outer names table s.
@@ -120,7 +121,7 @@ add_decl-returns-in-CoreTypeAlias-clause-judged t c = λ asks b outer names tabl
     ∙ (ap (λ os. named_at (λ o. o.core_types) os count i) (scopes_kept _ b.own outer (names_of b.exports) names table s.scopes)
     ∙ named_kept kept_core (λ o. o.core_types) (λ o. o.core_types) (λ o. refl) count i (b.own ∷ outer)) in
     rw (c.in-CoreTypeAlias.is, shown_core_alias count i)
-    (judged_by c.add_core_named.result (λ p. (tt, p)) (λ d q. q.1) (c.add_core_named.ensures.judged asks b outer names table _ s found))
+    (judged_by c.add_core_named.result (λ p. (tt, p)) (λ d q. q.1) (c.add_core_named.ensures.judged asks b outer names table s _ found))
 
 pub add_decl-returns-in-CoreTypeAlias-clause-added : goal.add_decl-returns-in-CoreTypeAlias-clause-added
 add_decl-returns-in-CoreTypeAlias-clause-added t c = λ asks b outer names table s.
@@ -133,7 +134,7 @@ add_decl-returns-in-CoreTypeAlias-clause-added t c = λ asks b outer names table
     rw (c.in-CoreTypeAlias.is, shown_core_alias count i)
     (on_by c.add_core_named.result
     (λ k. later_none (IsBody asks c.add_core_named.new.known c.add_core_named.new.body) (with_core_facts b (option_to_list f)) outer names table k)
-    (c.add_core_named.ensures.added asks b outer names table f s found))
+    (c.add_core_named.ensures.added asks b outer names table s f found))
 
 pub add_decl-returns-in-Import-clause-judged : goal.add_decl-returns-in-Import-clause-judged
 add_decl-returns-in-Import-clause-judged t c = λ asks b outer names table s.

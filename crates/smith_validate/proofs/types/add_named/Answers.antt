@@ -5,6 +5,6 @@ use Rattle.smith_validate.proofs.TypeSteps.{alias_judged}
 use Rattle.smith_validate.proofs.types.add_named.Goals as goal
 
 pub returns-in-Some-clause-judged : goal.returns-in-Some-clause-judged
-returns-in-Some-clause-judged c = λ asks b outer names table f s e.
+returns-in-Some-clause-judged c = λ asks b outer names table s f e.
     alias_judged c.add_type.result (λ (g : Facts). capped g.size) c.in-Some.ty.size (λ gs d. IsSmall d (with_facts b gs)) f (rw c.in-Some.is at e)
-    (λ g. c.add_type.ensures.judged asks b outer names table g s)
+    (λ g. c.add_type.ensures.judged asks b outer names table s g)

@@ -37,19 +37,19 @@ returns-in-Export-clause-added c = λ before k.
 
 pub returns-in-Core-clause-judged : goal.returns-in-Core-clause-judged
 returns-in-Core-clause-judged c = λ before k.
-    known_named _ _ (quiet_at _ _ _ _ (ap shown_decl_node c.in-Core.is ∙ shown_core c.in-Core._ty) refl refl k)
+    known_named _ _ (quiet_at _ _ _ _ (ap shown_decl_node c.in-Core.is ∙ shown_core c.in-Core.field-0) refl refl k)
 
 pub returns-in-Core-clause-added : goal.returns-in-Core-clause-added
 returns-in-Core-clause-added c = λ before k.
-    quiet_at _ _ _ _ (ap shown_decl_node c.in-Core.is ∙ shown_core c.in-Core._ty) refl refl k
+    quiet_at _ _ _ _ (ap shown_decl_node c.in-Core.is ∙ shown_core c.in-Core.field-0) refl refl k
 
 pub returns-in-Type-clause-judged : goal.returns-in-Type-clause-judged
 returns-in-Type-clause-judged c = λ before k.
-    known_named _ _ (quiet_at _ _ _ _ (ap shown_decl_node c.in-Type.is ∙ shown_declared c.in-Type._ty) refl refl k)
+    known_named _ _ (quiet_at _ _ _ _ (ap shown_decl_node c.in-Type.is ∙ shown_declared c.in-Type.field-0) refl refl k)
 
 pub returns-in-Type-clause-added : goal.returns-in-Type-clause-added
 returns-in-Type-clause-added c = λ before k.
-    quiet_at _ _ _ _ (ap shown_decl_node c.in-Type.is ∙ shown_declared c.in-Type._ty) refl refl k
+    quiet_at _ _ _ _ (ap shown_decl_node c.in-Type.is ∙ shown_declared c.in-Type.field-0) refl refl k
 
 pub returns-in-TypeAlias-clause-judged : goal.returns-in-TypeAlias-clause-judged
 returns-in-TypeAlias-clause-judged c = λ before k.

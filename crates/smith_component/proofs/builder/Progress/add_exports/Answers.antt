@@ -11,7 +11,7 @@ use Rattle.smith_scopes.proofs.Stack.{own_scope_is}
 use Rattle.smith_types.specs.MakingTypes.{HoldsExterns}
 use Rattle.smith_scopes.specs.Scopes.{own_marked, own_scope}
 use Rattle.smith_component.specs.BuilderView.{IsSound, stack_of}
-use Rattle.smith_component.specs.Exports.{NoExport, ReadsExport, ReadsExports}
+use Rattle.smith_component.specs.ExportReading.{NoExport, ReadsExport, ReadsExports}
 use Rattle.smith_component.specs.SectionsState.{ExportsState}
 use Rattle.smith_tree.specs.Open.{Open, with_inner}
 use Rattle.smith_component.specs.SectionValues.{externs_of}

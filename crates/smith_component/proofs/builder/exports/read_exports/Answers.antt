@@ -5,7 +5,7 @@ use Rattle.smith_input.proofs.Loops.{begins, ends_early, ends_full, goes_on, sto
 use Rattle.smith_input.proofs.Reading.{tail_same}
 use Rattle.smith_format.specs.declared.config.Config.{Config}
 use Rattle.smith_scopes.specs.Scopes.{own_marked}
-use Rattle.smith_component.specs.Exports.{ReadsExport}
+use Rattle.smith_component.specs.ExportReading.{ReadsExport}
 use Rattle.smith_component.specs.SectionsState.{ExportsOne, ExportsState}
 use Rattle.smith_tree.specs.Shown.{shown_export}
 use Rattle.smith_tree.specs.Tree.{ExportEntry, Tree}

@@ -5,7 +5,7 @@ use Rattle.smith_format.specs.Consistency.{max_u32}
 use Rattle.smith_format.specs.declared.config.Config.{Config}
 use Rattle.smith_scopes.specs.Scopes.{own_marked, own_scope}
 use Rattle.smith_component.specs.SectionsState.{KeepsAround, ExportsState}
-use Rattle.smith_component.specs.Exports.{NoExport, ReadsExport}
+use Rattle.smith_component.specs.ExportReading.{NoExport, ReadsExport}
 use Rattle.smith_tree.specs.Shown.{shown_export}
 use Rattle.smith_component.specs.Tables.{IsKnown}
 use Rattle.smith_tree.specs.Tree.{Tree}

@@ -1,4 +1,4 @@
-use Rattle.smith_edit.proofs.KnownNames.{knows_more, set_gains}
+use Rattle.smith_edit.proofs.NewNames.{knows_more, set_gains}
 use Rattle.smith_edit.proofs.names.Names.add.Goals as goal
 
 pub returns : goal.returns

@@ -1,6 +1,6 @@
 use Rattle.std.proofs.Common.{◌≡◌, ℕ, ◌++◌, List, ◌∙◌, ap, map, string_bytes}
 use Rattle.smith_edit.specs.Edits.{new_name}
-use Rattle.smith_edit.proofs.KnownNames.{renamed_names, renamed_step}
+use Rattle.smith_edit.proofs.NewNames.{renamed_names, renamed_step}
 use Rattle.smith_edit.proofs.names.Names.all_renamed.Goals as goal
 
 pub loop-item-preserved : goal.loop-item-preserved

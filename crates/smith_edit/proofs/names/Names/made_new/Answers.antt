@@ -1,5 +1,5 @@
 use Rattle.std.proofs.Common.{◌≡◌, ◌-◌, ◌<◌, ◌∙◌, arith}
-use Rattle.smith_edit.proofs.KnownNames.{made_more, made_there}
+use Rattle.smith_edit.proofs.NewNames.{made_more, made_there}
 use Rattle.smith_edit.proofs.names.Names.made_new.Goals as goal
 
 pub loop-time-preserved : goal.loop-time-preserved

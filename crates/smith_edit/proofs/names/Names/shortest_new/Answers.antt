@@ -1,7 +1,7 @@
 use Rattle.std.proofs.Common.{◌≡◌, ℕ, ◌-◌, ◌<◌, true, false, List, length, string_bytes, ap, sym, ◌∙◌, arith}
 use Rattle.smith_input.specs.NewNames.{is_among}
 use Rattle.smith_edit.specs.ShortNames.{short_name}
-use Rattle.smith_edit.proofs.ShortNames.{new_more, new_there}
+use Rattle.smith_edit.proofs.NewNames.{new_more, new_there}
 use Rattle.smith_edit.proofs.names.Names.shortest_new.Goals as goal
 
 pub loop-count-preserved : goal.loop-count-preserved

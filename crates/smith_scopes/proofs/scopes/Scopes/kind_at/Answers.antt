@@ -4,7 +4,7 @@ use Rattle.smith_format.specs.Consistency.{max_u32}
 use Rattle.smith_syntax.specs.Marked.{scope_in}
 use Rattle.smith_syntax.specs.Shown.{shown_core, shown_type}
 use Rattle.smith_scopes.specs.Scopes.{kind_places}
-use Rattle.smith_scopes.proofs.ByKind.{kind_within}
+use Rattle.smith_scope.proofs.ByKind.{kind_within}
 use Rattle.smith_scopes.proofs.Chosen.{found_in_row}
 use Rattle.smith_scopes.proofs.scopes.Scopes.kind_at.Goals as goal
 

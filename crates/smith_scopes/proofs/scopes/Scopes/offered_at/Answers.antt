@@ -2,10 +2,10 @@ use Rattle.std.proofs.Common.{◌<◌, ◌+◌, ◌≡◌, Some, get_or, sym, ap
 use Rattle.std.proofs.lemmas.List.{length-map}
 use Rattle.std.specs.Prelude.{slice_get}
 use Rattle.smith_syntax.specs.Shown.{shown_core, shown_type}
-use Rattle.smith_scopes.specs.Kept.{offered_places}
+use Rattle.smith_scope.specs.Kept.{offered_places}
 use Rattle.smith_scopes.specs.Scopes.{shown_marked}
 use Rattle.smith_scopes.proofs.Chosen.{found_in_row}
-use Rattle.smith_scopes.proofs.Offered.{all_offered, every_place_at, length-offered, offered_within}
+use Rattle.smith_scope.proofs.Offered.{all_offered, every_place_at, length-offered, offered_within}
 use Rattle.smith_scopes.proofs.scopes.Scopes.offered_at.Goals as goal
 
 pub overflow_cast-result : goal.overflow_cast-result

@@ -4,7 +4,7 @@ use Rattle.smith_read.specs.PartNodes.{shown_import_node}
 use Rattle.smith_scopes.specs.NodeScopes.{outer_marked_in, own_marked_in}
 use Rattle.smith_syntax.specs.Marked.{Marked}
 use Rattle.smith_script.specs.Preceding.{after_import, preceding}
-use Rattle.smith_script_core.proofs.Saying.{gives_up, unsaid_right}
+use Rattle.smith_script_types.proofs.Saying.{gives_up, unsaid_right}
 use Rattle.smith_script.proofs.rows.ImportNodeRow.say.Goals as goal
 
 pub returns-in_err-say_extern-clause-said : goal.returns-in_err-say_extern-clause-said

@@ -10,7 +10,7 @@ pub returns-in-Ok-clause-names : goal.returns-in-Ok-clause-names
 returns-in-Ok-clause-names c so_far h =
     let x : NamedExtern = (string_bytes c.in_ok-name.name, shown_url c.in-Ok.url) in (
       subst (Holds c.unique_kebab_string.new.names) (sym (names_more so_far x)) (holds_more h.0 c.in_ok-name.ensures.gained),
-      subst (Holds c.maybe_url.new.urls) (sym (url_names_more so_far x)) (c.in-Ok.ensures.names _ h.1),
+      subst (Holds c.read_url.new.urls) (sym (url_names_more so_far x)) (c.in-Ok.ensures.names _ h.1),
     )
 
 pub returns-in-Err-clause-refused : goal.returns-in-Err-clause-refused

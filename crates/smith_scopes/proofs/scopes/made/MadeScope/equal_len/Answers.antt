@@ -6,7 +6,7 @@ use Rattle.smith_syntax.specs.Places.{places}
 use Rattle.smith_scopes.specs.Rows.{values_of}
 use Rattle.smith_scopes.specs.Scopes.{equal_places}
 use Rattle.smith_scopes.proofs.Rows.{all_and_row}
-use Rattle.smith_scopes.proofs.Stack.{length-places}
+use Rattle.smith_scope.proofs.Places.{length-places}
 use Rattle.smith_scopes.proofs.scopes.made.MadeScope.equal_len.Goals as goal
 
 counted : (c : goal.After-later_len) → length c.row.result.now + c.later_len.result ≡ length (equal_places c.args.func.now (scope_in c.args.self.now))

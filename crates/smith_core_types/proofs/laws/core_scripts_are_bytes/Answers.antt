@@ -1,5 +1,0 @@
-use Rattle.smith_core_types.proofs.ScriptBytes.{small_core}
-use Rattle.smith_core_types.proofs.laws.core_scripts_are_bytes.Goals as goal
-
-pub returns : goal.returns
-returns c = λ config around fuel e formed limits texts need few. (small_core config around fuel e formed limits texts need few).are

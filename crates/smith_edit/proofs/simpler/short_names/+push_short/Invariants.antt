@@ -1,4 +1,0 @@
-use Rattle.smith_edit.proofs.simpler.short_names.+push_short.Given as goal
-
-abbrev pub decreases-push_short : goal.decreases-push_short
-decreases-push_short l = l.count

@@ -1,0 +1,4 @@
+pub mod Kept
+pub mod Nest
+pub mod Parts
+pub mod Positions

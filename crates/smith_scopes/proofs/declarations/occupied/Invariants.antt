@@ -1,0 +1,10 @@
+use Rattle.std.proofs.Common.{◌≡◌, ◌++◌}
+use Rattle.std.specs.Prelude.{drop}
+use Rattle.smith_syntax.specs.Places.{places}
+use Rattle.smith_tree.specs.TypeOffers.{is_occupied, occupied}
+use Rattle.smith_scopes.proofs.declarations.occupied.Given as goal
+
+abbrev pub invariant-loop-count : goal.invariant-loop-count
+invariant-loop-count g l =
+    let scopes = g.S.Nested.inward l.scopes in
+    l.counts.items ++ places is_occupied l.count (drop l.count scopes) ≡ occupied scopes

@@ -1,4 +1,0 @@
-pub mod Picking
-pub mod ReadableTexts
-pub mod Saying
-pub mod Turns

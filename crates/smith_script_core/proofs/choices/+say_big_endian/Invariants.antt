@@ -1,4 +1,0 @@
-use Rattle.smith_script_core.proofs.choices.+say_big_endian.Given as goal
-
-abbrev pub decreases-say_big_endian : goal.decreases-say_big_endian
-decreases-say_big_endian l = l.width

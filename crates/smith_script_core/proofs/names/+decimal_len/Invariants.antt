@@ -1,4 +1,0 @@
-use Rattle.smith_script_core.proofs.names.+decimal_len.Given as goal
-
-abbrev pub decreases-decimal_len : goal.decreases-decimal_len
-decreases-decimal_len l = l.n

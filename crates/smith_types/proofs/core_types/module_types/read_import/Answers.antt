@@ -1,0 +1,51 @@
+use Rattle.std.proofs.Common.{ℕ, ◌-◌, List, refl, sym, subst, append-nil, string_bytes, map}
+use Rattle.smith_input.specs.Texts.{ReadsNewText, ReadsText}
+use Rattle.smith_syntax.specs.Entries.{imports}
+use Rattle.smith_types.specs.MadeCore.{ReadsImportNames}
+use Rattle.smith_types.specs.MakingCore.{MaybeEntity, shown_funcs, so_far}
+use Rattle.smith_syntax.specs.ModuleTypes.{names_from}
+use Rattle.smith_syntax.specs.Shown.{shown_decl}
+use Rattle.smith_types.proofs.MakingCore.{keep_more, same_state}
+use Rattle.smith_scopes.proofs.Plain.{pushed}
+use Rattle.smith_types.proofs.core_types.module_types.read_import.Goals as goal
+
+pub returns-in-None-clause-adds : goal.returns-in-None-clause-adds
+returns-in-None-clause-adds c around fuel =
+    let s = so_far c.args.declared.now fuel in
+    let none = subst (λ e. MaybeEntity c.args.making.now.config.now s c.read_import_names.new.u e c.read_entity.new.u) c.in-None.is
+    (c.read_entity.ensures.reads fuel) in
+    let from = string_bytes c.in_ok-module.module in
+    let name = string_bytes c.in_ok-module.name in
+    let N : List _ → Type 0 = λ ds. (mid : List ℕ) × ReadsText 100 c.args.u.now from mid
+    × ReadsNewText 100 (names_from from (map shown_decl ds)) mid name c.read_import_names.new.u in
+    let R : List ℕ → Type 0 = λ r. ReadsImportNames s c.args.u.now from name r in
+    ((from, name, subst R (sym none.1) (subst N c.deref.ensures.value c.in_ok-module.ensures.reads), none.0), refl)
+
+pub returns-in_ok-push-in-Some-clause-adds : goal.returns-in_ok-push-in-Some-clause-adds
+returns-in_ok-push-in-Some-clause-adds c around fuel =
+    let old = c.args.declared.now in
+    let some = subst (λ e. MaybeEntity c.args.making.now.config.now (so_far old fuel) c.read_import_names.new.u e c.read_entity.new.u) c.in-Some.is
+    (c.read_entity.ensures.reads fuel) in
+    let from = string_bytes c.in_ok-module.module in
+    let name = string_bytes c.in_ok-module.name in
+    let N : List _ → Type 0 = λ ds. (mid : List ℕ) × ReadsText 100 c.args.u.now from mid
+    × ReadsNewText 100 (names_from from (map shown_decl ds)) mid name c.read_import_names.new.u in
+    let decls = pushed shown_decl old.counted.defs.items c.push.new.self.defs.items _ c.in_ok-push-in-Some.ensures.items in (
+      imports from name c.in-Some.entity_type,
+      (
+        from,
+        name,
+        c.read_import_names.new.u,
+        subst N c.deref.ensures.value c.in_ok-module.ensures.reads,
+        c.in-Some.entity_type,
+        some,
+        refl,
+      ),
+      same_state (fuel - 1) (fuel - 1) (sym (append-nil (shown_funcs old.own.items))) decls refl,
+    )
+
+pub returns-in_ok-push-in-Some-clause-kept : goal.returns-in_ok-push-in-Some-clause-kept
+returns-in_ok-push-in-Some-clause-kept c around k =
+    let old = c.args.declared.now in
+    let own = shown_funcs old.own.items in
+    keep_more around own own old.counted.defs.items _ _ k tt (sym (append-nil own)) c.in_ok-push-in-Some.ensures.items
