@@ -4,6 +4,7 @@ use crate::error::Unkept;
 use crate::needs::Needs;
 use smith_read::ComponentTree;
 use smith_script_types::Given;
+use std::alloc::AllocError;
 
 // That there is more than a limit has.
 fn above(name: &'static str, value: usize, count: usize) -> Option<Unkept> {
@@ -21,9 +22,9 @@ fn off(name: &'static str, is_on: bool, is_needed: bool) -> Option<Unkept> {
 }
 
 /// A limit that a component does not keep, if one is found.
-pub(crate) fn unkept(given: Given<'_>, tree: &ComponentTree) -> Option<Unkept> {
+pub(crate) fn unkept(given: Given<'_>, tree: &ComponentTree) -> Result<Option<Unkept>, AllocError> {
     let config = given.config;
-    let needs = Needs::of(given.alloc, tree).ok()?;
+    let needs = Needs::of(given.alloc, tree)?;
     let [module_funcs, tables, memories, globals, tags] = needs.kinds;
     let funcs = needs.funcs.max(module_funcs);
     let depth = config.max_nesting_depth.max(1);
@@ -55,5 +56,5 @@ pub(crate) fn unkept(given: Given<'_>, tree: &ComponentTree) -> Option<Unkept> {
         below("min_funcs", config.min_funcs, needs.least_funcs),
         below("finish_after", config.finish_after, needs.least_sections),
     ];
-    limits.into_iter().flatten().next()
+    Ok(limits.into_iter().flatten().next())
 }

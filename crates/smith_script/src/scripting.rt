@@ -88,55 +88,6 @@ fn tried(alloc: Global, config: &Config, input: &[u8], bytes: &[u8]) -> Result<T
     }
 }
 
-// Does a script produce the component if components need not validate?
-fn would_be_given(alloc: Global, config: &Config, bytes: &[u8], tree: &ComponentTree) -> bool {
-    let config = Config {
-        must_validate: false,
-        ..*config
-    };
-    let mut input = Vec::new(alloc);
-    let given = Given {
-        alloc,
-        config: &config,
-    };
-    say_tree(&mut input, given, tree).is_ok()
-        && matches!(tried(alloc, &config, &input, bytes), Ok(Trial::These))
-}
-
-// The limit that the component does not keep, if one is found.
-fn limit_of(given: Given<'_>, bytes: &[u8], tree: &ComponentTree) -> Option<Unkept> {
-    let limit = unkept(given, tree);
-    let demands = limit.is_none() && given.config.must_validate;
-    if demands && would_be_given(given.alloc, given.config, bytes, tree) {
-        return Some(Unkept::On {
-            name: "must_validate",
-        });
-    }
-    limit
-}
-
-// That no input produces the component, when its script was tried, or as much of it as there is.
-fn no_script(
-    given: Given<'_>,
-    bytes: &[u8],
-    tree: &ComponentTree,
-    tried: Result<Trial, AllocError>,
-) -> ScriptError
-    requires read { AreReadAs bytes.now (shown_tree tree.now) }
-    requires offset { IfOk tried (DiffersWithin bytes.now) }
-    ensures why { IsScriptRefusal bytes.now result }
-    ensures limits { ¬ (result ≡ InconsistentLimits) }
-{
-    let offset = match tried {
-        Ok(Trial::Others(common)) => Some(common),
-        _ => None,
-    };
-    ScriptError::NoScript {
-        limit: limit_of(given, bytes, tree),
-        offset,
-    }
-}
-
 // The script of a component that is well formed, as it is defined.
 fn drafted(alloc: Global, config: &Config, tree: &ComponentTree) -> Result<Draft, AllocError>
     requires { WellFormed (shown_tree tree.now) }
@@ -148,6 +99,59 @@ fn drafted(alloc: Global, config: &Config, tree: &ComponentTree) -> Result<Draft
         Err(Error::OutOfMemory) => Err(AllocError),
         Err(_) => Ok(Draft::Part(input)),
     }
+}
+
+// Does a script produce the component if components need not validate?
+fn would_be_given(given: Given<'_>, bytes: &[u8], tree: &ComponentTree) -> Result<bool, AllocError>
+    requires { WellFormed (shown_tree tree.now) }
+{
+    let config = Config {
+        must_validate: false,
+        ..*given.config
+    };
+    let Draft::Whole(input) = drafted(given.alloc, &config, tree)? else {
+        return Ok(false);
+    };
+    let trial = tried(given.alloc, &config, &input, bytes)?;
+    Ok(matches!(trial, Trial::These))
+}
+
+// The limit that the component does not keep, if one is found.
+fn limit_of(
+    given: Given<'_>,
+    bytes: &[u8],
+    tree: &ComponentTree,
+) -> Result<Option<Unkept>, AllocError>
+    requires { WellFormed (shown_tree tree.now) }
+{
+    let limit = unkept(given, tree)?;
+    let demands = limit.is_none() && given.config.must_validate;
+    if demands && would_be_given(given, bytes, tree)? {
+        return Ok(Some(Unkept::On {
+            name: "must_validate",
+        }));
+    }
+    Ok(limit)
+}
+
+// That no input produces the component, when its script was tried, or as much of it as there is.
+fn no_script(
+    given: Given<'_>,
+    bytes: &[u8],
+    tree: &ComponentTree,
+    tried: Trial,
+) -> Result<ScriptError, AllocError>
+    requires read { AreReadAs bytes.now (shown_tree tree.now) }
+    requires offset { DiffersWithin bytes.now tried }
+    ensures why { IfOk result (IsScriptRefusal bytes.now) }
+    ensures limits { IfOk result (λ e. ¬ (e ≡ InconsistentLimits)) }
+{
+    let offset = match tried {
+        Trial::Others(common) => Some(common),
+        _ => None,
+    };
+    let limit = limit_of(given, bytes, tree)?;
+    Ok(ScriptError::NoScript { limit, offset })
 }
 
 // The script of a component that is well formed: written as it is defined, and tried.
@@ -165,16 +169,17 @@ fn written(
     ensures why { IfErr result (IsScriptRefusal bytes.now) }
     ensures limits { IfErr result (λ e. ¬ (e ≡ InconsistentLimits)) }
 {
+    let given = Given { alloc, config };
     let input = match drafted(alloc, config, tree)? {
         Draft::Whole(input) => input,
         Draft::Part(input) => {
-            let part = tried(alloc, config, &input, bytes);
-            return Err(no_script(Given { alloc, config }, bytes, tree, part));
+            let part = tried(alloc, config, &input, bytes)?;
+            return Err(no_script(given, bytes, tree, part)?);
         }
     };
     match tried(alloc, config, &input, bytes)? {
         Trial::These => Ok(input),
-        other => Err(no_script(Given { alloc, config }, bytes, tree, Ok(other))),
+        other => Err(no_script(given, bytes, tree, other)?),
     }
 }
 
