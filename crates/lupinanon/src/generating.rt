@@ -8,7 +8,7 @@ ghost use Rattle.lupinanon.specs.Converting.{IsOfLimits, IsWithinError, WritesWi
 use crate::limits_file::{LimitsTable, config_of, refuse_both, refuse_limits, table_of};
 use crate::options::Options;
 use crate::places::{
-    STANDARD_INPUT, STANDARD_OUTPUT, Sink, Source, opened, print_fault, refuse_terminal,
+    STANDARD_INPUT, STANDARD_OUTPUT, Sink, Source, print_fault, refuse_terminal, source_of,
 };
 use crate::print_error;
 use smith_limits::{Fault, limits_of};
@@ -99,7 +99,7 @@ fn status_after(
 // Makes the component within the limits that are given.
 fn generate_within(rt: &HostRuntime, options: &Options<'_>) -> Result<ExitCode, ExitCode> {
     let LimitsTable { in_file, table } = table_of(rt, &options.limits)?;
-    let mut source = opened(rt, options.input)?;
+    let mut source = source_of(rt, options.input)?;
     let mut sink = Sink::new(rt, options.output);
     let left = match convert_within(rt.alloc(), &table, &mut source, &mut sink, options.form) {
         Ok(left) => Ok(left),
@@ -114,7 +114,7 @@ fn generate_within(rt: &HostRuntime, options: &Options<'_>) -> Result<ExitCode, 
 // Makes the component within the limits that the first bytes of the input encode.
 fn generate_swarm(rt: &HostRuntime, options: &Options<'_>) -> Result<ExitCode, ExitCode> {
     let config = config_of(rt, &options.limits)?;
-    let mut source = opened(rt, options.input)?;
+    let mut source = source_of(rt, options.input)?;
     let mut sink = Sink::new(rt, options.output);
     let left = convert_swarm(rt.alloc(), &mut source, &mut sink, config, options.form);
     status_after(rt, options, left, &source, &sink)

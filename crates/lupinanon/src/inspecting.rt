@@ -1,7 +1,7 @@
 //! Looking at a component in a file: whether it is well formed, and what is in it.
 
 use crate::FAULT;
-use crate::places::{STANDARD_INPUT, Source, opened, print_fault, status_of_print};
+use crate::places::{STANDARD_INPUT, Source, print_fault, source_of, status_of_print};
 use crate::show::Shown;
 use smith_read::read;
 use smith_verdict::{Validity, Verdict, check as check_bytes, validate};
@@ -24,7 +24,7 @@ fn read_whole(rt: &HostRuntime, source: &mut Source) -> io::Result<Vec<u8>> {
 
 /// The bytes of the file, or the status after a message.
 pub fn bytes_in(rt: &HostRuntime, path: Option<&str>) -> Result<Vec<u8>, ExitCode> {
-    let mut source = opened(rt, path)?;
+    let mut source = source_of(rt, path)?;
     match read_whole(rt, &mut source) {
         Ok(bytes) => Ok(bytes),
         Err(error) => {

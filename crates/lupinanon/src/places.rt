@@ -153,7 +153,7 @@ pub fn print_fault(
 }
 
 /// Opens the file, or standard input if there is none, or returns the status after a message.
-pub fn opened(rt: &HostRuntime, path: Option<&str>) -> Result<Source, ExitCode> {
+pub fn source_of(rt: &HostRuntime, path: Option<&str>) -> Result<Source, ExitCode> {
     match Source::open(rt, path) {
         Ok(source) => Ok(source),
         Err(error) => Err(print_fault(rt, path, STANDARD_INPUT, Some(&error))),
