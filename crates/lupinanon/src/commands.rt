@@ -158,6 +158,7 @@ fn smaller_command<'a>(alloc: Global) -> Result<Command<'a>, AllocError> {
     let from =
         "The first one from that step on. The number of its step is printed on standard error";
     let any = "Count each well-formed component, whatever the limits";
+    let any = switch(alloc, "any", any);
     let which = number(alloc, "number", "K", which).short('k');
     let from = number(alloc, "from", "STEP", from);
     let files = plain(alloc, "smaller", about, AFTER_SMALLER)
@@ -166,7 +167,7 @@ fn smaller_command<'a>(alloc: Global) -> Result<Command<'a>, AllocError> {
     with_limits(alloc, files)?
         .arg(which.required_unless_present("from")?)?
         .arg(from.conflicts_with("number")?)?
-        .arg(switch(alloc, "any", any).conflicts_with_all(&["limits", "limit"])?)
+        .arg(any.conflicts_with("limits")?.conflicts_with("limit")?)
 }
 
 // The command with how many inputs are drawn, from what, and of how many bytes.
@@ -191,8 +192,12 @@ fn corpus_command<'a>(alloc: Global) -> Result<Command<'a>, AllocError> {
     let about = "Write inputs that are read to their ends into a folder";
     let from = "Write the scripts of the components *.wasm in that folder, and no random inputs";
     let to = "The folder where they go, which is made if it is missing";
-    let of_draw = ["count", "bytes", "seed", "swarm", "components"];
-    let from = option(alloc, "from", "FOLDER", from).conflicts_with_all(&of_draw)?;
+    let from = option(alloc, "from", "FOLDER", from)
+        .conflicts_with("count")?
+        .conflicts_with("bytes")?
+        .conflicts_with("seed")?
+        .conflicts_with("swarm")?
+        .conflicts_with("components")?;
     let files = with_draw(alloc, plain(alloc, "corpus", about, AFTER_CORPUS))?
         .arg(from)?
         .arg(output(alloc, to).required(true))?;
