@@ -6,8 +6,8 @@ use Rattle.smith_format.specs.Consistency.{IsDefault}
 use Rattle.smith_limits.specs.Limits.{IsRefused, SetsLimits}
 use Rattle.smith_run.specs.Running.{ComesAfterReading, GivesAll, IsRefusedOn, Writes}
 use Rattle.smith_run.specs.declared.running.Form.{Form}
-use Rattle.lupinanon.specs.declared.converting.WithinError.{WithinError}
-use Rattle.lupinanon.specs.declared.converting.WithinError.TheVariants.{Limits, Run}
+use Rattle.lupinanon.specs.declared.generating.WithinError.{WithinError}
+use Rattle.lupinanon.specs.declared.generating.WithinError.TheVariants.{Limits, Run}
 
 -- The component that is made of the whole input within the limits that the table sets is written in the form, and that many bytes of the
 -- input are left. The reader goes from `before` to `after`, and the writer from `old` to `new`.

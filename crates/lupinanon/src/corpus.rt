@@ -1,10 +1,12 @@
 //! Writing a corpus: inputs that are read to their end, as the files of a folder.
 
-use crate::folder_options::{CorpusOptions, Draw, Origin};
 use crate::folders::{COMPONENT_ENDING, components_in, make_folder, path_in, write_new};
-use crate::inspecting::{REFUSED, bytes_in, refuse, refuse_ill_formed};
+use crate::inspecting::{REFUSED, bytes_in};
 use crate::limits_file::config_of;
+use crate::options::{Draw, Limits, Origin};
 use crate::places::status_of_print;
+use crate::print_error;
+use crate::scripting::refuse_script;
 use rand_pcg::Pcg32;
 use rand_pcg::rand_core::SeedableRng;
 use smith_component::Config;
@@ -43,7 +45,7 @@ fn drawn(
     match sample {
         Ok(sample) => Ok(sample),
         Err(error) => {
-            let _ = eprintln!(rt; "lupinanon: no input is found: {error}");
+            let _status = print_error(rt, format_args!("no input is found: {error}"));
             Err(ExitCode::from(REFUSED))
         }
     }
@@ -52,7 +54,7 @@ fn drawn(
 // Writes random inputs, and says how many bytes they and their components have.
 fn write_random(
     rt: &HostRuntime,
-    options: &CorpusOptions<'_>,
+    folder: &str,
     config: &Config,
     draw: Draw,
 ) -> Result<ExitCode, ExitCode> {
@@ -61,9 +63,9 @@ fn write_random(
     let mut component_bytes: u64 = 0;
     for number in 0..draw.count {
         let sample = drawn(rt, config, &mut random, draw)?;
-        write_new(rt, &path_in(rt, options.output, number, "")?, &sample.input)?;
+        write_new(rt, &path_in(rt, folder, number, "")?, &sample.input)?;
         if draw.with_components {
-            let path = path_in(rt, options.output, number, COMPONENT_ENDING)?;
+            let path = path_in(rt, folder, number, COMPONENT_ENDING)?;
             write_new(rt, &path, &sample.component)?;
         }
         input_bytes = input_bytes.saturating_add(sample.input.len() as u64);
@@ -71,16 +73,16 @@ fn write_random(
         show_progress(rt, number + 1, draw.count);
     }
     let count = draw.count;
-    Ok(status_of_print(
+    status_of_print(
         rt,
         println!(rt; "inputs {count}, bytes {input_bytes}, bytes of components {component_bytes}"),
-    ))
+    )
 }
 
-// Writes the script of a component, or says why there is none. Returns how many are written.
+// Writes the script of a component into the folder, or says why there is none. Returns how many are written.
 fn write_script(
     rt: &HostRuntime,
-    options: &CorpusOptions<'_>,
+    folder: &str,
     config: &Config,
     path: &str,
     name: &str,
@@ -88,17 +90,15 @@ fn write_script(
     let bytes = bytes_in(rt, Some(path))?;
     match script(rt.alloc(), config, &bytes) {
         Ok(input) => {
-            write_new(rt, &path_in(rt, options.output, name, "")?, &input)?;
+            write_new(rt, &path_in(rt, folder, name, "")?, &input)?;
             Ok(1)
         }
-        Err(ScriptError::OutOfMemory) => Err(refuse(rt, Some(path), &"out of memory", REFUSED)),
-        Err(ScriptError::IllFormed(fault)) => {
-            let _status = refuse_ill_formed(rt, Some(path), &bytes, &fault);
-            Ok(0)
-        }
         Err(error) => {
-            let _status = refuse(rt, Some(path), &error, REFUSED);
-            Ok(0)
+            let status = refuse_script(rt, Some(path), &bytes, &error);
+            match error {
+                ScriptError::OutOfMemory => Err(status),
+                _ => Ok(0),
+            }
         }
     }
 }
@@ -106,38 +106,37 @@ fn write_script(
 // Writes the scripts of the components in a folder, and says how many have none.
 fn write_scripts(
     rt: &HostRuntime,
-    options: &CorpusOptions<'_>,
-    config: &Config,
     folder: &str,
+    config: &Config,
+    from: &str,
 ) -> Result<ExitCode, ExitCode> {
-    let names = components_in(rt, folder)?;
+    let names = components_in(rt, from)?;
     let count = names.len();
     let mut written: usize = 0;
     for (number, name) in names.iter().enumerate() {
-        let path = path_in(rt, folder, name, COMPONENT_ENDING)?;
-        let more = write_script(rt, options, config, &path, name)?;
+        let path = path_in(rt, from, name, COMPONENT_ENDING)?;
+        let more = write_script(rt, folder, config, &path, name)?;
         written = written.saturating_add(more);
         show_progress(rt, number + 1, count);
     }
     let others = count.saturating_sub(written);
-    Ok(status_of_print(
+    status_of_print(
         rt,
         println!(rt; "inputs {written}, components without one {others}"),
-    ))
+    )
 }
 
-fn written(rt: &HostRuntime, options: &CorpusOptions<'_>) -> Result<ExitCode, ExitCode> {
-    let config = config_of(rt, &options.limits)?;
-    make_folder(rt, options.output)?;
-    match options.origin {
-        Origin::Random(draw) => write_random(rt, options, &config, draw),
-        Origin::Folder(folder) => write_scripts(rt, options, &config, folder),
-    }
-}
-
-/// Writes the inputs that are asked for.
-pub fn corpus(rt: &HostRuntime, options: &CorpusOptions<'_>) -> ExitCode {
-    match written(rt, options) {
-        Ok(status) | Err(status) => status,
+/// Writes the inputs of that origin into the folder.
+pub fn corpus(
+    rt: &HostRuntime,
+    folder: &str,
+    origin: Origin<'_>,
+    limits: &Limits<'_>,
+) -> Result<ExitCode, ExitCode> {
+    let config = config_of(rt, limits)?;
+    make_folder(rt, folder)?;
+    match origin {
+        Origin::Random(draw) => write_random(rt, folder, &config, draw),
+        Origin::Folder(from) => write_scripts(rt, folder, &config, from),
     }
 }

@@ -1,7 +1,7 @@
 //! Folders, and the files in them.
 
 use crate::places::print_fault;
-use crate::{FAULT, print_error};
+use crate::print_error;
 use std::fmt;
 use std::fs::{self, File};
 use std::io::{self, Write};
@@ -10,10 +10,12 @@ use std::process::ExitCode;
 /// How the names of components end.
 pub const COMPONENT_ENDING: &str = ".wasm";
 
-// Prints the fault of a file or a folder, and returns the status.
-fn refuse_path(rt: &HostRuntime, path: &str, error: &io::Error) -> ExitCode {
-    print_fault(rt, None, path, Some(error));
-    ExitCode::from(FAULT)
+// The value, or the status after a message of a file or a folder.
+fn settled<T: Drop>(rt: &HostRuntime, path: &str, done: io::Result<T>) -> Result<T, ExitCode> {
+    match done {
+        Ok(value) => Ok(value),
+        Err(error) => Err(print_fault(rt, None, path, Some(&error))),
+    }
 }
 
 fn listed(rt: &HostRuntime, folder: &str) -> io::Result<Vec<String>> {
@@ -30,18 +32,12 @@ fn listed(rt: &HostRuntime, folder: &str) -> io::Result<Vec<String>> {
 
 /// The names of the files `*.wasm` in a folder, in order and without that ending, or the status after a message.
 pub fn components_in(rt: &HostRuntime, folder: &str) -> Result<Vec<String>, ExitCode> {
-    match listed(rt, folder) {
-        Ok(names) => Ok(names),
-        Err(error) => Err(refuse_path(rt, folder, &error)),
-    }
+    settled(rt, folder, listed(rt, folder))
 }
 
 /// Makes a folder if there is none, or returns the status after a message.
 pub fn make_folder(rt: &HostRuntime, folder: &str) -> Result<(), ExitCode> {
-    match fs::create_dir_all(rt, folder) {
-        Ok(()) => Ok(()),
-        Err(error) => Err(refuse_path(rt, folder, &error)),
-    }
+    settled(rt, folder, fs::create_dir_all(rt, folder))
 }
 
 fn create_with(rt: &HostRuntime, path: &str, bytes: &[u8]) -> io::Result<()> {
@@ -64,8 +60,5 @@ pub fn path_in<N: fmt::Display + Drop>(
 
 /// Writes a file if there is none, or returns the status after a message.
 pub fn write_new(rt: &HostRuntime, path: &str, bytes: &[u8]) -> Result<(), ExitCode> {
-    match create_with(rt, path, bytes) {
-        Ok(()) => Ok(()),
-        Err(error) => Err(refuse_path(rt, path, &error)),
-    }
+    settled(rt, path, create_with(rt, path, bytes))
 }

@@ -1,13 +1,60 @@
-//! Making a component of a file's bytes.
+//! Making a component of a file's bytes: from a table of limits and a reader to a writer.
 
-use crate::FAULT;
-use crate::converting::{WithinError, convert_within};
-use crate::limits_fault::print_limits_fault;
-use crate::limits_file::{LimitsTable, config_of, refuses_both, table_of};
+ghost use Rattle.std.specs.Prelude.{◌≡◌, ◌≢◌, IfOk, IfErr, IsErrOf};
+ghost use Rattle.toml.specs.View.{table_view};
+ghost use Rattle.smith_run.specs.Running.{GivesTooMuch};
+ghost use Rattle.lupinanon.specs.Converting.{IsOfLimits, IsWithinError, WritesWithin};
+
+use crate::limits_file::{LimitsTable, config_of, refuse_both, refuse_limits, table_of};
 use crate::options::Options;
-use crate::places::{STANDARD_INPUT, STANDARD_OUTPUT, Sink, Source, print_fault, refuses_terminal};
-use smith_run::{LONGEST_INPUT, RunError, convert_swarm};
+use crate::places::{
+    STANDARD_INPUT, STANDARD_OUTPUT, Sink, Source, print_fault, refuse_terminal, source_of,
+};
+use crate::print_error;
+use smith_limits::{Fault, limits_of};
+use smith_run::{Form, LONGEST_INPUT, RunError, convert, convert_swarm};
+use std::alloc::Global;
+use std::io::{Read, Write};
 use std::process::ExitCode;
+use toml::Table;
+
+/// Why no component is written within the limits that a table sets.
+#[derive(Debug, PartialEq, Eq, Drop)]
+pub enum WithinError {
+    /// The table sets no limits.
+    Limits(Fault),
+    /// The run within the limits fails.
+    Run(RunError),
+}
+
+/// Reads the whole input, makes a component of it within the limits that the table sets, and writes it in the form, as
+/// `smith_run::convert` does. Returns how many bytes of the input are left. If the table sets no limits, nothing is
+/// read.
+pub fn convert_within<R: Read, W: Write>(
+    alloc: Global,
+    table: &Table,
+    reader: &mut R,
+    writer: &mut W,
+    form: Form,
+) -> Result<usize, WithinError>
+    ensures written { IfOk result (WritesWithin (table_view table.now) form (R.remaining reader.old)
+        (R.remaining reader.new) (W.contents writer.old) (W.contents writer.new)) }
+    ensures refused { IfErr result
+        (IsWithinError (table_view table.now) (R.remaining reader.old) (R.remaining reader.new)) }
+    ensures unread { IfErr result (λ e. IsOfLimits e → reader.new ≡ reader.old) }
+    ensures unwritten { IfErr result (λ e. e ≢ WithinError.Run RunError.WriteFault → writer.new ≡ writer.old) }
+    ensures too_long { IsErrOf result (WithinError.Run RunError.InputTooLong)
+        → GivesTooMuch (R.remaining reader.old) (R.remaining reader.new) }
+{
+    let config = match limits_of(alloc, table) {
+        Ok(config) => config,
+        Err(fault) => return Err(WithinError::Limits(fault)),
+    };
+    match convert(alloc, reader, writer, config, form) {
+        Ok(left) => Ok(left),
+        Err(error) => Err(WithinError::Run(error)),
+    }
+}
 
 // Prints why a run failed, and returns its status.
 fn status_of_run(
@@ -18,89 +65,68 @@ fn status_of_run(
     sink: &Sink<'_>,
 ) -> ExitCode {
     let status = error.status();
-    match error {
+    let _status = match error {
         RunError::ReadFault => print_fault(rt, options.input, STANDARD_INPUT, source.fault()),
         RunError::WriteFault => print_fault(rt, options.output, STANDARD_OUTPUT, sink.fault()),
         RunError::InputTooLong => {
-            let _ = eprintln!(rt; "lupinanon: the input has more than {LONGEST_INPUT} bytes");
+            let why = format_args!("the input has more than {LONGEST_INPUT} bytes");
+            print_error(rt, why)
         }
-        RunError::Refused(refusal) => {
-            let _ = eprintln!(rt; "lupinanon: {refusal:?}: {refusal}");
-        }
-    }
+        RunError::Refused(refusal) => print_error(rt, format_args!("{refusal:?}: {refusal}")),
+    };
     ExitCode::from(status)
 }
 
-// The input, or the status after a message.
-fn opened(rt: &HostRuntime, options: &Options<'_>) -> Result<Source, ExitCode> {
-    match Source::open(rt, options.input) {
-        Ok(source) => Ok(source),
-        Err(error) => {
-            print_fault(rt, options.input, STANDARD_INPUT, Some(&error));
-            Err(ExitCode::from(FAULT))
-        }
-    }
-}
-
-// The status of a run that leaves that many bytes, which are printed if that is asked for.
-fn status_of_success(rt: &HostRuntime, options: &Options<'_>, left: usize) -> ExitCode {
-    if options.prints_left {
-        let _ = eprintln!(rt; "left {left}");
-    }
-    ExitCode::SUCCESS
-}
-
-// Makes the component within the limits that the table sets.
-fn generate_within(
+// The status of a run that left that many bytes, which are printed if that is asked for, or failed.
+fn status_after(
     rt: &HostRuntime,
     options: &Options<'_>,
-    limits: &LimitsTable,
+    left: Result<usize, RunError>,
+    source: &Source,
+    sink: &Sink<'_>,
 ) -> Result<ExitCode, ExitCode> {
-    let mut source = opened(rt, options)?;
-    let mut sink = Sink::new(rt, options.output);
-    match convert_within(
-        rt.alloc(),
-        &limits.table,
-        &mut source,
-        &mut sink,
-        options.form,
-    ) {
-        Ok(left) => Ok(status_of_success(rt, options, left)),
-        Err(WithinError::Limits(fault)) => {
-            print_limits_fault(rt, &options.limits, &limits.in_file, &fault);
-            Err(ExitCode::from(FAULT))
+    match left {
+        Ok(left) => {
+            if options.prints_left {
+                let _ = eprintln!(rt; "left {left}");
+            }
+            Ok(ExitCode::SUCCESS)
         }
-        Err(WithinError::Run(error)) => Err(status_of_run(rt, options, error, &source, &sink)),
+        Err(error) => Err(status_of_run(rt, options, error, source, sink)),
     }
+}
+
+// Makes the component within the limits that are given.
+fn generate_within(rt: &HostRuntime, options: &Options<'_>) -> Result<ExitCode, ExitCode> {
+    let LimitsTable { in_file, table } = table_of(rt, &options.limits)?;
+    let mut source = source_of(rt, options.input)?;
+    let mut sink = Sink::new(rt, options.output);
+    let left = match convert_within(rt.alloc(), &table, &mut source, &mut sink, options.form) {
+        Ok(left) => Ok(left),
+        Err(WithinError::Run(error)) => Err(error),
+        Err(WithinError::Limits(fault)) => {
+            return Err(refuse_limits(rt, &options.limits, &in_file, &fault));
+        }
+    };
+    status_after(rt, options, left, &source, &sink)
 }
 
 // Makes the component within the limits that the first bytes of the input encode.
 fn generate_swarm(rt: &HostRuntime, options: &Options<'_>) -> Result<ExitCode, ExitCode> {
     let config = config_of(rt, &options.limits)?;
-    let mut source = opened(rt, options)?;
+    let mut source = source_of(rt, options.input)?;
     let mut sink = Sink::new(rt, options.output);
-    match convert_swarm(rt.alloc(), &mut source, &mut sink, config, options.form) {
-        Ok(left) => Ok(status_of_success(rt, options, left)),
-        Err(error) => Err(status_of_run(rt, options, error, &source, &sink)),
-    }
-}
-
-fn generated(rt: &HostRuntime, options: &Options<'_>) -> Result<ExitCode, ExitCode> {
-    if options.is_swarm {
-        return generate_swarm(rt, options);
-    }
-    let limits = table_of(rt, &options.limits)?;
-    generate_within(rt, options, &limits)
+    let left = convert_swarm(rt.alloc(), &mut source, &mut sink, config, options.form);
+    status_after(rt, options, left, &source, &sink)
 }
 
 /// Makes the component that is asked for.
-pub fn generate(rt: &HostRuntime, options: &Options<'_>) -> ExitCode {
-    if refuses_terminal(rt, options.output, options.form)
-        || refuses_both(rt, &options.limits, "the input", options.input)
-    {
-        return ExitCode::from(FAULT);
-    }
-    match generated(rt, options) {
-        Ok(status) | Err(status) => status,
+pub fn generate(rt: &HostRuntime, options: &Options<'_>) -> Result<ExitCode, ExitCode> {
+    refuse_terminal(rt, options.output, options.form)?;
+    refuse_both(rt, &options.limits, "the input", options.input)?;
+    if options.is_swarm {
+        generate_swarm(rt, options)
+    } else {
+        generate_within(rt, options)
     }
 }

@@ -1,10 +1,9 @@
 //! Looking at a component in a file: whether it is well formed, and what is in it.
 
 use crate::FAULT;
-use crate::places::{STANDARD_INPUT, Source, print_fault, status_of_print};
+use crate::places::{STANDARD_INPUT, Source, print_fault, source_of, status_of_print};
 use crate::show::Shown;
-use smith_read::{ComponentTree, offset_of, read};
-use smith_script::Fault;
+use smith_read::read;
 use smith_verdict::{Validity, Verdict, check as check_bytes, validate};
 use std::fmt;
 use std::io::{self, Read};
@@ -25,19 +24,12 @@ fn read_whole(rt: &HostRuntime, source: &mut Source) -> io::Result<Vec<u8>> {
 
 /// The bytes of the file, or the status after a message.
 pub fn bytes_in(rt: &HostRuntime, path: Option<&str>) -> Result<Vec<u8>, ExitCode> {
-    let mut source = match Source::open(rt, path) {
-        Ok(source) => source,
-        Err(error) => {
-            print_fault(rt, path, STANDARD_INPUT, Some(&error));
-            return Err(ExitCode::from(FAULT));
-        }
-    };
+    let mut source = source_of(rt, path)?;
     match read_whole(rt, &mut source) {
         Ok(bytes) => Ok(bytes),
         Err(error) => {
             let fault = source.fault().unwrap_or(&error);
-            print_fault(rt, path, STANDARD_INPUT, Some(fault));
-            Err(ExitCode::from(FAULT))
+            Err(print_fault(rt, path, STANDARD_INPUT, Some(fault)))
         }
     }
 }
@@ -54,90 +46,54 @@ pub fn refuse<W: fmt::Display>(
     ExitCode::from(status)
 }
 
-// The component that the file spells, or the status after a message.
-fn component_in(rt: &HostRuntime, path: Option<&str>) -> Result<ComponentTree, ExitCode> {
-    let bytes = bytes_in(rt, path)?;
-    match read(rt.alloc(), &bytes) {
-        Ok(component) => Ok(component),
-        Err(error) => Err(refuse(rt, path, &error, REFUSED)),
-    }
-}
-
-fn report(rt: &HostRuntime, path: Option<&str>, verdict: &Verdict) -> ExitCode {
-    match verdict {
-        Verdict::WellFormed => {
-            let path = path.unwrap_or(STANDARD_INPUT);
-            status_of_print(rt, println!(rt; "{path}: {verdict}"))
-        }
-        Verdict::IllFormed { .. } => refuse(rt, path, verdict, REFUSED),
-        Verdict::Unread { .. } => refuse(rt, path, verdict, UNREAD),
-    }
-}
-
-/// Prints which rule a component breaks, and where, and returns the status.
-pub fn refuse_ill_formed(
-    rt: &HostRuntime,
-    path: Option<&str>,
-    bytes: &[u8],
-    fault: &Fault,
-) -> ExitCode {
-    let rule = fault.rule;
-    match offset_of(rt.alloc(), bytes, fault.item) {
-        Ok(offset) => refuse(rt, path, &Verdict::IllFormed { rule, offset }, REFUSED),
-        Err(_) => refuse(rt, path, &"out of memory", REFUSED),
-    }
-}
-
-/// Says whether the file is a well-formed component, and otherwise what is wrong with it, and where.
-pub fn check(rt: &HostRuntime, path: Option<&str>) -> ExitCode {
-    let bytes = match bytes_in(rt, path) {
-        Ok(bytes) => bytes,
-        Err(status) => return status,
-    };
-    match check_bytes(rt.alloc(), &bytes) {
-        Ok(verdict) => report(rt, path, &verdict),
-        Err(_) => refuse(rt, path, &"out of memory", FAULT),
-    }
-}
-
-fn report_validity(rt: &HostRuntime, path: Option<&str>, validity: &Validity) -> ExitCode {
+fn report(rt: &HostRuntime, path: Option<&str>, validity: &Validity) -> Result<ExitCode, ExitCode> {
     match validity {
-        Validity::Valid => {
+        Validity::Valid | Validity::Other(Verdict::WellFormed) => {
             let path = path.unwrap_or(STANDARD_INPUT);
             status_of_print(rt, println!(rt; "{path}: {validity}"))
         }
-        Validity::Invalid { .. } => refuse(rt, path, validity, REFUSED),
-        Validity::Other(verdict) => report(rt, path, verdict),
+        Validity::Other(Verdict::Unread { .. }) => Err(refuse(rt, path, validity, UNREAD)),
+        _ => Err(refuse(rt, path, validity, REFUSED)),
     }
 }
 
-/// Says whether the file is a well-formed component that a validator accepts, and otherwise what is wrong with it, and
-/// where.
-pub fn check_validity(rt: &HostRuntime, path: Option<&str>) -> ExitCode {
-    let bytes = match bytes_in(rt, path) {
-        Ok(bytes) => bytes,
-        Err(status) => return status,
+/// Says whether the file is a well-formed component, and if that is asked, one that a validator accepts, and otherwise
+/// what is wrong with it, and where.
+pub fn check(rt: &HostRuntime, path: Option<&str>, validates: bool) -> Result<ExitCode, ExitCode> {
+    let bytes = bytes_in(rt, path)?;
+    let judged = if validates {
+        validate(rt.alloc(), &bytes)
+    } else {
+        check_bytes(rt.alloc(), &bytes).map(Validity::Other)
     };
-    match validate(rt.alloc(), &bytes) {
-        Ok(validity) => report_validity(rt, path, &validity),
-        Err(_) => refuse(rt, path, &"out of memory", FAULT),
+    match judged {
+        Ok(validity) => report(rt, path, &validity),
+        Err(_) => Err(refuse(rt, path, &"out of memory", FAULT)),
     }
+}
+
+// Whether a text ends early, which that of a component does only if memory runs out: the error is not one of a write.
+fn is_of_text(error: &io::Error) -> bool {
+    error.kind() == io::ErrorKind::Uncategorized && error.raw_os_error().is_none()
 }
 
 /// Prints the component in the file, a line for each section and for each entry.
-pub fn show(rt: &HostRuntime, path: Option<&str>) -> ExitCode {
-    let bytes = match bytes_in(rt, path) {
-        Ok(bytes) => bytes,
-        Err(status) => return status,
-    };
+pub fn show(rt: &HostRuntime, path: Option<&str>) -> Result<ExitCode, ExitCode> {
+    let bytes = bytes_in(rt, path)?;
     match read(rt.alloc(), &bytes) {
         Ok(component) => {
             let shown = Shown {
+                alloc: rt.alloc(),
                 component: &component,
                 bytes: &bytes,
             };
-            status_of_print(rt, print!(rt; "{shown}"))
+            match print!(rt; "{shown}") {
+                Err(error) if is_of_text(&error) => {
+                    Err(refuse(rt, path, &"out of memory", REFUSED))
+                }
+                printed => status_of_print(rt, printed),
+            }
         }
-        Err(error) => refuse(rt, path, &error, REFUSED),
+        Err(error) => Err(refuse(rt, path, &error, REFUSED)),
     }
 }

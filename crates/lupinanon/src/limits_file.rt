@@ -1,14 +1,15 @@
-//! Limits from a file, and settings of the command line over them.
+//! Limits from a file, and settings of the command line over them; and why they are refused, in words: of which line of
+//! the file, or of which setting.
 
-use crate::limits_fault::{name_of, print_limits_fault, print_not_toml};
 use crate::options::{Limits, named};
 use crate::places::{STANDARD_INPUT, Source, print_fault};
 use crate::{FAULT, print_error};
 use smith_component::Config;
-use smith_limits::limits_of;
-use std::io;
+use smith_limits::{Fault, limits_of};
 use std::process::ExitCode;
+use std::{fmt, io};
 use toml::Table;
+use toml::de::Error;
 
 /// Limits as a table of TOML, and the text of their file.
 #[derive(Drop)]
@@ -31,25 +32,24 @@ fn text_in_file(rt: &HostRuntime, path: Option<&str>) -> Result<String, ExitCode
     };
     match read_file(rt, named(path)) {
         Ok(text) => Ok(text),
-        Err(error) => {
-            print_fault(rt, named(path), STANDARD_INPUT, Some(&error));
-            Err(ExitCode::from(FAULT))
-        }
+        Err(error) => Err(print_fault(rt, named(path), STANDARD_INPUT, Some(&error))),
     }
+}
+
+// Prints why a text of that name is not TOML, and returns the status.
+fn refuse_toml<N: fmt::Display + Drop>(rt: &HostRuntime, name: N, error: &Error) -> ExitCode {
+    // The text of the error has its lines, and ends the last one.
+    let _ = eprint!(rt; "lupinanon: {name}: {error}");
+    ExitCode::from(FAULT)
 }
 
 // The table of a setting, which has one key, or the status after a message.
 fn table_of_setting(rt: &HostRuntime, setting: &str) -> Result<Table, ExitCode> {
     match toml::table_from_str(rt.alloc(), setting) {
-        Ok(table) if table.len() == 1 => return Ok(table),
-        Ok(_) => {
-            let _ = eprintln!(rt; "lupinanon: --limit {setting}: must be KEY=VALUE");
-        }
-        Err(error) => {
-            let _ = eprint!(rt; "lupinanon: --limit {setting}: {error}");
-        }
+        Ok(table) if table.len() == 1 => Ok(table),
+        Ok(_) => Err(print_error(rt, format_args!("--limit {setting}: must be KEY=VALUE"))),
+        Err(error) => Err(refuse_toml(rt, format_args!("--limit {setting}"), &error)),
     }
-    Err(ExitCode::from(FAULT))
 }
 
 // The table of a text with the settings' tables over it.
@@ -68,6 +68,60 @@ fn table_with_settings(
     Ok(table)
 }
 
+// The line of a text, from 1, at which its first expression with a key begins: a line that begins with the key,
+// or with a `[` and the key.
+fn line_of(text: &str, key: &str) -> Option<usize> {
+    let mut number = 0usize;
+    for line in text.lines() {
+        number = number.saturating_add(1);
+        let line = line
+            .trim_start()
+            .trim_start_matches(|c: char| matches!(c, '[' | '"' | '\''));
+        if let Some(rest) = line.strip_prefix(key) {
+            if rest.starts_with(|c: char| matches!(c, ' ' | '\t' | '=' | '.' | ']' | '"' | '\'')) {
+                return Some(number);
+            }
+        }
+    }
+    None
+}
+
+// The line of the first of the fault's limits that the text has.
+fn line_of_fault(text: &str, fault: &Fault) -> Option<usize> {
+    match fault {
+        Fault::Unknown(name) => line_of(text, name.as_str()),
+        Fault::At(key, _) => line_of(text, key.name()),
+        Fault::Apart(pair) => {
+            let (lower, upper) = pair.keys();
+            line_of(text, lower.name()).or(line_of(text, upper.name()))
+        }
+        Fault::OutOfMemory => None,
+    }
+}
+
+// What the limits are called in a message: their file, if there is one.
+fn name_of<'a>(limits: &Limits<'a>) -> &'a str {
+    match limits.file {
+        Some(path) => named(path).unwrap_or(STANDARD_INPUT),
+        None => "the limits",
+    }
+}
+
+/// Prints what is wrong with a limit, and the last setting, or the line of the file's text, that has it, if one is
+/// known. Returns the status.
+pub fn refuse_limits(rt: &HostRuntime, limits: &Limits<'_>, text: &str, fault: &Fault) -> ExitCode {
+    for setting in limits.settings.iter().rev() {
+        if line_of_fault(setting, fault).is_some() {
+            return print_error(rt, format_args!("--limit {setting}: {fault}"));
+        }
+    }
+    let name = name_of(limits);
+    match line_of_fault(text, fault) {
+        Some(line) => print_error(rt, format_args!("{name}: line {line}: {fault}")),
+        None => print_error(rt, format_args!("{name}: {fault}")),
+    }
+}
+
 /// The table of the limits, or the status after a message.
 pub fn table_of(rt: &HostRuntime, limits: &Limits<'_>) -> Result<LimitsTable, ExitCode> {
     let in_file = text_in_file(rt, limits.file)?;
@@ -77,10 +131,7 @@ pub fn table_of(rt: &HostRuntime, limits: &Limits<'_>) -> Result<LimitsTable, Ex
             Ok(LimitsTable { in_file, table })
         }
         Err(error) if error.is_memory() => Err(print_error(rt, "out of memory")),
-        Err(error) => {
-            print_not_toml(rt, name_of(limits), &error);
-            Err(ExitCode::from(FAULT))
-        }
+        Err(error) => Err(refuse_toml(rt, name_of(limits), &error)),
     }
 }
 
@@ -89,25 +140,21 @@ pub fn config_of(rt: &HostRuntime, limits: &Limits<'_>) -> Result<Config, ExitCo
     let set = table_of(rt, limits)?;
     match limits_of(rt.alloc(), &set.table) {
         Ok(config) => Ok(config),
-        Err(fault) => {
-            print_limits_fault(rt, limits, &set.in_file, &fault);
-            Err(ExitCode::from(FAULT))
-        }
+        Err(fault) => Err(refuse_limits(rt, limits, &set.in_file, &fault)),
     }
 }
 
-/// Says so if the limits are from standard input, and what is called `other` too, whose file is absent then.
-pub fn refuses_both(
+/// Returns the status after a message if the limits are from standard input, and what is called `other` too, whose file
+/// is absent then.
+pub fn refuse_both(
     rt: &HostRuntime,
     limits: &Limits<'_>,
     other: &str,
     path: Option<&str>,
-) -> bool {
-    let is_twice = path.is_none() && limits.is_from_standard_input();
-    if is_twice {
-        let _ = eprintln!(rt;
-            "lupinanon: bad arguments: the limits and {other} are both standard input"
-        );
+) -> Result<(), ExitCode> {
+    if path.is_none() && limits.file == Some("-") {
+        let why = format_args!("bad arguments: the limits and {other} are both standard input");
+        return Err(print_error(rt, why));
     }
-    is_twice
+    Ok(())
 }

@@ -1,13 +1,11 @@
 //! Turns a fuzzer's bytes into a WebAssembly component, from a file to a file, and back; shows the components in files.
 #![tactic(auto)]
 
-mod converting;
+mod commands;
 mod corpus;
-mod folder_options;
 mod folders;
 mod generating;
 mod inspecting;
-mod limits_fault;
 mod limits_file;
 mod options;
 mod places;
@@ -18,46 +16,63 @@ mod stats;
 
 use options::Task;
 use smith_limits::DEFAULT_LIMITS;
-use std::io;
 use std::process::ExitCode;
+use std::{fmt, io};
 
 // What a fault and bad arguments end with.
 const FAULT: u8 = 2;
 
 // Prints what is wrong, and returns the status.
-fn print_error(rt: &HostRuntime, what: &str) -> ExitCode {
+fn print_error<W: fmt::Display + Drop>(rt: &HostRuntime, what: W) -> ExitCode {
     let _ = eprintln!(rt; "lupinanon: {what}");
     ExitCode::from(FAULT)
 }
 
-fn main(rt: HostRuntime) -> ExitCode {
-    let words: io::Result<Vec<String>> = match std::env::args(&rt) {
+// The words of the command line, or the status after a message.
+fn words_of(rt: &HostRuntime) -> Result<Vec<String>, ExitCode> {
+    let words: io::Result<Vec<String>> = match std::env::args(rt) {
         Ok(words) => words.collect(rt.alloc()).map_err(io::Error::from),
         Err(error) => Err(error),
     };
-    let words = match words {
-        Ok(words) => words,
+    match words {
+        Ok(words) => Ok(words),
         Err(error) if error.kind() == io::ErrorKind::OutOfMemory => {
-            return print_error(&rt, "out of memory");
+            Err(print_error(rt, "out of memory"))
         }
-        Err(_) => return print_error(&rt, "bad arguments: they are not UTF-8"),
-    };
+        Err(_) => Err(print_error(rt, "bad arguments: they are not UTF-8")),
+    }
+}
+
+// Does what the words ask for. Returns the status, which is an error after a message.
+fn run(rt: &HostRuntime) -> Result<ExitCode, ExitCode> {
+    let words = words_of(rt)?;
     match options::task_of(rt.alloc(), words.as_slice()) {
-        Ok(Task::PrintLimits) => places::status_of_print(&rt, print!(rt; "{}", DEFAULT_LIMITS)),
-        Ok(Task::Generate(options)) => generating::generate(&rt, &options),
-        Ok(Task::Check(path)) => inspecting::check(&rt, path),
-        Ok(Task::Validate(path)) => inspecting::check_validity(&rt, path),
-        Ok(Task::Show(path)) => inspecting::show(&rt, path),
-        Ok(Task::Script(options)) => scripting::script(&rt, &options),
-        Ok(Task::Smaller(options)) => reducing::smaller(&rt, &options),
-        Ok(Task::Corpus(options)) => corpus::corpus(&rt, &options),
-        Ok(Task::Stats(options)) => stats::stats(&rt, options),
+        Ok(Task::PrintLimits) => places::status_of_print(rt, print!(rt; "{}", DEFAULT_LIMITS)),
+        Ok(Task::Generate(options)) => generating::generate(rt, &options),
+        Ok(Task::Check(path, validates)) => inspecting::check(rt, path, validates),
+        Ok(Task::Show(path)) => inspecting::show(rt, path),
+        Ok(Task::Script(options)) => scripting::script(rt, &options),
+        Ok(Task::Smaller(options, choice)) => reducing::reduce(rt, &options, choice),
+        Ok(
+            Task::Corpus {
+                folder,
+                origin,
+                limits,
+            },
+        ) => corpus::corpus(rt, folder, origin, &limits),
+        Ok(Task::Stats { folder, is_json }) => stats::stats(rt, folder, is_json),
         Err(error) => {
-            let printed = error.print(&rt);
+            let printed = error.print(rt);
             if error.use_stderr() {
-                return ExitCode::from(FAULT);
+                return Err(ExitCode::from(FAULT));
             }
-            places::status_of_print(&rt, printed)
+            places::status_of_print(rt, printed)
         }
+    }
+}
+
+fn main(rt: HostRuntime) -> ExitCode {
+    match run(&rt) {
+        Ok(status) | Err(status) => status,
     }
 }

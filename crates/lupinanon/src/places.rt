@@ -2,7 +2,7 @@
 
 ghost use Rattle.std.specs.Prelude.{◌≤◌, length, IfOk};
 
-use crate::{FAULT, print_error};
+use crate::print_error;
 use smith_run::Form;
 use std::fs::File;
 use std::io::{self, IsTerminal, Read, Stdin, Stdout, Write};
@@ -19,6 +19,13 @@ pub const STANDARD_OUTPUT: &str = "standard output";
 enum Opened {
     Standard(Stdin),
     File(File),
+}
+
+// Keeps the error, and returns one of its kind.
+fn keep(fault: &mut Option<io::Error>, error: io::Error) -> io::Error {
+    let kind = error.kind();
+    *fault = Some(error);
+    io::Error::from(kind)
 }
 
 /// What the input is read from.
@@ -55,11 +62,7 @@ impl Read for Source {
         };
         match answer {
             Ok(count) => Ok(count),
-            Err(error) => {
-                let kind = error.kind();
-                self.fault = Some(error);
-                Err(io::Error::from(kind))
-            }
+            Err(error) => Err(keep(&mut self.fault, error)),
         }
     }
 }
@@ -93,13 +96,6 @@ impl<'a> Sink<'a> {
     pub fn fault(&self) -> Option<&io::Error> {
         self.fault.as_ref()
     }
-
-    // Keeps the error, and returns one of its kind.
-    fn keep(&mut self, error: io::Error) -> io::Error {
-        let kind = error.kind();
-        self.fault = Some(error);
-        io::Error::from(kind)
-    }
 }
 
 impl<'a> Made<'a> {
@@ -130,40 +126,45 @@ impl Write for Sink<'_> {
     fn write(&mut self, buf: &[u8]) -> io::Result<usize> {
         match self.made.write(buf) {
             Ok(count) => Ok(count),
-            Err(error) => Err(self.keep(error)),
+            Err(error) => Err(keep(&mut self.fault, error)),
         }
     }
 
     fn flush(&mut self) -> io::Result<()> {
         match self.made.flush() {
             Ok(()) => Ok(()),
-            Err(error) => Err(self.keep(error)),
+            Err(error) => Err(keep(&mut self.fault, error)),
         }
     }
 }
 
-/// Prints a file's path, and the error that a read or a write of it met.
+/// Prints a file's path, and the error that a read or a write of it met. Returns the status.
 pub fn print_fault(
     rt: &HostRuntime,
     path: Option<&str>,
     standard: &str,
     fault: Option<&io::Error>,
-) {
+) -> ExitCode {
     let path = path.unwrap_or(standard);
-    let _ = match fault {
-        Some(fault) => eprintln!(rt; "lupinanon: {path}: {fault}"),
-        None => eprintln!(rt; "lupinanon: {path}: it cannot be used"),
-    };
+    match fault {
+        Some(fault) => print_error(rt, format_args!("{path}: {fault}")),
+        None => print_error(rt, format_args!("{path}: it cannot be used")),
+    }
+}
+
+/// Opens the file, or standard input if there is none, or returns the status after a message.
+pub fn source_of(rt: &HostRuntime, path: Option<&str>) -> Result<Source, ExitCode> {
+    match Source::open(rt, path) {
+        Ok(source) => Ok(source),
+        Err(error) => Err(print_fault(rt, path, STANDARD_INPUT, Some(&error))),
+    }
 }
 
 /// The status after something was printed, or was not, which a message reports.
-pub fn status_of_print(rt: &HostRuntime, printed: io::Result<()>) -> ExitCode {
+pub fn status_of_print(rt: &HostRuntime, printed: io::Result<()>) -> Result<ExitCode, ExitCode> {
     match printed {
-        Ok(()) => ExitCode::SUCCESS,
-        Err(error) => {
-            print_fault(rt, None, STANDARD_OUTPUT, Some(&error));
-            ExitCode::from(FAULT)
-        }
+        Ok(()) => Ok(ExitCode::SUCCESS),
+        Err(error) => Err(print_fault(rt, None, STANDARD_OUTPUT, Some(&error))),
     }
 }
 
@@ -172,11 +173,11 @@ pub fn is_terminal(rt: &HostRuntime, path: Option<&str>) -> bool {
     path.is_none() && rt.stdout().is_terminal()
 }
 
-/// Says so if raw bytes would go to a terminal.
-pub fn refuses_terminal(rt: &HostRuntime, path: Option<&str>, form: Form) -> bool {
+/// Returns the status after a message if raw bytes would go to a terminal.
+pub fn refuse_terminal(rt: &HostRuntime, path: Option<&str>, form: Form) -> Result<(), ExitCode> {
     if is_terminal(rt, path) && form == Form::Raw {
-        let _status = print_error(rt, "standard output is a terminal: use --output or --hex");
-        return true;
+        let how = "standard output is a terminal: use --output or --hex";
+        return Err(print_error(rt, how));
     }
-    false
+    Ok(())
 }

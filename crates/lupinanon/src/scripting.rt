@@ -1,22 +1,36 @@
 //! Writing the script of a component in a file: the input that produces it.
 
 use crate::FAULT;
-use crate::inspecting::{REFUSED, bytes_in, refuse, refuse_ill_formed};
-use crate::limits_file::{config_of, refuses_both};
-use crate::options::ScriptOptions;
-use crate::places::{STANDARD_OUTPUT, Sink, print_fault, refuses_terminal};
+use crate::inspecting::{REFUSED, bytes_in, refuse};
+use crate::limits_file::{config_of, refuse_both};
+use crate::options::Options;
+use crate::places::{STANDARD_OUTPUT, Sink, print_fault, refuse_terminal};
 use smith_component::Config;
+use smith_read::offset_of;
 use smith_run::{Form, page};
 use smith_script::ScriptError;
+use smith_verdict::Verdict;
 use std::alloc::Global;
 use std::io::Write;
 use std::process::ExitCode;
 
-/// What a refusal of a script ends with.
-pub fn status_of(error: &ScriptError) -> u8 {
+/// Prints why there is no script, if a component breaks a rule also where, and returns the status.
+pub fn refuse_script(
+    rt: &HostRuntime,
+    path: Option<&str>,
+    bytes: &[u8],
+    error: &ScriptError,
+) -> ExitCode {
     match error {
-        ScriptError::InconsistentLimits => FAULT,
-        _ => REFUSED,
+        ScriptError::IllFormed(fault) => match offset_of(rt.alloc(), bytes, fault.item) {
+            Ok(offset) => {
+                let rule = fault.rule;
+                refuse(rt, path, &Verdict::IllFormed { rule, offset }, REFUSED)
+            }
+            Err(_) => refuse(rt, path, &"out of memory", REFUSED),
+        },
+        ScriptError::InconsistentLimits => refuse(rt, path, error, FAULT),
+        _ => refuse(rt, path, error, REFUSED),
     }
 }
 
@@ -34,40 +48,28 @@ fn script_text(
     }
 }
 
-/// Writes bytes to the file, or to standard output if there is none, and returns the status.
-pub fn write_bytes(rt: &HostRuntime, path: Option<&str>, bytes: &[u8]) -> ExitCode {
+/// Writes bytes to the file, or to standard output if there is none. Returns the status, an error after a message.
+pub fn write_bytes(
+    rt: &HostRuntime,
+    path: Option<&str>,
+    bytes: &[u8],
+) -> Result<ExitCode, ExitCode> {
     let mut sink = Sink::new(rt, path);
     if sink.write_all(bytes).is_err() || sink.flush().is_err() {
-        print_fault(rt, path, STANDARD_OUTPUT, sink.fault());
-        return ExitCode::from(FAULT);
+        return Err(print_fault(rt, path, STANDARD_OUTPUT, sink.fault()));
     }
-    ExitCode::SUCCESS
-}
-
-// Writes the script within these limits.
-fn script_within(rt: &HostRuntime, options: &ScriptOptions<'_>, config: &Config) -> ExitCode {
-    let bytes = match bytes_in(rt, options.component) {
-        Ok(bytes) => bytes,
-        Err(status) => return status,
-    };
-    match script_text(rt.alloc(), config, &bytes, options.form) {
-        Ok(text) => write_bytes(rt, options.output, &text),
-        Err(ScriptError::IllFormed(fault)) => {
-            refuse_ill_formed(rt, options.component, &bytes, &fault)
-        }
-        Err(error) => refuse(rt, options.component, &error, status_of(&error)),
-    }
+    Ok(ExitCode::SUCCESS)
 }
 
 /// Writes the script that is asked for, or says why there is none.
-pub fn script(rt: &HostRuntime, options: &ScriptOptions<'_>) -> ExitCode {
-    if refuses_terminal(rt, options.output, options.form)
-        || refuses_both(rt, &options.limits, "the component", options.component)
-    {
-        return ExitCode::from(FAULT);
-    }
-    match config_of(rt, &options.limits) {
-        Ok(config) => script_within(rt, options, &config),
-        Err(status) => status,
+pub fn script(rt: &HostRuntime, options: &Options<'_>) -> Result<ExitCode, ExitCode> {
+    let path = options.input;
+    refuse_terminal(rt, options.output, options.form)?;
+    refuse_both(rt, &options.limits, "the component", path)?;
+    let config = config_of(rt, &options.limits)?;
+    let bytes = bytes_in(rt, path)?;
+    match script_text(rt.alloc(), &config, &bytes, options.form) {
+        Ok(text) => write_bytes(rt, options.output, &text),
+        Err(error) => Err(refuse_script(rt, path, &bytes, &error)),
     }
 }

@@ -2,18 +2,15 @@
 //! its index space if it has one.
 
 mod core_types;
-mod lengths;
 mod types;
 mod walk;
 
 use core_types::show_core_type;
-use lengths::extern_len;
 use smith_core::COMPONENT_PREAMBLE;
-use smith_format::{Spelled, count_len, raw_len};
-use smith_read::{
-    ComponentTree, CoreNode, Export, Func, ImportNode, MOST_DEPTH, PartNode, TypeNode,
-};
+use smith_read::{ComponentTree, Contents, Export, Func, ImportNode, MOST_DEPTH, Step, Steps};
+use smith_stats::ref_label;
 use smith_syntax::ComponentTypeRef;
+use std::alloc::Global;
 use std::fmt;
 use types::show_type;
 use walk::{Walk, next};
@@ -21,181 +18,179 @@ use walk::{Walk, next};
 /// A component, and the bytes that it was read from.
 #[derive(Clone, Copy)]
 pub struct Shown<'a> {
+    pub alloc: Global,
     pub component: &'a ComponentTree,
     pub bytes: &'a [u8],
 }
 
-/// What is imported or exported under that name, and the end of the line.
-pub(crate) fn show_extern<W: fmt::Write>(
+// A member of a type, on a line with the others.
+trait Member {
+    fn show<W: fmt::Write>(&self, f: &mut fmt::Formatter<W>) -> fmt::Result;
+}
+
+// The members after a word, with commas between them.
+fn show_list<W: fmt::Write, T: Member>(
     f: &mut fmt::Formatter<W>,
-    walk: &mut Walk,
-    name: &str,
-    to: ComponentTypeRef,
+    word: &str,
+    members: &[T],
 ) -> fmt::Result {
-    walk.pass(extern_len(name, to));
-    let spaces = &mut walk.spaces;
-    match to {
-        ComponentTypeRef::Module(ty) => {
-            let index = next(&mut spaces.modules);
-            writeln!(f, "{name:?}: core module {index} of core type {ty}")
-        }
-        ComponentTypeRef::Func(ty) => {
-            let index = next(&mut spaces.functions);
-            writeln!(f, "{name:?}: function {index} of type {ty}")
-        }
-        ComponentTypeRef::TypeEq(ty) => {
-            let index = next(&mut spaces.types);
-            writeln!(f, "{name:?}: type {index} equal to type {ty}")
-        }
-        ComponentTypeRef::Component(ty) => {
-            let index = next(&mut spaces.components);
-            writeln!(f, "{name:?}: component {index} of type {ty}")
-        }
-        ComponentTypeRef::Instance(ty) => {
-            let index = next(&mut spaces.instances);
-            writeln!(f, "{name:?}: instance {index} of type {ty}")
-        }
+    f.write_str(word)?;
+    let mut separator = "";
+    for member in members {
+        f.write_str(separator)?;
+        member.show(f)?;
+        separator = ", ";
     }
-}
-
-/// An entry of a section that is a list.
-trait Entry {
-    /// What follows the beginning of its line, and the line's end. The walk passes its bytes.
-    fn show<W: fmt::Write>(&self, f: &mut fmt::Formatter<W>, walk: &mut Walk) -> fmt::Result;
-}
-
-impl Entry for CoreNode {
-    fn show<W: fmt::Write>(&self, f: &mut fmt::Formatter<W>, walk: &mut Walk) -> fmt::Result {
-        show_core_type(f, walk, self)
-    }
-}
-
-impl Entry for TypeNode {
-    fn show<W: fmt::Write>(&self, f: &mut fmt::Formatter<W>, walk: &mut Walk) -> fmt::Result {
-        show_type(f, walk, self, MOST_DEPTH)
-    }
-}
-
-impl Entry for ImportNode {
-    fn show<W: fmt::Write>(&self, f: &mut fmt::Formatter<W>, walk: &mut Walk) -> fmt::Result {
-        f.write_str("import ")?;
-        show_extern(f, walk, &self.name, self.to)
-    }
-}
-
-impl Entry for Export {
-    fn show<W: fmt::Write>(&self, f: &mut fmt::Formatter<W>, walk: &mut Walk) -> fmt::Result {
-        walk.pass(self.spelled_len());
-        let index = next(&mut walk.spaces.functions);
-        let name = self.name.as_str();
-        let func = self.func_index;
-        writeln!(
-            f,
-            "export {name:?}: function {index}, which is function {func}"
-        )
-    }
-}
-
-impl Entry for Func {
-    fn show<W: fmt::Write>(&self, f: &mut fmt::Formatter<W>, walk: &mut Walk) -> fmt::Result {
-        walk.pass(self.spelled_len());
-        match self {
-            Func::CanonLift {
-                func_ty,
-                core_func_index,
-            } => {
-                let index = next(&mut walk.spaces.functions);
-                writeln!(
-                    f,
-                    "function {index}: lift of core function {core_func_index} to type {func_ty}"
-                )
-            }
-            Func::CanonLower { func_index } => {
-                let index = next(&mut walk.spaces.core_functions);
-                writeln!(f, "core function {index}: lower of function {func_index}")
-            }
-        }
-    }
-}
-
-// What a section is a list of, which ends its line, and a line for each entry.
-fn show_list<W: fmt::Write, T: Entry>(
-    f: &mut fmt::Formatter<W>,
-    walk: &mut Walk,
-    what: &str,
-    entries: &[T],
-) -> fmt::Result {
-    writeln!(f, "{what}")?;
-    walk.pass(count_len(entries.len()));
-    let level = walk.level;
-    walk.level = level.saturating_add(1);
-    for entry in entries {
-        walk.begin_line(f)?;
-        entry.show(f, walk)?;
-    }
-    walk.level = level;
     Ok(())
 }
 
-// What a section is, and its entries. The walk is at its contents.
-fn show_section<W: fmt::Write>(
+// What is imported or exported under that name, and the end of the line.
+fn show_extern<W: fmt::Write>(
     f: &mut fmt::Formatter<W>,
-    walk: &mut Walk,
-    part: &PartNode,
+    walk: &mut Walk<'_>,
+    word: &str,
+    name: &str,
+    to: ComponentTypeRef,
 ) -> fmt::Result {
-    match part {
-        PartNode::Custom(section) => {
-            walk.pass(section.spelled_len());
+    walk.pass_entry::<ImportNode>()?;
+    let spaces = &mut walk.spaces;
+    let (index, relation, ty) = match to {
+        ComponentTypeRef::Module(ty) => (next(&mut spaces.modules), "of core type", ty),
+        ComponentTypeRef::Func(ty) => (next(&mut spaces.functions), "of type", ty),
+        ComponentTypeRef::TypeEq(ty) => (next(&mut spaces.types), "equal to type", ty),
+        ComponentTypeRef::Component(ty) => (next(&mut spaces.components), "of type", ty),
+        ComponentTypeRef::Instance(ty) => (next(&mut spaces.instances), "of type", ty),
+    };
+    let what = ref_label(to);
+    writeln!(f, "{word} {name:?}: {what} {index} {relation} {ty}")
+}
+
+fn show_export<W: fmt::Write>(
+    f: &mut fmt::Formatter<W>,
+    walk: &mut Walk<'_>,
+    export: &Export,
+) -> fmt::Result {
+    walk.pass_entry::<Export>()?;
+    let index = next(&mut walk.spaces.functions);
+    let name = export.name.as_str();
+    let func = export.func_index;
+    writeln!(
+        f,
+        "export {name:?}: function {index}, which is function {func}"
+    )
+}
+
+fn show_canon<W: fmt::Write>(
+    f: &mut fmt::Formatter<W>,
+    walk: &mut Walk<'_>,
+    canon: &Func,
+) -> fmt::Result {
+    walk.pass_entry::<Func>()?;
+    match canon {
+        Func::CanonLift {
+            func_ty,
+            core_func_index,
+        } => {
+            let index = next(&mut walk.spaces.functions);
+            writeln!(
+                f,
+                "function {index}: lift of core function {core_func_index} to type {func_ty}"
+            )
+        }
+        Func::CanonLower { func_index } => {
+            let index = next(&mut walk.spaces.core_functions);
+            writeln!(f, "core function {index}: lower of function {func_index}")
+        }
+    }
+}
+
+// What begins: a component, or a section that is a list, whose count is passed.
+fn show_contents<W: fmt::Write>(
+    f: &mut fmt::Formatter<W>,
+    walk: &mut Walk<'_>,
+    contents: Contents<'_>,
+) -> fmt::Result {
+    let what = match contents {
+        Contents::Parts(_) => {
+            let index = next(&mut walk.spaces.components);
+            walk.enter()?;
+            walk.pass(COMPONENT_PREAMBLE.len());
+            return writeln!(f, "component {index}");
+        }
+        Contents::CoreTypes(_) => "core types",
+        Contents::Types(_) => "types",
+        Contents::Canons(_) => "canonical functions",
+        Contents::Imports(_) => "imports",
+        Contents::Exports(_) => "exports",
+    };
+    let _count = walk.pass_number()?;
+    writeln!(f, "{what}")
+}
+
+// The beginning of a line, if the step has one. Returns how many bytes the contents of a section have.
+fn begin_line<W: fmt::Write>(
+    f: &mut fmt::Formatter<W>,
+    walk: &mut Walk<'_>,
+    step: Step<'_>,
+) -> Result<usize, fmt::Error> {
+    match step {
+        Step::Custom(_) | Step::CoreModule(_) | Step::Begin(_) => walk.begin_section(f),
+        Step::End(_) => Ok(0),
+        _ => {
+            walk.begin_entry(f)?;
+            Ok(0)
+        }
+    }
+}
+
+fn show_step<W: fmt::Write>(
+    f: &mut fmt::Formatter<W>,
+    walk: &mut Walk<'_>,
+    step: Step<'_>,
+) -> fmt::Result {
+    let len = begin_line(f, walk, step)?;
+    match step {
+        Step::Custom(section) => {
+            walk.pass(len);
             let name = section.name.as_str();
             let count = section.bytes.len();
             writeln!(f, "custom {name:?} of {count} bytes")
         }
-        PartNode::CoreModule(bytes) => {
-            walk.pass(raw_len(bytes));
+        Step::CoreModule(_) => {
+            walk.pass(len);
             let index = next(&mut walk.spaces.modules);
-            let count = bytes.len();
-            writeln!(f, "core module {index} of {count} bytes")
+            writeln!(f, "core module {index} of {len} bytes")
         }
-        PartNode::CoreTypes(types) => show_list(f, walk, "core types", types),
-        PartNode::Types(types) => show_list(f, walk, "types", types),
-        PartNode::Canons(canons) => show_list(f, walk, "canonical functions", canons),
-        PartNode::Imports(imports) => show_list(f, walk, "imports", imports),
-        PartNode::Exports(exports) => show_list(f, walk, "exports", exports),
-        // None that was read is deeper than `MOST_DEPTH`.
-        PartNode::Component(_) => Err(fmt::Error),
+        Step::Begin(contents) => show_contents(f, walk, contents),
+        Step::End(Contents::Parts(_)) => {
+            walk.leave();
+            Ok(())
+        }
+        Step::End(_) => Ok(()),
+        Step::CoreType(ty) => show_core_type(f, walk, ty),
+        Step::Type(ty) => show_type(f, walk, ty, MOST_DEPTH),
+        Step::Canon(canon) => show_canon(f, walk, canon),
+        Step::Import(import) => show_extern(f, walk, "import", &import.name, import.to),
+        Step::Export(export) => show_export(f, walk, export),
     }
 }
 
-// The sections of a component, at least as deep as it goes. The bytes are all of the file's.
-fn show_parts<W: fmt::Write>(
+// The lines of all steps.
+fn show_steps<W: fmt::Write>(
     f: &mut fmt::Formatter<W>,
-    walk: &mut Walk,
-    bytes: &[u8],
-    parts: &[PartNode],
-    depth: u32,
+    walk: &mut Walk<'_>,
+    mut steps: Steps<'_>,
 ) -> fmt::Result {
-    walk.pass(raw_len(&COMPONENT_PREAMBLE));
-    for (number, part) in parts.iter().enumerate() {
-        walk.begin_line(f)?;
-        walk.pass_head(bytes);
-        write!(f, "section {number}: ")?;
-        match part {
-            PartNode::Component(inner) if depth > 0 => {
-                let index = next(&mut walk.spaces.components);
-                writeln!(f, "component {index}")?;
-                let mut inside = walk.inside();
-                show_parts(f, &mut inside, bytes, inner, depth - 1)?;
-                walk.offset = inside.offset;
-            }
-            _ => show_section(f, walk, part)?,
-        }
+    walk.pass(COMPONENT_PREAMBLE.len());
+    while let Some(step) = steps.next()? {
+        show_step(f, walk, step)?;
     }
     Ok(())
 }
 
 impl fmt::Display for Shown<'_> {
     fn fmt<W: fmt::Write>(&self, f: &mut fmt::Formatter<W>) -> fmt::Result {
-        let parts = &self.component.parts;
-        show_parts(f, &mut Walk::default(), self.bytes, parts, MOST_DEPTH)
+        let mut walk = Walk::new(self.alloc, self.bytes);
+        show_steps(f, &mut walk, Steps::new(self.alloc, self.component)?)
     }
 }

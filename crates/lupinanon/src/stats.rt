@@ -1,46 +1,39 @@
 //! What is in the components of a folder.
 
-use crate::folder_options::StatsOptions;
 use crate::folders::{COMPONENT_ENDING, components_in, path_in};
 use crate::inspecting::{REFUSED, bytes_in, refuse};
 use crate::places::status_of_print;
 use smith_read::{ReadError, read};
 use smith_stats::{Json, Tally};
+use std::alloc::AllocError;
 use std::process::ExitCode;
 
 // Adds what is in a file, or names what is wrong with it. Returns the status after a message if it stops.
 fn add_file(rt: &HostRuntime, tally: &mut Tally, path: &str) -> Result<(), ExitCode> {
     let bytes = bytes_in(rt, Some(path))?;
-    match read(rt.alloc(), &bytes) {
-        Ok(component) => match tally.add(bytes.len(), &component) {
-            Ok(()) => Ok(()),
-            Err(_) => Err(refuse(rt, Some(path), &"out of memory", REFUSED)),
-        },
-        Err(ReadError::OutOfMemory) => Err(refuse(rt, Some(path), &"out of memory", REFUSED)),
+    let added = match read(rt.alloc(), &bytes) {
+        Ok(component) => tally.add(bytes.len(), &component),
+        Err(ReadError::OutOfMemory) => Err(AllocError),
         Err(error) => {
             let _status = refuse(rt, Some(path), &error, REFUSED);
             tally.add_unread();
             Ok(())
         }
+    };
+    match added {
+        Ok(()) => Ok(()),
+        Err(_) => Err(refuse(rt, Some(path), &"out of memory", REFUSED)),
     }
 }
 
-fn tallied(rt: &HostRuntime, folder: &str) -> Result<Tally, ExitCode> {
+/// Prints how much there is in the components of a folder, by sort and by place.
+pub fn stats(rt: &HostRuntime, folder: &str, is_json: bool) -> Result<ExitCode, ExitCode> {
     let mut tally = Tally::new(rt.alloc());
     for name in &components_in(rt, folder)? {
         let path = path_in(rt, folder, name, COMPONENT_ENDING)?;
         add_file(rt, &mut tally, &path)?;
     }
-    Ok(tally)
-}
-
-/// Prints how much there is in the components of a folder, by sort and by place.
-pub fn stats(rt: &HostRuntime, options: StatsOptions<'_>) -> ExitCode {
-    let tally = match tallied(rt, options.folder) {
-        Ok(tally) => tally,
-        Err(status) => return status,
-    };
-    let printed = if options.is_json {
+    let printed = if is_json {
         println!(rt; "{}", Json(&tally))
     } else {
         print!(rt; "{tally}")

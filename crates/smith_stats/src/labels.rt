@@ -17,7 +17,7 @@ pub(crate) fn contents_label(contents: Contents<'_>) -> &'static str {
 }
 
 /// A type.
-pub(crate) fn type_label(ty: &TypeNode) -> &'static str {
+pub fn type_label(ty: &TypeNode) -> &'static str {
     match ty {
         TypeNode::Defined(ty) => defined_label(ty),
         TypeNode::Func(_) => "function",
@@ -50,7 +50,7 @@ pub(crate) fn val_label(ty: Option<ComponentValType>) -> &'static str {
 }
 
 /// What an import or an export is of.
-pub(crate) fn ref_label(to: ComponentTypeRef) -> &'static str {
+pub fn ref_label(to: ComponentTypeRef) -> &'static str {
     match to {
         ComponentTypeRef::Module(_) => "core module",
         ComponentTypeRef::Func(_) => "function",
@@ -69,7 +69,7 @@ pub(crate) fn canon_label(canon: &Func) -> &'static str {
 }
 
 /// A core value type.
-pub(crate) fn core_val_label(ty: ValType) -> &'static str {
+pub fn core_val_label(ty: ValType) -> &'static str {
     match ty {
         ValType::I32 => "i32",
         ValType::I64 => "i64",

@@ -5,5 +5,5 @@ mod labels;
 mod tally;
 mod walk;
 
-pub use labels::primitive_label;
+pub use labels::{core_val_label, primitive_label, ref_label, type_label};
 pub use tally::{Json, Tally};

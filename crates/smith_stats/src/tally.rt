@@ -5,12 +5,8 @@ use std::alloc::{AllocError, Global};
 use std::collections::BTreeMap;
 use std::fmt;
 
-/// A sort of thing, and what it is in.
-#[derive(Clone, Copy, PartialEq, Eq, PartialOrd, Ord)]
-struct Shape {
-    within: &'static str,
-    sort: &'static str,
-}
+/// How many things there are of each sort.
+type Counts = BTreeMap<&'static str, usize>;
 
 /// How much there is in the components of files.
 #[derive(Drop)]
@@ -22,8 +18,9 @@ pub struct Tally {
     pub(crate) components: usize,
     pub(crate) depth: usize,
     pub(crate) entries: usize,
-    pub(crate) types: BTreeMap<&'static str, usize>,
-    shapes: BTreeMap<Shape, usize>,
+    pub(crate) types: Counts,
+    // The things, by what they are in.
+    within: BTreeMap<&'static str, Counts>,
 }
 
 pub(crate) fn increase(count: &mut usize, by: usize) {
@@ -42,7 +39,7 @@ impl Tally {
             depth: 0,
             entries: 0,
             types: BTreeMap::new(alloc),
-            shapes: BTreeMap::new(alloc),
+            within: BTreeMap::new(alloc),
         }
     }
 
@@ -65,8 +62,9 @@ impl Tally {
         sort: &'static str,
         count: usize,
     ) -> Result<(), AllocError> {
-        let shape = Shape { within, sort };
-        increase(self.shapes.entry(shape)?.or_insert(0), count);
+        let none = BTreeMap::new(self.alloc);
+        let counts = self.within.entry(within)?.or_insert(none);
+        increase(counts.entry(sort)?.or_insert(0), count);
         Ok(())
     }
 
@@ -79,6 +77,15 @@ impl Tally {
         self.add_many(within, sort, 1)
     }
 
+    // How many sorts there are, each in one thing.
+    fn shapes(&self) -> usize {
+        let mut shapes = 0;
+        for counts in self.within.values() {
+            increase(&mut shapes, counts.len());
+        }
+        shapes
+    }
+
     // The counts that are not by sort, with their names.
     fn totals(&self) -> [(&'static str, usize); 7] {
         [
@@ -88,9 +95,17 @@ impl Tally {
             ("components", self.components),
             ("depth", self.depth),
             ("entries", self.entries),
-            ("shapes", self.shapes.len()),
+            ("shapes", self.shapes()),
         ]
     }
+}
+
+// A line for each count.
+fn show_counts<W: fmt::Write>(f: &mut fmt::Formatter<W>, counts: &Counts) -> fmt::Result {
+    for (sort, count) in counts {
+        writeln!(f, "{count:>10}  {sort}")?;
+    }
+    Ok(())
 }
 
 impl fmt::Display for Tally {
@@ -98,68 +113,46 @@ impl fmt::Display for Tally {
         for (name, count) in self.totals() {
             writeln!(f, "{count:>10}  {name}")?;
         }
-        self.show_types(f)?;
-        self.show_shapes(f)
+        writeln!(f, "types")?;
+        show_counts(f, &self.types)?;
+        for (within, counts) in &self.within {
+            writeln!(f, "in {within}")?;
+            show_counts(f, counts)?;
+        }
+        Ok(())
     }
 }
 
-impl Tally {
-    // The counts of types by kind, wherever they are.
-    fn show_types<W: fmt::Write>(&self, f: &mut fmt::Formatter<W>) -> fmt::Result {
-        writeln!(f, "types")?;
-        for (sort, count) in &self.types {
-            writeln!(f, "{count:>10}  {sort}")?;
-        }
-        Ok(())
-    }
+// What precedes the member of that number in a JSON object.
+fn separator(number: usize) -> &'static str {
+    if number == 0 { "" } else { "," }
+}
 
-    // The counts of each shape, below what it is in.
-    fn show_shapes<W: fmt::Write>(&self, f: &mut fmt::Formatter<W>) -> fmt::Result {
-        let mut last = "";
-        for (shape, count) in &self.shapes {
-            let Shape { within, sort } = *shape;
-            if within != last {
-                writeln!(f, "in {within}")?;
-                last = within;
-            }
-            writeln!(f, "{count:>10}  {sort}")?;
-        }
-        Ok(())
+// The counts as members of a JSON object.
+fn show_members<W: fmt::Write>(f: &mut fmt::Formatter<W>, counts: &Counts) -> fmt::Result {
+    for (number, (sort, count)) in counts.iter().enumerate() {
+        let separator = separator(number);
+        write!(f, "{separator}\"{sort}\":{count}")?;
     }
-
-    // The counts of types as members of a JSON object.
-    fn show_json_types<W: fmt::Write>(&self, f: &mut fmt::Formatter<W>) -> fmt::Result {
-        let mut separator = "";
-        for (sort, count) in &self.types {
-            write!(f, "{separator}\"{sort}\":{count}")?;
-            separator = ",";
-        }
-        Ok(())
-    }
-
-    // The counts of each shape as members of a JSON object.
-    fn show_json_shapes<W: fmt::Write>(&self, f: &mut fmt::Formatter<W>) -> fmt::Result {
-        let mut last = "";
-        let mut end = "";
-        for (shape, count) in &self.shapes {
-            let Shape { within, sort } = *shape;
-            if within == last {
-                f.write_str(",")?;
-            } else {
-                let separator = if end.is_empty() { "" } else { "}," };
-                write!(f, "{separator}\"{within}\":{{")?;
-                last = within;
-                end = "}";
-            }
-            write!(f, "\"{sort}\":{count}")?;
-        }
-        f.write_str(end)
-    }
+    Ok(())
 }
 
 /// The same as JSON.
 #[derive(Clone, Copy)]
 pub struct Json<'a>(pub &'a Tally);
+
+impl Json<'_> {
+    // The counts by what they are in, each of which is a member.
+    fn show_within<W: fmt::Write>(&self, f: &mut fmt::Formatter<W>) -> fmt::Result {
+        for (number, (within, counts)) in self.0.within.iter().enumerate() {
+            let separator = separator(number);
+            write!(f, "{separator}\"{within}\":{{")?;
+            show_members(f, counts)?;
+            f.write_str("}")?;
+        }
+        Ok(())
+    }
+}
 
 impl fmt::Display for Json<'_> {
     fn fmt<W: fmt::Write>(&self, f: &mut fmt::Formatter<W>) -> fmt::Result {
@@ -168,9 +161,9 @@ impl fmt::Display for Json<'_> {
             write!(f, "\"{name}\":{count},")?;
         }
         f.write_str("\"types\":{")?;
-        self.0.show_json_types(f)?;
+        show_members(f, &self.0.types)?;
         f.write_str("},\"within\":{")?;
-        self.0.show_json_shapes(f)?;
+        self.show_within(f)?;
         f.write_str("}}")
     }
 }

@@ -6,7 +6,7 @@ use crate::labels::{
 use crate::tally::{Tally, increase};
 use smith_core::{FuncType as CoreFuncType, ValType};
 use smith_read::{Contents, CoreNode, DeclNode, MOST_DEPTH, ModuleNode, Step, Steps, TypeNode};
-use smith_syntax::{ComponentValType, DefinedType, FuncType};
+use smith_syntax::{ComponentValType, DefinedType, FuncType, Valued};
 use std::alloc::AllocError;
 
 // Where the imports and the exports of a type are.
@@ -57,18 +57,16 @@ impl Tally {
     fn add_step(&mut self, step: Step<'_>, level: &mut usize) -> Result<(), AllocError> {
         match step {
             Step::Begin(contents) => {
-                self.add_one("components", contents_label(contents))?;
                 if let Contents::Parts(_) = contents {
                     self.add_level(level);
                 }
+                self.add_one("components", contents_label(contents))
+            }
+            Step::End(Contents::Parts(_)) => {
+                *level = level.saturating_sub(1);
                 Ok(())
             }
-            Step::End(contents) => {
-                if let Contents::Parts(_) = contents {
-                    *level = level.saturating_sub(1);
-                }
-                Ok(())
-            }
+            Step::End(_) => Ok(()),
             Step::Custom(_) => self.add_one("components", "custom section"),
             Step::CoreModule(_) => self.add_one("components", "core module"),
             Step::CoreType(ty) => {
@@ -142,10 +140,10 @@ impl Tally {
     fn add_members(&mut self, ty: &DefinedType) -> Result<(), AllocError> {
         match ty {
             DefinedType::Primitive(_) => Ok(()),
-            DefinedType::Record(ty) => self.add_fields("records", &ty.fields),
-            DefinedType::Variant(ty) => self.add_cases(&ty.cases),
+            DefinedType::Record(ty) => self.add_values("records", &ty.fields),
+            DefinedType::Variant(ty) => self.add_values("variants", &ty.cases),
             DefinedType::List(ty) => self.add_val("lists", Some(ty.elem_ty)),
-            DefinedType::Tuple(ty) => self.add_values(&ty.fields),
+            DefinedType::Tuple(ty) => self.add_values("tuples", &ty.fields),
             DefinedType::Flags(ty) => self.add_many("flags", "name", ty.fields.len()),
             DefinedType::Enum(ty) => self.add_many("enums", "name", ty.variants.len()),
             DefinedType::Option(ty) => self.add_val("options", Some(ty.inner_ty)),
@@ -157,7 +155,7 @@ impl Tally {
     }
 
     fn add_function(&mut self, ty: &FuncType) -> Result<(), AllocError> {
-        self.add_fields("parameters of functions", &ty.params)?;
+        self.add_values("parameters of functions", &ty.params)?;
         self.add_val("results of functions", ty.result)
     }
 
@@ -169,30 +167,13 @@ impl Tally {
         self.add_one(within, val_label(ty))
     }
 
-    fn add_fields(
+    fn add_values<T: Valued>(
         &mut self,
         within: &'static str,
-        fields: &[(String, ComponentValType)],
+        members: &[T],
     ) -> Result<(), AllocError> {
-        for (_, ty) in fields {
-            self.add_val(within, Some(*ty))?;
-        }
-        Ok(())
-    }
-
-    fn add_cases(
-        &mut self,
-        cases: &[(String, Option<ComponentValType>)],
-    ) -> Result<(), AllocError> {
-        for (_, ty) in cases {
-            self.add_val("variants", *ty)?;
-        }
-        Ok(())
-    }
-
-    fn add_values(&mut self, types: &[ComponentValType]) -> Result<(), AllocError> {
-        for ty in types {
-            self.add_val("tuples", Some(*ty))?;
+        for member in members {
+            self.add_val(within, member.value())?;
         }
         Ok(())
     }

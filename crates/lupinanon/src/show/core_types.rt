@@ -1,50 +1,33 @@
 //! Core types as a text.
 
-use super::lengths::module_decl_len;
 use super::walk::{Walk, next};
+use super::{Member, show_list};
 use smith_core::{EntityType, FuncType, GlobalType, MemoryType, RefType, TableType, ValType};
-use smith_format::{count_len, func_type_len};
 use smith_read::{CoreNode, ModuleNode};
+use smith_stats::core_val_label;
 use std::fmt;
 
-fn show_ref<W: fmt::Write>(f: &mut fmt::Formatter<W>, ty: RefType) -> fmt::Result {
+fn show_val<W: fmt::Write>(f: &mut fmt::Formatter<W>, ty: ValType) -> fmt::Result {
     match ty {
-        RefType::FuncRef => f.write_str("funcref"),
-        RefType::ExternRef => f.write_str("externref"),
-        RefType::Concrete { nullable, index } => {
+        ValType::Ref(RefType::Concrete { nullable, index }) => {
             let null = if nullable { "null " } else { "" };
             write!(f, "ref {null}{index}")
         }
+        _ => f.write_str(core_val_label(ty)),
     }
 }
 
-fn show_val<W: fmt::Write>(f: &mut fmt::Formatter<W>, ty: &ValType) -> fmt::Result {
-    match ty {
-        ValType::I32 => f.write_str("i32"),
-        ValType::I64 => f.write_str("i64"),
-        ValType::F32 => f.write_str("f32"),
-        ValType::F64 => f.write_str("f64"),
-        ValType::V128 => f.write_str("v128"),
-        ValType::Ref(ty) => show_ref(f, *ty),
+impl Member for ValType {
+    fn show<W: fmt::Write>(&self, f: &mut fmt::Formatter<W>) -> fmt::Result {
+        show_val(f, *self)
     }
 }
 
-fn show_vals<W: fmt::Write>(f: &mut fmt::Formatter<W>, types: &[ValType]) -> fmt::Result {
-    let mut separator = "";
-    for ty in types {
-        f.write_str(separator)?;
-        show_val(f, ty)?;
-        separator = ", ";
-    }
-    Ok(())
-}
-
+// A function type, and the line's end.
 fn show_function<W: fmt::Write>(f: &mut fmt::Formatter<W>, ty: &FuncType) -> fmt::Result {
-    f.write_str("function (")?;
-    show_vals(f, &ty.params)?;
-    f.write_str(") -> (")?;
-    show_vals(f, &ty.results)?;
-    f.write_str(")")
+    show_list(f, "function (", &ty.params)?;
+    show_list(f, ") -> (", &ty.results)?;
+    writeln!(f, ")")
 }
 
 fn show_limits<W: fmt::Write>(
@@ -60,7 +43,7 @@ fn show_limits<W: fmt::Write>(
 
 fn show_table<W: fmt::Write>(f: &mut fmt::Formatter<W>, ty: &TableType) -> fmt::Result {
     f.write_str("table of ")?;
-    show_ref(f, ty.element_type)?;
+    show_val(f, ValType::Ref(ty.element_type))?;
     show_limits(f, ty.minimum, ty.maximum)?;
     f.write_str(if ty.table64 { ", by 64 bits" } else { "" })
 }
@@ -74,7 +57,7 @@ fn show_memory<W: fmt::Write>(f: &mut fmt::Formatter<W>, ty: &MemoryType) -> fmt
 
 fn show_global<W: fmt::Write>(f: &mut fmt::Formatter<W>, ty: &GlobalType) -> fmt::Result {
     f.write_str("global of ")?;
-    show_val(f, &ty.val_type)?;
+    show_val(f, ty.val_type)?;
     f.write_str(if ty.mutable { ", mutable" } else { "" })
 }
 
@@ -95,16 +78,16 @@ fn show_entity<W: fmt::Write>(f: &mut fmt::Formatter<W>, ty: &EntityType) -> fmt
 
 fn show_decl<W: fmt::Write>(
     f: &mut fmt::Formatter<W>,
-    walk: &mut Walk,
+    walk: &mut Walk<'_>,
     decl: &ModuleNode,
 ) -> fmt::Result {
-    walk.pass(module_decl_len(decl));
+    walk.begin_entry(f)?;
+    walk.pass_entry::<ModuleNode>()?;
     match decl {
         ModuleNode::Func(ty) => {
             let index = next(&mut walk.spaces.core_types);
             write!(f, "type {index}: ")?;
-            show_function(f, ty)?;
-            writeln!(f)
+            show_function(f, ty)
         }
         ModuleNode::OuterAlias { count, index } => {
             let own = next(&mut walk.spaces.core_types);
@@ -131,27 +114,25 @@ fn show_decl<W: fmt::Write>(
 /// A core type, which ends the line, and a line for each of its declarations.
 pub(crate) fn show_core_type<W: fmt::Write>(
     f: &mut fmt::Formatter<W>,
-    walk: &mut Walk,
+    walk: &mut Walk<'_>,
     ty: &CoreNode,
 ) -> fmt::Result {
     let index = next(&mut walk.spaces.core_types);
     write!(f, "core type {index}: ")?;
     match ty {
         CoreNode::Func(ty) => {
-            walk.pass(func_type_len(ty));
-            show_function(f, ty)?;
-            writeln!(f)
+            walk.pass_entry::<CoreNode>()?;
+            show_function(f, ty)
         }
         CoreNode::Module(decls) => {
             writeln!(f, "module")?;
-            walk.pass(Some(1));
-            walk.pass(count_len(decls.len()));
-            let mut inside = walk.inside();
+            walk.pass(1);
+            let _count = walk.pass_number()?;
+            walk.enter()?;
             for decl in decls {
-                inside.begin_line(f)?;
-                show_decl(f, &mut inside, decl)?;
+                show_decl(f, walk, decl)?;
             }
-            walk.offset = inside.offset;
+            walk.leave();
             Ok(())
         }
     }

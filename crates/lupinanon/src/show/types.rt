@@ -1,18 +1,17 @@
 //! Types of components as a text.
 
 use super::core_types::show_core_type;
-use super::lengths::{defined_len, function_len, indexes_len};
-use super::show_extern;
 use super::walk::{Walk, next};
-use smith_format::count_len;
+use super::{Member, show_extern, show_list};
 use smith_read::{DeclNode, TypeNode};
-use smith_stats::primitive_label;
-use smith_syntax::{ComponentValType, DefinedType, FuncType};
+use smith_stats::{primitive_label, type_label};
+use smith_syntax::{ComponentValType, DefinedType, put_defined, put_function};
+use std::alloc::Global;
 use std::fmt;
 
-fn show_val<W: fmt::Write>(f: &mut fmt::Formatter<W>, ty: &ComponentValType) -> fmt::Result {
+fn show_val<W: fmt::Write>(f: &mut fmt::Formatter<W>, ty: ComponentValType) -> fmt::Result {
     match ty {
-        ComponentValType::Primitive(ty) => f.write_str(primitive_label(*ty)),
+        ComponentValType::Primitive(ty) => f.write_str(primitive_label(ty)),
         ComponentValType::Indexed(index) => write!(f, "type {index}"),
     }
 }
@@ -21,7 +20,7 @@ fn show_val<W: fmt::Write>(f: &mut fmt::Formatter<W>, ty: &ComponentValType) -> 
 fn show_maybe<W: fmt::Write>(
     f: &mut fmt::Formatter<W>,
     word: &str,
-    ty: &Option<ComponentValType>,
+    ty: Option<ComponentValType>,
 ) -> fmt::Result {
     match ty {
         Some(ty) => {
@@ -32,105 +31,59 @@ fn show_maybe<W: fmt::Write>(
     }
 }
 
-fn show_fields<W: fmt::Write>(
-    f: &mut fmt::Formatter<W>,
-    fields: &[(String, ComponentValType)],
-) -> fmt::Result {
-    let mut separator = "";
-    for (name, ty) in fields {
-        write!(f, "{separator}{name:?}: ")?;
-        show_val(f, ty)?;
-        separator = ", ";
+impl Member for String {
+    fn show<W: fmt::Write>(&self, f: &mut fmt::Formatter<W>) -> fmt::Result {
+        write!(f, "{self:?}")
     }
-    Ok(())
 }
 
-fn show_cases<W: fmt::Write>(
-    f: &mut fmt::Formatter<W>,
-    cases: &[(String, Option<ComponentValType>)],
-) -> fmt::Result {
-    let mut separator = "";
-    for (name, ty) in cases {
-        write!(f, "{separator}{name:?}")?;
-        show_maybe(f, ": ", ty)?;
-        separator = ", ";
+impl Member for ComponentValType {
+    fn show<W: fmt::Write>(&self, f: &mut fmt::Formatter<W>) -> fmt::Result {
+        show_val(f, *self)
     }
-    Ok(())
 }
 
-fn show_names<W: fmt::Write>(f: &mut fmt::Formatter<W>, names: &[String]) -> fmt::Result {
-    let mut separator = "";
-    for name in names {
-        write!(f, "{separator}{name:?}")?;
-        separator = ", ";
+impl Member for (String, ComponentValType) {
+    fn show<W: fmt::Write>(&self, f: &mut fmt::Formatter<W>) -> fmt::Result {
+        self.0.show(f)?;
+        show_maybe(f, ": ", Some(self.1))
     }
-    Ok(())
 }
 
-fn show_vals<W: fmt::Write>(f: &mut fmt::Formatter<W>, types: &[ComponentValType]) -> fmt::Result {
-    let mut separator = "";
-    for ty in types {
-        f.write_str(separator)?;
-        show_val(f, ty)?;
-        separator = ", ";
+impl Member for (String, Option<ComponentValType>) {
+    fn show<W: fmt::Write>(&self, f: &mut fmt::Formatter<W>) -> fmt::Result {
+        self.0.show(f)?;
+        show_maybe(f, ": ", self.1)
     }
-    Ok(())
 }
 
-fn show_defined<W: fmt::Write>(f: &mut fmt::Formatter<W>, ty: &DefinedType) -> fmt::Result {
+// What is in a type, after its label.
+fn show_members<W: fmt::Write>(f: &mut fmt::Formatter<W>, ty: &DefinedType) -> fmt::Result {
     match ty {
-        DefinedType::Primitive(ty) => f.write_str(primitive_label(*ty)),
-        DefinedType::Record(ty) => {
-            f.write_str("record of ")?;
-            show_fields(f, &ty.fields)
-        }
-        DefinedType::Variant(ty) => {
-            f.write_str("variant of ")?;
-            show_cases(f, &ty.cases)
-        }
-        DefinedType::List(ty) => {
-            f.write_str("list of ")?;
-            show_val(f, &ty.elem_ty)
-        }
-        DefinedType::Tuple(ty) => {
-            f.write_str("tuple of ")?;
-            show_vals(f, &ty.fields)
-        }
-        DefinedType::Flags(ty) => {
-            f.write_str("flags of ")?;
-            show_names(f, &ty.fields)
-        }
-        DefinedType::Enum(ty) => {
-            f.write_str("enum of ")?;
-            show_names(f, &ty.variants)
-        }
-        DefinedType::Option(ty) => {
-            f.write_str("option of ")?;
-            show_val(f, &ty.inner_ty)
-        }
+        DefinedType::Primitive(_) => Ok(()),
+        DefinedType::Record(ty) => show_list(f, " of ", &ty.fields),
+        DefinedType::Variant(ty) => show_list(f, " of ", &ty.cases),
+        DefinedType::List(ty) => show_maybe(f, " of ", Some(ty.elem_ty)),
+        DefinedType::Tuple(ty) => show_list(f, " of ", &ty.fields),
+        DefinedType::Flags(ty) => show_list(f, " of ", &ty.fields),
+        DefinedType::Enum(ty) => show_list(f, " of ", &ty.variants),
+        DefinedType::Option(ty) => show_maybe(f, " of ", Some(ty.inner_ty)),
         DefinedType::Result(ty) => {
-            f.write_str("result")?;
-            show_maybe(f, " of ", &ty.ok_ty)?;
-            show_maybe(f, " or error ", &ty.err_ty)
+            show_maybe(f, " of ", ty.ok_ty)?;
+            show_maybe(f, " or error ", ty.err_ty)
         }
     }
 }
 
-fn show_function<W: fmt::Write>(f: &mut fmt::Formatter<W>, ty: &FuncType) -> fmt::Result {
-    f.write_str("function (")?;
-    show_fields(f, &ty.params)?;
-    f.write_str(")")?;
-    show_maybe(f, " -> ", &ty.result)
-}
-
-// An outer alias of a type or a core type, and the line's end.
+// An outer alias of a type or a core type, and the line's end. Its count and its index are passed.
 fn show_alias<W: fmt::Write>(
     f: &mut fmt::Formatter<W>,
+    walk: &mut Walk<'_>,
     what: &str,
     own: usize,
-    count: u32,
-    index: u32,
 ) -> fmt::Result {
+    let count = walk.pass_number()?;
+    let index = walk.pass_number()?;
     writeln!(
         f,
         "{what} {own}: outer alias of {what} {index}, count {count}"
@@ -140,87 +93,86 @@ fn show_alias<W: fmt::Write>(
 #[cycle(showing)]
 fn show_decl<W: fmt::Write>(
     f: &mut fmt::Formatter<W>,
-    walk: &mut Walk,
+    walk: &mut Walk<'_>,
     decl: &DeclNode,
     depth: u32,
 ) -> fmt::Result {
+    walk.begin_entry(f)?;
+    walk.pass(1);
     match decl {
-        DeclNode::Core(ty) => {
-            walk.pass(Some(1));
-            show_core_type(f, walk, ty)
-        }
-        DeclNode::Type(ty) if depth > 0 => {
-            walk.pass(Some(1));
-            show_type(f, walk, ty, depth - 1)
-        }
+        DeclNode::Core(ty) => show_core_type(f, walk, ty),
+        DeclNode::Type(ty) if depth > 0 => show_type(f, walk, ty, depth - 1),
         // None that was read is deeper than `MOST_DEPTH`.
         DeclNode::Type(_) => Err(fmt::Error),
-        DeclNode::TypeAlias { count, index } => {
-            walk.pass(indexes_len(3, &[*count, *index]));
+        DeclNode::TypeAlias { .. } => {
+            walk.pass(2);
             let own = next(&mut walk.spaces.types);
-            show_alias(f, "type", own, *count, *index)
+            show_alias(f, walk, "type", own)
         }
-        DeclNode::CoreTypeAlias { count, index } => {
-            walk.pass(indexes_len(4, &[*count, *index]));
+        DeclNode::CoreTypeAlias { .. } => {
+            walk.pass(3);
             let own = next(&mut walk.spaces.core_types);
-            show_alias(f, "core type", own, *count, *index)
+            show_alias(f, walk, "core type", own)
         }
-        DeclNode::Import { name, to } => {
-            walk.pass(Some(1));
-            f.write_str("import ")?;
-            show_extern(f, walk, name, *to)
-        }
-        DeclNode::Export { name, to } => {
-            walk.pass(Some(1));
-            f.write_str("export ")?;
-            show_extern(f, walk, name, *to)
-        }
+        DeclNode::Import { name, to } => show_extern(f, walk, "import", name, *to),
+        DeclNode::Export { name, to } => show_extern(f, walk, "export", name, *to),
     }
 }
 
-// What a component type or an instance type is, which ends the line, and a line for each declaration.
+// The end of the line of a component type or an instance type, and a line for each declaration.
 #[cycle(showing)]
 fn show_decls<W: fmt::Write>(
     f: &mut fmt::Formatter<W>,
-    walk: &mut Walk,
-    what: &str,
+    walk: &mut Walk<'_>,
     decls: &[DeclNode],
     depth: u32,
 ) -> fmt::Result {
-    writeln!(f, "{what}")?;
-    walk.pass(Some(1));
-    walk.pass(count_len(decls.len()));
-    let mut inside = walk.inside();
+    writeln!(f)?;
+    let _count = walk.pass_number()?;
+    walk.enter()?;
     for decl in decls {
-        inside.begin_line(f)?;
-        show_decl(f, &mut inside, decl, depth)?;
+        show_decl(f, walk, decl, depth)?;
     }
-    walk.offset = inside.offset;
+    walk.leave();
     Ok(())
+}
+
+// How many bytes spell a type. If it has declarations, its first byte alone: they are passed one after another.
+fn type_len(alloc: Global, ty: &TypeNode) -> Result<usize, fmt::Error> {
+    let mut out = Vec::new(alloc);
+    let put = match ty {
+        TypeNode::Defined(ty) => put_defined(&mut out, ty),
+        TypeNode::Func(ty) => put_function(&mut out, ty),
+        TypeNode::Component(_) | TypeNode::Instance(_) => return Ok(1),
+    };
+    match put {
+        Ok(()) => Ok(out.len()),
+        Err(_) => Err(fmt::Error),
+    }
 }
 
 /// A type, which ends the line, and a line for each of its declarations.
 #[cycle(showing)]
 pub(crate) fn show_type<W: fmt::Write>(
     f: &mut fmt::Formatter<W>,
-    walk: &mut Walk,
+    walk: &mut Walk<'_>,
     ty: &TypeNode,
     depth: u32,
 ) -> fmt::Result {
     let index = next(&mut walk.spaces.types);
-    write!(f, "type {index}: ")?;
+    let label = type_label(ty);
+    write!(f, "type {index}: {label}")?;
+    walk.pass(type_len(walk.alloc, ty)?);
     match ty {
-        TypeNode::Defined(ty) => {
-            walk.pass(defined_len(ty));
-            show_defined(f, ty)?;
-            writeln!(f)
-        }
+        TypeNode::Defined(ty) => show_members(f, ty)?,
         TypeNode::Func(ty) => {
-            walk.pass(function_len(ty));
-            show_function(f, ty)?;
-            writeln!(f)
+            show_list(f, " (", &ty.params)?;
+            f.write_str(")")?;
+            show_maybe(f, " -> ", ty.result)?;
         }
-        TypeNode::Component(decls) => show_decls(f, walk, "component", decls, depth),
-        TypeNode::Instance(decls) => show_decls(f, walk, "instance", decls, depth),
+        TypeNode::Component(decls) | TypeNode::Instance(decls) => {
+            return show_decls(f, walk, decls, depth);
+        }
     }
+    writeln!(f)
 }

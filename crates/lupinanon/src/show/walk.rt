@@ -1,13 +1,16 @@
-//! The place of a walk over a component's nodes. Nodes have no offsets: the lengths of what was passed are added up.
+//! The place of a walk over a component's nodes. Nodes have no offsets: their bytes are passed one after another.
 
+use smith_read::{Readable, count_of};
+use std::alloc::{AllocError, Global};
 use std::fmt;
 
 // Deeper lines are indented as at this level: so a line is at most 64 times as long as its bytes, whatever the depth.
-const MOST_LEVELS: u32 = 14;
+const MOST_LEVELS: usize = 14;
 
-/// How many entries each index space has.
+/// How many sections there are, and how many entries each index space has.
 #[derive(Clone, Copy, Default)]
 pub(crate) struct Spaces {
+    pub(crate) sections: usize,
     pub(crate) core_types: usize,
     pub(crate) core_functions: usize,
     pub(crate) modules: usize,
@@ -25,52 +28,89 @@ pub(crate) fn next(space: &mut usize) -> usize {
 }
 
 /// The place of a walk.
-#[derive(Clone, Copy, Default)]
-pub(crate) struct Walk {
-    /// The offset of what is next.
-    pub(crate) offset: usize,
-    /// How many sections, components and types are around it.
-    pub(crate) level: u32,
+#[derive(Drop)]
+pub(crate) struct Walk<'a> {
+    pub(crate) alloc: Global,
+    bytes: &'a [u8],
+    // What is next.
+    rest: &'a [u8],
     /// The index spaces that precede it.
     pub(crate) spaces: Spaces,
+    // The ones of the components and types around it, outermost first.
+    outer: Vec<Spaces>,
 }
 
-impl Walk {
-    /// The walk over what is next, if that has index spaces of its own.
-    pub(crate) fn inside(&self) -> Walk {
+impl<'a> Walk<'a> {
+    /// The beginning of the bytes.
+    pub(crate) fn new(alloc: Global, bytes: &'a [u8]) -> Walk<'a> {
         Walk {
-            offset: self.offset,
-            level: self.level.saturating_add(1),
+            alloc,
+            bytes,
+            rest: bytes,
             spaces: Spaces::default(),
+            outer: Vec::new(alloc),
         }
     }
 
-    /// Passes that many bytes. What was read has a length.
-    pub(crate) fn pass(&mut self, len: Option<u32>) {
-        let len = len.unwrap_or_default() as usize;
-        self.offset = self.offset.saturating_add(len);
+    /// Enters what has index spaces of its own.
+    pub(crate) fn enter(&mut self) -> Result<(), AllocError> {
+        self.outer.push(self.spaces)?;
+        self.spaces = Spaces::default();
+        Ok(())
     }
 
-    /// Passes the id of the section that is next, and the length of its contents. The bytes are all of the file's.
-    pub(crate) fn pass_head(&mut self, bytes: &[u8]) {
-        self.pass(Some(1));
-        let rest = &bytes[self.offset.min(bytes.len())..];
-        for byte in rest {
-            self.pass(Some(1));
-            // Only the last byte of a number in LEB128 is less than 128.
-            if *byte < 128 {
-                break;
-            }
-        }
+    /// Leaves it again.
+    pub(crate) fn leave(&mut self) {
+        self.spaces = self.outer.pop().unwrap_or_default();
     }
 
-    /// The beginning of a line: the offset of what is next, and the indent.
-    pub(crate) fn begin_line<W: fmt::Write>(&self, f: &mut fmt::Formatter<W>) -> fmt::Result {
-        let offset = self.offset;
+    /// Passes that many bytes.
+    pub(crate) fn pass(&mut self, count: usize) {
+        self.rest = &self.rest[count.min(self.rest.len())..];
+    }
+
+    /// Passes a length, a count or an index, and returns it.
+    pub(crate) fn pass_number(&mut self) -> Result<usize, fmt::Error> {
+        let Ok((number, rest)) = count_of(self.rest) else {
+            return Err(fmt::Error);
+        };
+        self.rest = rest;
+        Ok(number as usize)
+    }
+
+    /// Passes an entry or a declaration, which is read once more.
+    pub(crate) fn pass_entry<T: Readable>(&mut self) -> fmt::Result {
+        let Ok((_entry, rest)) = T::read(self.alloc, self.rest) else {
+            return Err(fmt::Error);
+        };
+        self.rest = rest;
+        Ok(())
+    }
+
+    // The beginning of a line: the offset of what is next, and the indent.
+    fn begin_line<W: fmt::Write>(&self, f: &mut fmt::Formatter<W>, level: usize) -> fmt::Result {
+        let offset = self.bytes.len().saturating_sub(self.rest.len());
         write!(f, "{offset:>8}  ")?;
-        for _ in 0..self.level.min(MOST_LEVELS) {
+        for _ in 0..level.min(MOST_LEVELS) {
             f.write_str("  ")?;
         }
         Ok(())
+    }
+
+    /// Begins the line of a section, and passes its head. Returns how many bytes the contents have.
+    pub(crate) fn begin_section<W: fmt::Write>(
+        &mut self,
+        f: &mut fmt::Formatter<W>,
+    ) -> Result<usize, fmt::Error> {
+        self.begin_line(f, self.outer.len())?;
+        let number = next(&mut self.spaces.sections);
+        write!(f, "section {number}: ")?;
+        self.pass(1);
+        self.pass_number()
+    }
+
+    /// Begins the line of an entry of a list, or of a declaration of a type.
+    pub(crate) fn begin_entry<W: fmt::Write>(&self, f: &mut fmt::Formatter<W>) -> fmt::Result {
+        self.begin_line(f, self.outer.len().saturating_add(1))
     }
 }
