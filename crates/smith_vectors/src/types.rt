@@ -1,10 +1,11 @@
-//! References to what is in the last scope, and the kinds of what is there.
+//! Types of one scope: the places of each kind, references to them, and declarations of them.
 
 use smith_core::{Config, ValType};
 use smith_input::Unstructured;
 use smith_types::{
-    ComponentType, ComponentTypeRef as Ref, CoreType, DefType, DefinedType, FuncType, InstanceType,
-    Kind, ModuleType, PrimitiveValType, RefTotals, Scopes, arbitrary_type_ref,
+    Alias, ComponentType, ComponentTypeDef, ComponentTypeRef as Ref, CoreType, DefType,
+    DefinedType, FuncType, InstanceType, InstanceTypeDecl, Kind, ModuleType, OuterAliasKind,
+    PrimitiveValType, RefTotals, Scopes, arbitrary_type_ref,
 };
 use std::alloc::Global;
 use std::process::Abort;
@@ -204,5 +205,29 @@ fn references_that_read_nothing(rt: HostRuntime) -> Result<(), Fail> {
         let scopes = scopes_of(&rt, *kinds)?;
         is_read(&rt, &scopes, (*place, FULL, b"\x01", *gives, 0));
     }
+    Ok(())
+}
+
+// What an instance type declares is the same in a component type.
+#[test]
+fn declarations_in_a_component_type(rt: HostRuntime) -> Result<(), Fail> {
+    let alloc = rt.alloc();
+    let number = Rc::new(alloc, empty_type(alloc, Kind::Defined)?)?;
+    let def = ComponentTypeDef::from(InstanceTypeDecl::TypeDecl(number.clone()?));
+    assert!(rt; matches!(&def, ComponentTypeDef::TypeDecl(ty) if Rc::ptr_eq(ty, &number)));
+    let module = Rc::new(alloc, empty_core_type(alloc, Kind::CoreModule)?)?;
+    let def = ComponentTypeDef::from(InstanceTypeDecl::CoreTypeDecl(module.clone()?));
+    assert!(rt; matches!(&def, ComponentTypeDef::CoreTypeDecl(ty) if Rc::ptr_eq(ty, &module)));
+    let alias = Alias {
+        count: 2,
+        i: 3,
+        kind: OuterAliasKind::OfType(number.clone()?),
+    };
+    let ComponentTypeDef::Alias(alias) = ComponentTypeDef::from(InstanceTypeDecl::Alias(alias))
+    else {
+        panic!(rt; "another declaration");
+    };
+    assert_eq!(rt; (alias.count, alias.i), (2, 3));
+    assert!(rt; matches!(&alias.kind, OuterAliasKind::OfType(ty) if Rc::ptr_eq(ty, &number)));
     Ok(())
 }
