@@ -1,6 +1,6 @@
 //! The answers to a row.
 
-use crate::components::{doubled, is_its_script, scripted, simpler, smaller, what_is_read};
+use crate::components::{doubled, scripted, simpler, smaller, what_is_read};
 use crate::generations::{generate_from, held, is_generated, outcome, repeated};
 use crate::texts::{defaults, texts, unwritten};
 use smith_component::Config;
@@ -74,7 +74,7 @@ fn generation(
         }
     }
     if task == Task::Plan {
-        answers.push_str(&is_its_script(alloc, limits, bytes, input)?)?;
+        answers.push_str(&scripted(alloc, limits, bytes, Some(input))?)?;
     }
     Ok(answers)
 }
@@ -120,7 +120,7 @@ pub fn answer(
 ) -> Result<String, AllocError> {
     match task {
         Task::Component | Task::Prefix | Task::Plan => generation(alloc, limits, task, bytes),
-        Task::Script => scripted(alloc, limits, bytes),
+        Task::Script => scripted(alloc, limits, bytes, None),
         Task::Read => format!(in alloc; "= {}\n", what_is_read(alloc, bytes)?.as_str()),
         Task::Fronts | Task::Cuts => fronts(alloc, limits, task, bytes),
         Task::Repeated => repeated(alloc, *limits, bytes),

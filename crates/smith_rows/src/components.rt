@@ -31,29 +31,29 @@ fn no_script(alloc: Global, error: &ScriptError) -> Result<String, AllocError> {
     }
 }
 
-/// Whether the component in these bytes has that input as its script; otherwise what its script is, or why it has none.
-pub fn is_its_script(
+/// Whether the component in these bytes has that input as its script, or is generated from its script if no input is
+/// given; otherwise what its script is, or why it has none.
+pub fn scripted(
     alloc: Global,
     limits: &Config,
     bytes: &[u8],
-    input: &[u8],
+    input: Option<&[u8]>,
 ) -> Result<String, AllocError> {
-    match script(alloc, limits, bytes) {
-        Ok(script) if script.as_slice() == input => String::from_str(alloc, "= its script\n"),
-        Ok(script) => format!(in alloc; "{}", Printed("script", &script)),
-        Err(error) => no_script(alloc, &error),
+    let script = match script(alloc, limits, bytes) {
+        Ok(script) => script,
+        Err(error) => return no_script(alloc, &error),
+    };
+    let (is_right, answer) = match input {
+        Some(input) => (script.as_slice() == input, "= its script\n"),
+        None => (
+            is_generated(alloc, *limits, &script, b"", bytes)?,
+            "= generated from its script\n",
+        ),
+    };
+    if is_right {
+        return String::from_str(alloc, answer);
     }
-}
-
-/// Whether the component in these bytes is generated from its script.
-pub fn scripted(alloc: Global, limits: &Config, bytes: &[u8]) -> Result<String, AllocError> {
-    match script(alloc, limits, bytes) {
-        Ok(script) if is_generated(alloc, *limits, &script, b"", bytes)? => {
-            String::from_str(alloc, "= generated from its script\n")
-        }
-        Ok(script) => format!(in alloc; "{}", Printed("script", &script)),
-        Err(error) => no_script(alloc, &error),
-    }
+    format!(in alloc; "{}", Printed("script", &script))
 }
 
 fn written(alloc: Global, name: &'static str, tree: &ComponentTree) -> Result<String, AllocError> {

@@ -1,14 +1,14 @@
 //! A table, line by line.
 //!
 //! `limits` sets the limits of what follows, by their names; the others have their defaults. A row begins with a task
-//! and the row's name, has its bytes on lines that begin with a space, and ends before an empty line. `with` sets more
-//! limits for one row, whether they fit together or not. What follows a `#` is a comment. Each line is printed as it
-//! is, and what is found goes to lines that begin with `=` at the end of the row.
+//! and the row's name, has its bytes on lines that begin with a space, and ends before an empty line. `with` sets one
+//! more limit for a row, whether it fits to the others or not. What follows a `#` is a comment. Each line is printed as
+//! it is, and what is found goes to lines that begin with `=` at the end of the row.
 
 use crate::answers::{TASKS, Task, answer};
 use crate::bytes::push_line;
 use smith_component::Config;
-use smith_limits::limits_of;
+use smith_limits::limits_of_text;
 use std::alloc::{AllocError, Global};
 
 /// The row that is being read, and what is printed so far.
@@ -25,15 +25,6 @@ struct Rows {
 fn task_of(word: &str) -> Option<Task> {
     let (_, task) = TASKS.iter().find(|(name, _)| *name == word)?;
     Some(*task)
-}
-
-// The limits of a line of words such as `max_types=10`.
-fn limits_in(alloc: Global, words: &str) -> Result<Option<Config>, AllocError> {
-    let text = words.replace(alloc, ' ', "\n")?;
-    let Ok(table) = toml::table_from_str(alloc, &text) else {
-        return Ok(None);
-    };
-    Ok(limits_of(alloc, &table).ok())
 }
 
 // Sets the limit that a word such as `max_types=10` names. Returns whether there is one.
@@ -63,15 +54,6 @@ fn set_limit(limits: &mut Config, word: &str) -> bool {
     true
 }
 
-fn set_limits(limits: &mut Config, words: &str) -> bool {
-    for word in words.split_ascii_whitespace() {
-        if !set_limit(limits, word) {
-            return false;
-        }
-    }
-    true
-}
-
 impl Rows {
     // Prints the answers to the row that ends here, if there is one.
     fn end(&mut self) -> Result<(), AllocError> {
@@ -93,9 +75,10 @@ impl Rows {
         let (word, rest) = line.split_once(' ').unwrap_or((line, ""));
         let is_known = match word {
             "" => true,
-            "with" => set_limits(&mut self.row_limits, rest),
+            "with" => set_limit(&mut self.row_limits, rest),
             "limits" => {
-                let limits = limits_in(self.alloc, rest)?;
+                let text = rest.replace(self.alloc, ' ', "\n")?;
+                let limits = limits_of_text(self.alloc, &text).ok();
                 self.limits = limits.unwrap_or(self.limits);
                 limits.is_some()
             }

@@ -103,107 +103,63 @@ fn the_places_of_each_kind(rt: HostRuntime) -> Result<(), Fail> {
     Ok(())
 }
 
-// Where a reference is: in a component, which may have that many types, or in a type.
-#[derive(Debug, Clone, Copy)]
-enum Place {
-    Import,
-    Export(usize),
-    InnerImport,
-    InnerExport,
-}
+// How many modules, functions, components and instances there are, and limits that allow no more of them.
+const TOTALS: RefTotals = RefTotals {
+    modules: 1,
+    funcs: 2,
+    components: 3,
+    instances: 4,
+};
 
-use Place::{Export, Import, InnerExport, InnerImport};
-use Ref::{Component, Func, Instance, Module, TypeEq};
-
-// How many modules, functions, components and instances there are.
-type Totals = [usize; 4];
-
-// A place, the totals, an input, the reference that is read from it, and how many bytes are read.
-type Row<'a> = (Place, Totals, &'a [u8], Option<Ref>, usize);
-
-// At these totals an import of a component may be of nothing more.
-const FULL: Totals = [1, 2, 3, 4];
-
-// Among all kinds.
-const ROWS: &[Row<'static>] = &[
-    // No choice among the one kind of which one more may come, and then one among its two entries.
-    (Import, FULL, b"\x01\x07", None, 0),
-    (Import, [0, 2, 3, 4], b"\x01\x07", Some(Module(2)), 1),
-    (Import, [1, 1, 3, 4], b"\x01\x07", Some(Func(4)), 1),
-    (Import, [1, 2, 2, 4], b"\x01\x07", Some(Component(3)), 1),
-    (Import, [1, 2, 3, 3], b"\x01\x07", Some(Instance(5)), 1),
-    // An export of a component may be of a type if one more may stand, and the totals bind nothing. The second item is
-    // then type equal, otherwise function; each has the entry 1 of its kind or of the types.
-    (Export(7), FULL, b"\x01\x01\x07", Some(Func(4)), 2),
-    (Export(8), FULL, b"\x01\x01\x07", Some(TypeEq(1)), 2),
-    // Inside a type the totals bind nothing. An export chooses among module, type equal, function, component and
-    // instance, an import among the same without type equal; then among two of the kind, or among seven types.
-    (InnerExport, FULL, b"\x00\x01\x07", Some(Module(2)), 2),
-    (InnerExport, FULL, b"\x01\x06\x07", Some(TypeEq(6)), 2),
-    (InnerExport, FULL, b"\x02\x01\x07", Some(Func(4)), 2),
-    (InnerExport, FULL, b"\x03\x00\x07", Some(Component(1)), 2),
-    (InnerExport, FULL, b"\x04\x01\x07", Some(Instance(5)), 2),
-    (InnerImport, FULL, b"\x04\x00", Some(Module(0)), 2),
-    (InnerImport, FULL, b"\x01\x00", Some(Func(2)), 2),
-    (InnerImport, FULL, b"\x02\x01", Some(Component(3)), 2),
-    (InnerImport, FULL, b"\x03\x00", Some(Instance(0)), 2),
-];
-
-// Among types of these kinds: no choice among one kind, none among one entry.
-const UNREAD: &[(&[Kind], Place, Option<Ref>)] = &[
-    (ONE_INSTANCE, InnerImport, Some(Instance(1))),
-    (&[Kind::Defined], InnerExport, Some(TypeEq(0))),
-    (&[Kind::Defined], InnerImport, None),
-    (&[Kind::CoreFunc], InnerExport, None),
-    (&[], InnerExport, None),
-    (&[], InnerImport, None),
-];
-
-const ONE_INSTANCE: &[Kind] = &[Kind::Defined, Kind::CoreFunc, Kind::Instance];
-
-// So many bytes of the input are read there, as that reference. The full totals are at the limits.
-fn is_read<R: Abort>(rt: &R, scopes: &Scopes, row: Row<'_>) {
-    let (place, [modules, funcs, components, instances], input, gives, reads) = row;
-    let max_types = match place {
-        Export(most) => most,
-        _ => 7,
-    };
-    let config = Config {
+fn full_limits(max_types: usize) -> Config {
+    Config {
         max_modules: 1,
         max_funcs: 2,
         max_components: 3,
         max_instances: 4,
         max_types,
         ..Config::default()
-    };
-    let totals = RefTotals {
-        modules,
-        funcs,
-        components,
-        instances,
-    };
-    let is_import = matches!(place, Import | InnerImport);
-    let is_in_a_type = matches!(place, InnerImport | InnerExport);
-    let mut u = Unstructured::new(input);
-    let reference = arbitrary_type_ref(&mut u, &config, scopes, totals, is_import, is_in_a_type);
-    assert_eq!(rt; reference, gives, "{place:?}: {input:?}");
-    assert_eq!(rt; Some(u.left()), input.get(reads..), "{place:?}: {gives:?}");
+    }
 }
 
+// The second item is type equal if one more type may stand, otherwise function. Each has the entry 1 of its kind or of
+// the types.
 #[test]
-fn references_among_all_kinds(rt: HostRuntime) -> Result<(), Fail> {
+fn references_of_exports_outside_of_types(rt: HostRuntime) -> Result<(), Fail> {
     let scopes = scopes_of(&rt, ALL_KINDS)?;
-    for row in ROWS {
-        is_read(&rt, &scopes, *row);
+    for (max_types, expected) in [(7, Ref::Func(4)), (8, Ref::TypeEq(1))] {
+        let limits = full_limits(max_types);
+        let mut u = Unstructured::new(b"\x01\x01\x07");
+        let reference = arbitrary_type_ref(&mut u, &limits, &scopes, TOTALS, false, false);
+        assert_eq!(rt; reference, Some(expected));
+        assert_eq!(rt; u.left(), b"\x07".as_slice());
     }
     Ok(())
 }
 
+// The kinds of a scope, and whether the reference is that of an import of its type.
+const NOTHING: &[(&[Kind], bool)] = &[
+    (&[Kind::Defined], true),
+    (&[Kind::CoreFunc], false),
+    (&[], false),
+    (&[], true),
+];
+
 #[test]
-fn references_that_read_nothing(rt: HostRuntime) -> Result<(), Fail> {
-    for (kinds, place, gives) in UNREAD {
+fn nothing_to_refer_to(rt: HostRuntime) -> Result<(), Fail> {
+    for (kinds, is_import) in NOTHING {
         let scopes = scopes_of(&rt, *kinds)?;
-        is_read(&rt, &scopes, (*place, FULL, b"\x01", *gives, 0));
+        let mut u = Unstructured::new(b"\x01");
+        let reference = arbitrary_type_ref(
+            &mut u,
+            &full_limits(7),
+            &scopes,
+            TOTALS,
+            *is_import,
+            true,
+        );
+        assert_eq!(rt; reference, None, "{kinds:?}");
+        assert_eq!(rt; u.left(), b"\x01".as_slice());
     }
     Ok(())
 }
