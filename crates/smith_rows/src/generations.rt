@@ -1,7 +1,9 @@
 //! Answers to rows about inputs: what is generated from them, in each way that there is, and what is left of them.
 
 use crate::bytes::Printed;
-use smith_component::{Builder, Component, Config, Error, Step, Unstructured, generate};
+use smith_component::{
+    Builder, Component, Config, Error, Generated as Made, Step, Unstructured, generate,
+};
 use smith_read::read;
 use smith_verdict::{Validity, Verdict, check, validate};
 use std::alloc::{AllocError, Global};
@@ -12,8 +14,7 @@ use std::fmt;
 pub struct Generated {
     pub bytes: Result<Vec<u8>, Error>,
     left: Vec<u8>,
-    // Whether the component is measured and read back as what was generated, and found well formed, and valid if it has
-    // to be.
+    // Whether all that is known of the component agrees.
     agrees: bool,
 }
 
@@ -23,36 +24,36 @@ impl Generated {
     }
 }
 
-// Are they found to be a well-formed component, and to validate if they have to?
-fn is_well_judged(alloc: Global, limits: &Config, bytes: &[u8]) -> Result<bool, AllocError> {
-    if limits.must_validate {
-        return Ok(validate(alloc, bytes)? == Validity::Valid);
-    }
-    Ok(check(alloc, bytes)? == Verdict::WellFormed)
+// Is it measured and read back as what was generated, and found well formed, and valid if it has to be?
+fn is_right(alloc: Global, limits: &Config, made: &Made) -> Result<bool, AllocError> {
+    let sections = made.component.sections().len();
+    let is_read = matches!(&read(alloc, &made.bytes), Ok(tree) if tree.parts.len() == sections);
+    let is_measured = made.component.measure() == Ok(made.bytes.len() as u128);
+    let is_judged = if limits.must_validate {
+        validate(alloc, &made.bytes)? == Validity::Valid
+    } else {
+        check(alloc, &made.bytes)? == Verdict::WellFormed
+    };
+    Ok(is_read && is_measured && is_judged)
 }
 
 fn generate_once(alloc: Global, limits: Config, input: &[u8]) -> Result<Generated, AllocError> {
     let mut u = Unstructured::new(input);
     let answer = generate(alloc, limits, &mut u);
-    let mut generated = Generated {
-        bytes: Err(Error::OutOfMemory),
-        left: Vec::from_slice(alloc, u.left())?,
-        agrees: true,
+    let left = Vec::from_slice(alloc, u.left())?;
+    let agrees = match &answer {
+        Ok(made) => is_right(alloc, &limits, made)?,
+        Err(_) => true,
     };
-    match answer {
-        Ok(made) => {
-            let sections = made.component.sections().len();
-            let is_read =
-                matches!(&read(alloc, &made.bytes), Ok(tree) if tree.parts.len() == sections);
-            let is_measured = made.component.measure() == Ok(made.bytes.len() as u128);
-            generated.agrees = is_read
-                && is_measured
-                && is_well_judged(alloc, &limits, &made.bytes)?;
-            generated.bytes = Ok(made.bytes);
-        }
-        Err(error) => generated.bytes = Err(error),
-    }
-    Ok(generated)
+    let bytes = match answer {
+        Ok(made) => Ok(made.bytes),
+        Err(error) => Err(error),
+    };
+    Ok(Generated {
+        bytes,
+        left,
+        agrees,
+    })
 }
 
 // A component that is written by itself.

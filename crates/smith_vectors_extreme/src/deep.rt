@@ -22,12 +22,10 @@ fn check_large<R: Abort + AllocGlobal>(
     let mut u = Unstructured::new(input);
     let generated = generate(rt.alloc(), limits, &mut u)?;
     assert!(rt; u.is_empty());
-    let found = (generated.component.sections().len(), generated.bytes.len());
+    let length = generated.bytes.len();
+    let found = (generated.component.sections().len(), length);
     assert_eq!(rt; found, size.unwrap_or(found));
-    assert_eq!(rt;
-        generated.component.measure()?,
-        generated.bytes.len() as u128
-    );
+    assert_eq!(rt; generated.component.measure()?, length as u128);
     assert!(rt; generated.bytes.ends_with(end));
     Ok(())
 }

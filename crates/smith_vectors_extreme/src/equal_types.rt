@@ -37,7 +37,8 @@ fn check_places<R: Abort>(rt: &R, scopes: &Scopes, func: &FuncType, places: &[u3
     let many = scopes.equal_len(func);
     assert_eq!(rt; many, places.len());
     for k in 0..many {
-        assert_eq!(rt; places.get(k), Some(&scopes.equal_at(func, k)));
+        let place = scopes.equal_at(func, k);
+        assert_eq!(rt; places.get(k), Some(&place));
     }
 }
 

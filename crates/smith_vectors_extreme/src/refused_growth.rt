@@ -107,9 +107,10 @@ fn check_names<R: Abort + AllocGlobal>(
     for (before, expected) in expected.iter().enumerate() {
         let (name, _) = while_memory_runs_out(rt, expected, || {
             let mut u = Unstructured::new(b"\x01\x00");
-            let answer = match is_url {
-                true => unique_url(alloc, 100, &mut names, &mut u),
-                false => unique_kebab_string(alloc, 100, &mut names, &mut u),
+            let answer = if is_url {
+                unique_url(alloc, 100, &mut names, &mut u)
+            } else {
+                unique_kebab_string(alloc, 100, &mut names, &mut u)
             };
             assert!(rt; answer.is_ok() || names.len() == before, "{expected}");
             answer
