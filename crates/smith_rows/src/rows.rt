@@ -66,7 +66,7 @@ impl Rows {
         Ok(())
     }
 
-    // Takes a line without its comment. Returns what it lacks.
+    // Takes a line without its comment. Returns what is wrong with it.
     fn take(&mut self, line: &str) -> Result<Option<&'static str>, AllocError> {
         if line.starts_with(' ') {
             let is_bytes = push_line(self.alloc, &mut self.bytes, line)?;
@@ -88,7 +88,7 @@ impl Rows {
                 self.task.is_some()
             }
         };
-        Ok((!is_known).then_some("= no limits, and no task\n"))
+        Ok((!is_known).then_some("= neither limits nor a task\n"))
     }
 
     fn line(&mut self, line: &str) -> Result<(), AllocError> {
