@@ -1,13 +1,12 @@
 -- Plans, as plain trees: the scripts of them are inputs of tests.
 use Rattle.std.specs.Prelude.{ℕ, true, false, List, [], ◌∷◌, codes, None, Some}
 use Rattle.smith_format.specs.declared.config.Config.{Config}
-use Rattle.smith_syntax.specs.Entries.{Entry, Signature, defined, function, component_type, record_type, primitive_type}
+use Rattle.smith_syntax.specs.Entries.{Entry, defined, function, component_type, primitive_type}
 use Rattle.smith_syntax.specs.Entries.{type_alias, import_decl, export_decl, then_decls, no_decls, ImportEntry}
 use Rattle.smith_syntax.specs.declared.deftype.ComponentTypeRef.TheVariants as to
-use Rattle.smith_syntax.specs.declared.types.ComponentValType.{ComponentValType}
 use Rattle.smith_syntax.specs.declared.types.ComponentValType.TheVariants.{Primitive}
 use Rattle.smith_syntax.specs.declared.types.PrimitiveValType.TheVariants as prim
-use Rattle.smith_tree.specs.Tree.{Tree, Part, ends, first, component, types, canons, imports, exports, lift, lower}
+use Rattle.smith_tree.specs.Tree.{Tree, ends, first, component, types, canons, imports, exports, lift, lower}
 
 -- one module, one component and one instance, a depth of 2, 10 of everything else, and what the default limits say
 abbrev pub small_limits : Config

@@ -1,12 +1,14 @@
 //! Bytes as words of a row: two hexadecimal digits, `61*100` for a hundred of them, `( 01 2a )*127` for a group of
-//! bytes that repeats, `preamble` for the first eight bytes of a component, and `@nested` for the script of that plan.
+//! bytes that repeats, `preamble` for the first eight bytes of a component, `around*9` to put what stands before into
+//! nine components, one in another, and `@nested` for the script of that plan.
 
-use crate::plans;
+use crate::plans::scripts;
+use smith_format::write_section;
 use std::alloc::{AllocError, Global};
 use std::fmt;
 
-/// The first eight bytes of each component.
-pub const PREAMBLE: &[u8] = &[0x00, 0x61, 0x73, 0x6d, 0x0d, 0x00, 0x01, 0x00];
+// The first eight bytes of each component.
+const PREAMBLE: &[u8] = &[0x00, 0x61, 0x73, 0x6d, 0x0d, 0x00, 0x01, 0x00];
 
 // How many words there are on a line at most.
 const LINE: usize = 32;
@@ -16,34 +18,29 @@ const LONGEST_RUN: usize = 8;
 
 // The proved script of the plan with this name.
 fn proved_script(name: &str) -> Option<&'static [u8]> {
+    let scripts = scripts();
     match name {
-        "second_of_equal_types" => Some(plans::second_of_equal_types()),
-        "lower_and_lift" => Some(plans::lower_and_lift()),
-        "lower_of_a_lift" => Some(plans::lower_of_a_lift()),
-        "lower_of_an_export" => Some(plans::lower_of_an_export()),
-        "nested" => Some(plans::nested()),
-        "scoped_type" => Some(plans::scoped_type()),
+        "second_of_equal_types" => Some(scripts.second_of_equal_types),
+        "lower_and_lift" => Some(scripts.lower_and_lift),
+        "lower_of_a_lift" => Some(scripts.lower_of_a_lift),
+        "lower_of_an_export" => Some(scripts.lower_of_an_export),
+        "nested" => Some(scripts.nested),
+        "scoped_type" => Some(scripts.scoped_type),
         _ => None,
     }
 }
 
 // The bytes of a word that does not repeat. `)` stands for the bytes of its group.
 fn word_bytes(alloc: Global, word: &str, group: &[u8]) -> Result<Option<Vec<u8>>, AllocError> {
-    if word == ")" {
-        return Ok(Some(Vec::from_slice(alloc, group)?));
-    }
-    if word == "preamble" {
-        return Ok(Some(Vec::from_slice(alloc, PREAMBLE)?));
-    }
-    if let Some(name) = word.strip_prefix('@') {
-        return match proved_script(name) {
-            Some(script) => Ok(Some(Vec::from_slice(alloc, script)?)),
-            None => Ok(None),
-        };
-    }
-    match u8::from_str_radix(word, 16) {
-        Ok(byte) => Ok(Some(Vec::from_slice(alloc, &[byte])?)),
-        Err(_) => Ok(None),
+    let named = match word {
+        ")" => Some(group),
+        "preamble" => Some(PREAMBLE),
+        _ => word.strip_prefix('@').and_then(proved_script),
+    };
+    match (named, u8::from_str_radix(word, 16)) {
+        (Some(bytes), _) => Ok(Some(Vec::from_slice(alloc, bytes)?)),
+        (None, Ok(byte)) => Ok(Some(Vec::from_slice(alloc, &[byte])?)),
+        (None, Err(_)) => Ok(None),
     }
 }
 
@@ -54,22 +51,30 @@ fn push_word(
     start: usize,
     word: &str,
 ) -> Result<bool, AllocError> {
-    let (word, times) = match word.split_once('*') {
-        Some((word, times)) => (word, times.parse::<usize>().ok()),
-        None => (word, Some(1)),
-    };
+    let (word, times) = word.split_once('*').unwrap_or((word, "1"));
     let group = bytes.get(start..).unwrap_or(&[]);
-    let (Some(times), Some(more)) = (times, word_bytes(alloc, word, group)?) else {
+    let more = word_bytes(alloc, word, group)?;
+    let (Ok(times), Some(more)) = (times.parse::<usize>(), more) else {
         return Ok(false);
     };
     // The first of a group is there.
-    let times = if word == ")" {
-        times.saturating_sub(1)
-    } else {
-        times
+    for _ in usize::from(word == ")")..times {
+        bytes.extend_from_slice(&more)?;
+    }
+    Ok(true)
+}
+
+// Puts the bytes into that many components, one in another. Returns whether that is a number.
+fn nest(alloc: Global, bytes: &mut Vec<u8>, times: &str) -> Result<bool, AllocError> {
+    let Ok(times) = times.parse::<usize>() else {
+        return Ok(false);
     };
     for _ in 0..times {
-        bytes.extend_from_slice(&more)?;
+        let mut around = Vec::from_slice(alloc, PREAMBLE)?;
+        if write_section(&mut around, 4, bytes).is_err() {
+            return Err(AllocError);
+        }
+        *bytes = around;
     }
     Ok(true)
 }
@@ -80,7 +85,13 @@ pub fn push_line(alloc: Global, bytes: &mut Vec<u8>, line: &str) -> Result<bool,
     for word in line.split_ascii_whitespace() {
         if word == "(" {
             start = bytes.len();
-        } else if !push_word(alloc, bytes, start, word)? {
+            continue;
+        }
+        let is_word = match word.strip_prefix("around*") {
+            Some(times) => nest(alloc, bytes, times)?,
+            None => push_word(alloc, bytes, start, word)?,
+        };
+        if !is_word {
             return Ok(false);
         }
     }

@@ -1,7 +1,9 @@
 //! Answers to rows about inputs: what is generated from them, in each way that there is, and what is left of them.
 
 use crate::bytes::Printed;
-use smith_component::{Builder, Component, Config, Error, Step, Unstructured, generate};
+use smith_component::{
+    Builder, Component, Config, Error, Generated as Made, Step, Unstructured, generate,
+};
 use smith_read::read;
 use smith_verdict::{Validity, Verdict, check, validate};
 use std::alloc::{AllocError, Global};
@@ -12,8 +14,7 @@ use std::fmt;
 pub struct Generated {
     pub bytes: Result<Vec<u8>, Error>,
     left: Vec<u8>,
-    // Whether the component is measured and read back as what was generated, and found well formed, and valid if it has
-    // to be.
+    // Whether all that is known of the component agrees.
     agrees: bool,
 }
 
@@ -23,48 +24,53 @@ impl Generated {
     }
 }
 
-// Are they found to be a well-formed component, and to validate if they have to?
-fn is_well_judged(alloc: Global, limits: &Config, bytes: &[u8]) -> Result<bool, AllocError> {
-    if limits.must_validate {
-        return Ok(validate(alloc, bytes)? == Validity::Valid);
-    }
-    Ok(check(alloc, bytes)? == Verdict::WellFormed)
+// Is it measured and read back as what was generated, and found well formed, and valid if it has to be?
+fn is_right(alloc: Global, limits: &Config, made: &Made) -> Result<bool, AllocError> {
+    let sections = made.component.sections().len();
+    let is_read = matches!(&read(alloc, &made.bytes), Ok(tree) if tree.parts.len() == sections);
+    let is_measured = made.component.measure() == Ok(made.bytes.len() as u128);
+    let is_judged = if limits.must_validate {
+        validate(alloc, &made.bytes)? == Validity::Valid
+    } else {
+        check(alloc, &made.bytes)? == Verdict::WellFormed
+    };
+    Ok(is_read && is_measured && is_judged)
 }
 
 fn generate_once(alloc: Global, limits: Config, input: &[u8]) -> Result<Generated, AllocError> {
     let mut u = Unstructured::new(input);
     let answer = generate(alloc, limits, &mut u);
     let left = Vec::from_slice(alloc, u.left())?;
-    match answer {
-        Ok(made) => {
-            let is_measured = made.component.measure() == Ok(made.bytes.len() as u128);
-            let sections = made.component.sections().len();
-            let is_read = match read(alloc, &made.bytes) {
-                Ok(tree) => tree.parts.len() == sections,
-                Err(_) => false,
-            };
-            let is_judged = is_well_judged(alloc, &limits, &made.bytes)?;
-            Ok(Generated {
-                bytes: Ok(made.bytes),
-                left,
-                agrees: is_measured && is_read && is_judged,
-            })
-        }
-        Err(error) => Ok(Generated {
-            bytes: Err(error),
-            left,
-            agrees: true,
-        }),
-    }
+    let agrees = match &answer {
+        Ok(made) => is_right(alloc, &limits, made)?,
+        Err(_) => true,
+    };
+    let bytes = match answer {
+        Ok(made) => Ok(made.bytes),
+        Err(error) => Err(error),
+    };
+    Ok(Generated {
+        bytes,
+        left,
+        agrees,
+    })
+}
+
+// A component that is written by itself.
+fn written(alloc: Global, limits: Config, u: &mut Unstructured) -> Result<Vec<u8>, Error> {
+    let component = if limits == Config::default() {
+        Component::arbitrary(alloc, u)?
+    } else {
+        Component::new(alloc, limits, u)?
+    };
+    component.to_bytes(alloc)
 }
 
 // What a builder makes in at most as many turns as there are bytes and components may nest. A builder that needs more
 // makes nothing.
 fn built(alloc: Global, limits: Config, u: &mut Unstructured) -> Result<Vec<u8>, Error> {
-    let most = u
-        .left()
-        .len()
-        .saturating_add(limits.max_nesting_depth.max(1));
+    let depth = limits.max_nesting_depth.max(1);
+    let most = u.left().len().saturating_add(depth);
     let mut builder = Builder::new(alloc, limits)?;
     for _ in 0..most {
         match builder.step(u)? {
@@ -80,10 +86,7 @@ pub fn generate_from(alloc: Global, limits: Config, input: &[u8]) -> Result<Gene
     let mut generated = generate_once(alloc, limits, input)?;
     let again = generate_once(alloc, limits, input)?;
     let mut u = Unstructured::new(input);
-    let written = match Component::new(alloc, limits, &mut u) {
-        Ok(component) => component.to_bytes(alloc),
-        Err(error) => Err(error),
-    };
+    let written = written(alloc, limits, &mut u);
     let mut fresh = Unstructured::new(input);
     let built = built(alloc, limits, &mut fresh);
     let is_same = generated.is(&again.bytes, &again.left)
@@ -120,10 +123,7 @@ pub fn is_generated(
     let mut whole = Vec::from_slice(alloc, input)?;
     whole.extend_from_slice(rest)?;
     let again = generate_from(alloc, limits, &whole)?;
-    let is_same = match &again.bytes {
-        Ok(found) => found.as_slice() == bytes,
-        Err(_) => false,
-    };
+    let is_same = matches!(&again.bytes, Ok(found) if found.as_slice() == bytes);
     Ok(is_same && again.agrees && again.left.as_slice() == rest)
 }
 

@@ -4,7 +4,7 @@
 
 mod answers;
 mod bytes;
-mod edits;
+mod components;
 mod generations;
 mod plans;
 mod rows;

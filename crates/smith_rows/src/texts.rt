@@ -1,10 +1,9 @@
-//! Answers to rows without bytes: the texts of errors, the default limits, and limits that do not fit together.
+//! Answers to rows without bytes: the texts of errors, the default limits, and a component that is not written.
 
-use crate::bytes::PREAMBLE;
 use smith_component::{Config, Error};
 use smith_limits::{DEFAULT_LIMITS, KEYS, limits_of};
 use smith_read::{ComponentTree, PartNode, write};
-use smith_script::{Reason, ScriptError, Unkept, script};
+use smith_script::{Reason, ScriptError, Unkept};
 use std::alloc::{AllocError, Global};
 
 const ERRORS: [Error; 6] = [
@@ -74,18 +73,6 @@ pub fn defaults(alloc: Global) -> Result<String, AllocError> {
     let sets_each = table.len() == KEYS.len();
     let are_defaults = limits_of(alloc, &table) == Ok(Config::default());
     format!(in alloc; "= sets each limit: {sets_each}, all of them the defaults: {are_defaults}\n")
-}
-
-/// What is returned for the script of the empty component if there must be more types than there may be.
-pub fn misfit(alloc: Global, limits: &Config) -> Result<String, AllocError> {
-    let misfit = Config {
-        min_types: limits.max_types.saturating_add(1),
-        ..*limits
-    };
-    match script(alloc, &misfit, PREAMBLE) {
-        Ok(_) => String::from_str(alloc, "= a script\n"),
-        Err(error) => format!(in alloc; "= no script: {error:?}\n"),
-    }
 }
 
 /// What is returned for writing a component of one core module that has no bytes, and so no preamble.

@@ -3,28 +3,14 @@
 #![tactic(auto)]
 
 #[cfg(test)]
-mod common;
-#[cfg(test)]
-mod core_types;
-#[cfg(test)]
-mod declarations;
-#[cfg(test)]
-mod doubles;
-#[cfg(test)]
-mod limits;
+mod choices;
 #[cfg(test)]
 mod module_parts;
 #[cfg(test)]
-mod module_sections;
-#[cfg(test)]
 mod modules;
 #[cfg(test)]
-mod names;
-#[cfg(test)]
-mod reader;
-#[cfg(test)]
-mod references;
-#[cfg(test)]
 mod runs;
+#[cfg(test)]
+mod types;
 #[cfg(test)]
 mod writers;

@@ -1,10 +1,68 @@
 //! Runs of a filter: what no clause says of their results, their messages, and faults of readers and writers.
 
-use crate::common::{check_bytes, check_count};
-use crate::doubles::{Pieces, Sheet};
 use smith_component::{Config, Error};
-use smith_run::{RunError, convert_by_default, report, run};
+use smith_run::RunError::{InputTooLong, ReadFault, Refused, WriteFault};
+use smith_run::{convert_by_default, report, run};
+use std::alloc::Global;
+use std::io;
+use std::io::{ErrorKind, Read, Write};
 use std::test::Fail;
+
+// Counts a call, which fails from number `fails_at` on. The first is number 1.
+fn count(calls: &mut usize, fails_at: usize) -> io::Result<()> {
+    *calls = calls.saturating_add(1);
+    if *calls >= fails_at {
+        return Err(io::Error::from(ErrorKind::Other));
+    }
+    Ok(())
+}
+
+// Returns its bytes, at most three a read, and fails from read number `fails_at` on.
+#[derive(Drop)]
+struct Pieces<'a> {
+    bytes: &'a [u8],
+    fails_at: usize,
+    reads: usize,
+}
+
+impl Read for Pieces<'_> {
+    fn read(&mut self, buf: &mut [u8]) -> io::Result<usize> {
+        count(&mut self.reads, self.fails_at)?;
+        let room = buf.len().min(3);
+        self.bytes.read(&mut buf[..room])
+    }
+}
+
+// Takes at most four bytes a write, and fails from call number `fails_at` on, a flush being a call too.
+#[derive(Drop)]
+struct Sheet {
+    text: Vec<u8>,
+    fails_at: usize,
+    calls: usize,
+}
+
+impl Sheet {
+    fn new(alloc: Global, fails_at: usize) -> Sheet {
+        Sheet {
+            fails_at,
+            calls: 0,
+            text: Vec::new(alloc),
+        }
+    }
+}
+
+impl Write for Sheet {
+    fn write(&mut self, buf: &[u8]) -> io::Result<usize> {
+        count(&mut self.calls, self.fails_at)?;
+        let room = buf.len().min(4);
+        self.text.extend_from_slice(&buf[..room])?;
+        Ok(room)
+    }
+
+    fn flush(&mut self) -> io::Result<()> {
+        count(&mut self.calls, self.fails_at)
+    }
+}
 
 const DEFINED_TYPE: &[u8] = &[3, 1, 0, 0, 6, 0, 0, 255];
 
@@ -30,10 +88,10 @@ fn a_page_is_written(rt: HostRuntime) -> Result<(), Fail> {
         let answer = run(rt.alloc(), &mut reader, &mut text, config);
         let expected = match page {
             Some(_) => Ok(()),
-            None => Err(RunError::Refused(Error::InconsistentLimits)),
+            None => Err(Refused(Error::InconsistentLimits)),
         };
         assert_eq!(rt; answer, expected);
-        check_bytes(&rt, "a page", &text, page.unwrap_or(b"*"));
+        assert_eq!(rt; text.as_slice(), page.unwrap_or(b"*"));
     }
     Ok(())
 }
@@ -48,9 +106,9 @@ fn a_failed_read_is_a_read_fault(rt: HostRuntime) -> Result<(), Fail> {
         };
         let mut text = Vec::from_slice(rt.alloc(), b"*")?;
         let answer = run(rt.alloc(), &mut reader, &mut text, Config::default());
-        assert_eq!(rt; answer, Err(RunError::ReadFault), "at read {fails_at}");
-        check_bytes(&rt, "a failed read", &text, b"*");
-        check_count(&rt, "reads", reader.reads, fails_at);
+        assert_eq!(rt; answer, Err(ReadFault), "at read {fails_at}");
+        assert_eq!(rt; text.as_slice(), b"*".as_slice());
+        assert_eq!(rt; reader.reads, fails_at);
     }
     Ok(())
 }
@@ -67,46 +125,36 @@ fn a_failed_write_is_a_write_fault(rt: HostRuntime) -> Result<(), Fail> {
         let mut sheet = Sheet::new(rt.alloc(), fails_at);
         let mut reader = DEFINED_TYPE;
         let answer = run(rt.alloc(), &mut reader, &mut sheet, Config::default());
-        assert_eq!(rt; answer, Err(RunError::WriteFault), "at call {fails_at}");
+        assert_eq!(rt; answer, Err(WriteFault), "at call {fails_at}");
         assert!(rt; whole.text.starts_with(&sheet.text));
     }
     Ok(())
 }
 
 #[test]
-fn each_error_has_its_line_and_its_status(rt: HostRuntime) -> Result<(), Fail> {
-    let refused = [
-        (Error::InconsistentLimits, "InconsistentLimits\n"),
-        (Error::MinimumNotMet, "MinimumNotMet\n"),
-        (Error::ModuleRefused, "ModuleRefused\n"),
-        (Error::TooLong, "TooLong\n"),
-        (Error::OutOfMemory, "OutOfMemory\n"),
-        (Error::PartsDisagree, "PartsDisagree\n"),
-    ];
-    for (error, line) in refused {
-        let mut errors = Vec::new(rt.alloc());
-        let status = report(&mut errors, Err(RunError::Refused(error)));
-        assert_eq!(rt; status, 1, "{line}");
-        check_bytes(&rt, line, &errors, line.as_bytes());
-    }
-    Ok(())
-}
-
-#[test]
 fn each_fault_has_its_line_and_its_status(rt: HostRuntime) -> Result<(), Fail> {
+    let unfit = Refused(Error::InconsistentLimits);
     let rows = [
-        (Err(RunError::ReadFault), "ReadFault\n", 2),
-        (Err(RunError::InputTooLong), "InputTooLong\n", 2),
-        (Err(RunError::WriteFault), "WriteFault\n", 2),
-        (Ok(()), "", 0),
+        (unfit, "InconsistentLimits\n", 1),
+        (Refused(Error::MinimumNotMet), "MinimumNotMet\n", 1),
+        (Refused(Error::ModuleRefused), "ModuleRefused\n", 1),
+        (Refused(Error::TooLong), "TooLong\n", 1),
+        (Refused(Error::OutOfMemory), "OutOfMemory\n", 1),
+        (Refused(Error::PartsDisagree), "PartsDisagree\n", 1),
+        (ReadFault, "ReadFault\n", 2),
+        (InputTooLong, "InputTooLong\n", 2),
+        (WriteFault, "WriteFault\n", 2),
     ];
-    for (answer, line, status) in rows {
+    for (error, line, status) in rows {
         let mut errors = Vec::new(rt.alloc());
-        assert_eq!(rt; report(&mut errors, answer), status, "{line}");
-        check_bytes(&rt, line, &errors, line.as_bytes());
+        assert_eq!(rt; report(&mut errors, Err(error)), status, "{line}");
+        assert_eq!(rt; errors.as_slice(), line.as_bytes());
     }
+    let mut none = Vec::new(rt.alloc());
+    assert_eq!(rt; report(&mut none, Ok(())), 0);
+    assert!(rt; none.is_empty());
     let mut failing = Sheet::new(rt.alloc(), 1);
-    assert_eq!(rt; report(&mut failing, Err(RunError::ReadFault)), 2);
+    assert_eq!(rt; report(&mut failing, Err(ReadFault)), 2);
     Ok(())
 }
 
@@ -131,8 +179,8 @@ fn the_filter_runs_within_the_default_limits(rt: HostRuntime) -> Result<(), Fail
         let mut errors = Vec::new(rt.alloc());
         let status = convert_by_default(rt.alloc(), &mut reader, &mut text, &mut errors);
         assert_eq!(rt; status, expected);
-        check_bytes(&rt, "a page", &text, page);
-        check_bytes(&rt, "errors", &errors, line);
+        assert_eq!(rt; text.as_slice(), page);
+        assert_eq!(rt; errors.as_slice(), line);
     }
     Ok(())
 }

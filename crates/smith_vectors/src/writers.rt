@@ -1,7 +1,6 @@
 //! What writers write, and its length. The bytes are from the core specification's and DWARF's examples, or worked out
 //! by hand from the binary formats.
 
-use crate::common::check_holds;
 use smith_format::{
     EntityType, FuncType, GlobalType, MemoryType, RefType, TableType, TagType, ValType,
     core_import_len, core_val_len, entity_len, func_type_len, s64_len, text_len, type_index_len,
@@ -60,8 +59,7 @@ fn is_written<R: Abort + AllocGlobal>(
     let (answer, length) = written.write(&mut out);
     answer?;
     assert_eq!(rt; out.strip_prefix(b"\x0a"), Some(expected), "{name}");
-    let length = length.map(|n| n as usize);
-    check_holds(rt, name, length == Some(expected.len()));
+    assert_eq!(rt; length.map(|n| n as usize), Some(expected.len()), "{name}");
     Ok(())
 }
 

@@ -1,6 +1,6 @@
 //! Large components within a bounded stack, and in time that grows only with the input.
 
-use crate::common::{PREAMBLE, check_bytes, check_count, check_holds};
+use crate::common::PREAMBLE;
 use smith_component::{Config, Unstructured, generate};
 use smith_types::{
     Alias, DefType, DefinedType, InstanceType, InstanceTypeDecl, OuterAliasKind, PrimitiveValType,
@@ -11,29 +11,22 @@ use std::process::Abort;
 use std::rc::Rc;
 use std::test::Fail;
 
-// A large input, and what is generated from it within some limits: how many sections and bytes, if that is known, and
-// the last of the bytes.
-#[derive(Drop)]
-struct Large<'a> {
-    name: &'a str,
+// From the input, which is used up, this many sections and bytes are generated, if that is known, with these last bytes.
+fn check_large<R: Abort + AllocGlobal>(
+    rt: &R,
     limits: Config,
-    input: Vec<u8>,
+    input: &[u8],
     size: Option<(usize, usize)>,
-    end: &'a [u8],
-}
-
-fn check_large<R: Abort + AllocGlobal>(rt: &R, large: Large<'_>) -> Result<(), Fail> {
-    let mut u = Unstructured::new(&large.input);
-    let generated = generate(rt.alloc(), large.limits, &mut u)?;
-    check_bytes(rt, large.name, u.left(), b"");
-    let sections = generated.component.sections().len();
+    end: &[u8],
+) -> Result<(), Fail> {
+    let mut u = Unstructured::new(input);
+    let generated = generate(rt.alloc(), limits, &mut u)?;
+    assert!(rt; u.is_empty());
     let length = generated.bytes.len();
-    let (many, bytes) = large.size.unwrap_or((sections, length));
-    check_count(rt, large.name, sections, many);
-    check_count(rt, large.name, length, bytes);
-    let measured = generated.component.measure()?;
-    check_holds(rt, large.name, measured == length as u128);
-    check_holds(rt, large.name, generated.bytes.ends_with(large.end));
+    let found = (generated.component.sections().len(), length);
+    assert_eq!(rt; found, size.unwrap_or(found));
+    assert_eq!(rt; generated.component.measure()?, length as u128);
+    assert!(rt; generated.bytes.ends_with(end));
     Ok(())
 }
 
@@ -48,16 +41,13 @@ fn repeated(alloc: Global, first: &[u8], each: &[u8], times: u32) -> Result<Vec<
 
 // The place, below that many, as a choice among that many reads it.
 fn push_place(input: &mut Vec<u8>, place: u32, count: u32) -> Result<(), AllocError> {
-    if count > 65_536 {
-        input.push(((place >> 16) & 0xff) as u8)?;
+    let [_, high, middle, low] = place.to_be_bytes();
+    match count {
+        0..=1 => Ok(()),
+        2..=256 => input.extend_from_slice(&[low]),
+        257..=65_536 => input.extend_from_slice(&[middle, low]),
+        _ => input.extend_from_slice(&[high, middle, low]),
     }
-    if count > 256 {
-        input.push(((place >> 8) & 0xff) as u8)?;
-    }
-    if count > 1 {
-        input.push((place & 0xff) as u8)?;
-    }
-    Ok(())
 }
 
 // 99,999 types after the first, each of which names the one before.
@@ -75,23 +65,13 @@ fn naming(mut input: Vec<u8>, front: &[u8], back: &[u8]) -> Result<Vec<u8>, Allo
 fn long_lists_are_written_and_dropped(rt: HostRuntime) -> Result<(), Fail> {
     let mut limits = Config::default();
     limits.max_imports = 0;
-    let sections = Large {
-        name: "a million sections",
-        limits,
-        input: repeated(rt.alloc(), b"", b"\x04", 1_000_000)?,
-        size: Some((1_000_000, 8 + 1_000_000 * 3)),
-        end: b"\x0a\x01\x00",
-    };
-    check_large(&rt, sections)?;
+    let sections = repeated(rt.alloc(), b"", b"\x04", 1_000_000)?;
+    let size = Some((1_000_000, 8 + 1_000_000 * 3));
+    check_large(&rt, limits, &sections, size, b"\x0a\x01\x00")?;
     limits.max_types = 1_000_000;
-    let types = Large {
-        name: "a million types",
-        limits,
-        input: repeated(rt.alloc(), b"\x03", b"\x01\x00\x00\x00", 1_000_000)?,
-        size: Some((1, 8 + 1 + 3 + 3 + 1_000_000)),
-        end: b"\x7f",
-    };
-    check_large(&rt, types)
+    let types = repeated(rt.alloc(), b"\x03", b"\x01\x00\x00\x00", 1_000_000)?;
+    let size = Some((1, 8 + 1 + 3 + 3 + 1_000_000));
+    check_large(&rt, limits, &types, size, b"\x7f")
 }
 
 // 999 components, each in the one before: it has the eight bytes of the preamble and a section, whose length takes one
@@ -101,36 +81,23 @@ fn long_lists_are_written_and_dropped(rt: HostRuntime) -> Result<(), Fail> {
 // long. 1 MiB of such input took 42 times longer at a depth of 1000 than at a depth of 2.
 #[test]
 fn nested_components_are_written_in_linear_time_and_dropped(rt: HostRuntime) -> Result<(), Fail> {
-    let components = Large {
-        name: "a thousand components",
-        limits: deep_limits(),
-        input: repeated(rt.alloc(), b"", b"\x07", 999)?,
-        size: Some((1, 8 + 12 * 10 + 987 * 11)),
-        end: PREAMBLE,
-    };
-    check_large(&rt, components)?;
-    let depths = Large {
-        name: "components at each depth",
-        limits: Config {
-            max_modules: 60_000,
-            max_components: 60_000,
-            max_types: 0,
-            max_memories: 0,
-            ..deep_limits()
-        },
-        input: repeated(rt.alloc(), b"", b"\x06\x07", 60_000)?,
-        size: None,
-        end: b"",
-    };
-    check_large(&rt, depths)
-}
-
-fn deep_limits() -> Config {
-    Config {
+    let deep = Config {
         max_components: 999,
         max_nesting_depth: 1000,
         ..Config::default()
-    }
+    };
+    let components = repeated(rt.alloc(), b"", b"\x07", 999)?;
+    let size = Some((1, 8 + 12 * 10 + 987 * 11));
+    check_large(&rt, deep, &components, size, PREAMBLE)?;
+    let wide = Config {
+        max_modules: 60_000,
+        max_components: 60_000,
+        max_types: 0,
+        max_memories: 0,
+        ..deep
+    };
+    let depths = repeated(rt.alloc(), b"", b"\x06\x07", 60_000)?;
+    check_large(&rt, wide, &depths, None, b"")
 }
 
 // The bytes of the types that name the one before.
@@ -147,23 +114,15 @@ fn types_that_name_the_one_before_are_written_and_dropped(rt: HostRuntime) -> Re
     let mut limits = Config::default();
     limits.max_types = 100_000;
     let first = Vec::from_slice(rt.alloc(), b"\x03\x01\x02\x00")?;
-    let types = Large {
-        name: "types that name the one before",
-        limits,
-        input: naming(first, b"\x01\x02\x01\x00", b"\x00")?,
-        size: Some((1, 8 + 1 + 3 + 3 + TYPES)),
-        end: b"\x41\x01\x02\x03\x02\x01\x9d\x8d\x06\x41\x01\x02\x03\x02\x01\x9e\x8d\x06",
-    };
-    check_large(&rt, types)?;
+    let types = naming(first, b"\x01\x02\x01\x00", b"\x00")?;
+    let size = Some((1, 8 + 1 + 3 + 3 + TYPES));
+    let end = b"\x41\x01\x02\x03\x02\x01\x9d\x8d\x06\x41\x01\x02\x03\x02\x01\x9e\x8d\x06";
+    check_large(&rt, limits, &types, size, end)?;
     let first = Vec::from_slice(rt.alloc(), b"\x03\x01\x02\x00\x00")?;
-    let sections = Large {
-        name: "sections that name the one before",
-        limits,
-        input: naming(first, b"\x03\x01\x02\x01\x00", b"\x00\x00")?,
-        size: Some((100_000, 8 + 100_000 * 3 + TYPES)),
-        end: b"\x07\x0a\x01\x41\x01\x02\x03\x02\x01\x9e\x8d\x06",
-    };
-    check_large(&rt, sections)
+    let sections = naming(first, b"\x03\x01\x02\x01\x00", b"\x00\x00")?;
+    let size = Some((100_000, 8 + 100_000 * 3 + TYPES));
+    let end = b"\x07\x0a\x01\x41\x01\x02\x03\x02\x01\x9e\x8d\x06";
+    check_large(&rt, limits, &sections, size, end)
 }
 
 // A stack of scopes holds the types, each of which names the one before, and nothing else holds any but the last.

@@ -7,9 +7,11 @@ use std::test::Fail;
 // Parameters come in pairs: a name and the rank of its type, and then the name of a parameter of type bool that is the
 // state of `FoldHasher` before it, so that it becomes zero. So function types that begin with the first pair have the
 // same hash, whatever the order of the pairs after it.
-const FIRST: (&[u8; 8], u8, &[u8; 8]) = (b"amsxaaaa", 3, b"adir8z3q");
+type Pair = (&'static [u8; 8], u8, &'static [u8; 8]);
 
-const PAIRS: [(&[u8; 8], u8, &[u8; 8]); 8] = [
+const FIRST: Pair = (b"amsxaaaa", 3, b"adir8z3q");
+
+const PAIRS: [Pair; 8] = [
     (b"tgtoaaaa", 12, b"nl5q1qoq"),
     (b"brlxaaaa", 7, b"c8iwozps"),
     (b"fcfqcaaa", 1, b"u1g5kzjw"),
@@ -35,39 +37,23 @@ fn push_parameter(input: &mut Vec<u8>, name: &[u8; 8], ty: u8) -> Result<(), All
     Ok(())
 }
 
-fn push_pair(input: &mut Vec<u8>, pair: &(&[u8; 8], u8, &[u8; 8])) -> Result<(), AllocError> {
+fn push_pair(input: &mut Vec<u8>, pair: &Pair) -> Result<(), AllocError> {
     push_parameter(input, pair.0, pair.1)?;
     push_parameter(input, pair.2, 0)
-}
-
-// The place of an unused pair that has that many unused ones before it. It is used then.
-fn take_unused(used: &mut [bool; 8], before: usize) -> usize {
-    let mut skip = before;
-    for place in 0..8 {
-        if !used[place] {
-            if skip == 0 {
-                used[place] = true;
-                return place;
-            }
-            skip -= 1;
-        }
-    }
-    0
 }
 
 // The script of a function type of the first pair and seven of the eight others, in the order of that number.
 fn push_function(input: &mut Vec<u8>, number: usize) -> Result<(), AllocError> {
     input.extend_from_slice(&[1, 1])?;
     push_pair(input, &FIRST)?;
-    let mut used = [false; 8];
+    let mut pairs = PAIRS;
     let mut rest = number;
-    for done in 0..7 {
+    for done in 0..7usize {
         let unused = 8 - done;
-        let place = take_unused(&mut used, rest % unused);
+        let place = (done + rest % unused).min(7);
         rest /= unused;
-        if let Some(pair) = PAIRS.get(place) {
-            push_pair(input, pair)?;
-        }
+        pairs.swap(done, place);
+        push_pair(input, &pairs[done])?;
     }
     input.push(0)?;
     Ok(())
@@ -88,9 +74,7 @@ fn function_types_of_one_hash_are_told_apart_in_time(rt: HostRuntime) -> Result<
     let mut u = Unstructured::new(&input);
     let component = Component::new(rt.alloc(), config, &mut u)?;
     assert!(rt; u.is_empty());
-    assert_eq!(rt;
-        component.measure()?,
-        8 + 1 + 4 + 3 + 20_000 * (2 + 16 * 10 + 2)
-    );
+    let length = 8 + 1 + 4 + 3 + 20_000 * (2 + 16 * 10 + 2);
+    assert_eq!(rt; component.measure()?, length);
     Ok(())
 }

@@ -6,19 +6,11 @@ mod common;
 #[cfg(test)]
 mod deep;
 #[cfg(test)]
-mod depths;
+mod equal_types;
 #[cfg(test)]
 mod hashes;
 #[cfg(test)]
 mod long_runs;
-#[cfg(test)]
-mod modules;
-#[cfg(test)]
-mod positions;
-#[cfg(test)]
-mod programs;
-#[cfg(test)]
-mod refused_boxes;
 #[cfg(test)]
 mod refused_growth;
 #[cfg(test)]

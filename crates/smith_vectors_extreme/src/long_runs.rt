@@ -2,12 +2,11 @@
 
 use smith_component::Config;
 use smith_run::{LONGEST_INPUT, RunError, run};
-use std::alloc::{AllocError, Global};
 use std::io;
 use std::io::Read;
 use std::test::Fail;
 
-/// Returns its bytes, at most that many a read, and counts its reads.
+// Returns its bytes, at most that many a read, and counts its reads.
 #[derive(Drop)]
 struct Pieces<'a> {
     bytes: &'a [u8],
@@ -23,7 +22,7 @@ impl Read for Pieces<'_> {
     }
 }
 
-/// Returns one byte a read, never ends, and counts its reads.
+// Returns one byte a read, never ends, and counts its reads.
 #[derive(Drop)]
 struct Endless {
     reads: usize,
@@ -34,16 +33,6 @@ impl Read for Endless {
         self.reads = self.reads.saturating_add(1);
         Ok(buf.len().min(1))
     }
-}
-
-/// What a run within the default limits returns, and what it writes.
-fn run_over<R: Read>(
-    alloc: Global,
-    reader: &mut R,
-) -> Result<(Result<(), RunError>, Vec<u8>), AllocError> {
-    let mut text = Vec::new(alloc);
-    let answer = run(alloc, reader, &mut text, Config::default());
-    Ok((answer, text))
 }
 
 #[test]
@@ -61,7 +50,8 @@ fn the_longest_input_is_read_and_one_byte_more_is_too_long(rt: HostRuntime) -> R
                 most,
                 reads: 0,
             };
-            let (answer, text) = run_over(rt.alloc(), &mut reader)?;
+            let mut text = Vec::new(rt.alloc());
+            let answer = run(rt.alloc(), &mut reader, &mut text, Config::default());
             assert_eq!(rt; answer, expected, "{most} bytes a read");
             assert_eq!(rt; text.as_slice(), written);
             assert!(rt; reader.reads <= 1_048_577);
@@ -73,7 +63,8 @@ fn the_longest_input_is_read_and_one_byte_more_is_too_long(rt: HostRuntime) -> R
 #[test]
 fn an_endless_input_is_too_long(rt: HostRuntime) -> Result<(), Fail> {
     let mut reader = Endless { reads: 0 };
-    let (answer, text) = run_over(rt.alloc(), &mut reader)?;
+    let mut text = Vec::new(rt.alloc());
+    let answer = run(rt.alloc(), &mut reader, &mut text, Config::default());
     assert_eq!(rt; answer, Err(RunError::InputTooLong));
     assert_eq!(rt; text.len(), 0);
     assert_eq!(rt; reader.reads, 1_048_577);

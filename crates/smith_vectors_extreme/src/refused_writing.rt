@@ -1,11 +1,10 @@
 //! Allocations that fail while something is written: each call returns `OutOfMemory` and leaves what it should, until
 //! there is enough memory, and then it returns what it always returns.
 
-use crate::common::{check_bytes, check_component, check_count, check_holds, small_limits};
-use crate::modules::{ONE_FUNCTION, module_of, one_function};
+use crate::common::{ONE_FUNCTION, check_component, module_of, one_function, small_limits};
 use crate::refused_growth::ROWS;
 use crate::scarcity::while_memory_runs_out;
-use smith_component::{Component, Error, Unstructured};
+use smith_component::{Component, Error, Section, Unstructured};
 use smith_core::{EntityType, MemoryType, Module, write_entity};
 use smith_types::{
     ComponentTypeRef, CoreType, DefType, FuncType, Import, write_core_type, write_import,
@@ -25,17 +24,16 @@ fn loans_before(bytes: usize) -> usize {
 #[test]
 fn components_and_modules_are_written_with_one_growth(rt: HostRuntime) -> Result<(), Fail> {
     let alloc = rt.alloc();
-    let row = ROWS[0];
-    let mut u = Unstructured::new(row.input);
-    let component = Component::new(alloc, small_limits(), &mut u)?;
-    check_holds(&rt, row.name, component.measure()? == 38);
-    let (bytes, refused) = while_memory_runs_out(&rt, row.name, || component.to_bytes(alloc))?;
-    check_component(&rt, row.name, &bytes, row.bytes);
-    check_count(&rt, row.name, refused, loans_before(38));
+    let (name, input, sections) = ROWS[0];
+    let component = Component::new(alloc, small_limits(), &mut Unstructured::new(input))?;
+    assert_eq!(rt; component.measure()?, 38);
+    let (bytes, refused) = while_memory_runs_out(&rt, name, || component.to_bytes(alloc))?;
+    check_component(&rt, name, &bytes, sections);
+    assert_eq!(rt; refused, loans_before(38));
     let module = module_of(&rt, one_function(alloc)?)?;
     let (bytes, refused) = while_memory_runs_out(&rt, "a module", || module.to_bytes(alloc))?;
-    check_bytes(&rt, "a module", &bytes, ONE_FUNCTION);
-    check_count(&rt, "a module", refused, loans_before(28));
+    assert_eq!(rt; bytes.as_slice(), ONE_FUNCTION);
+    assert_eq!(rt; refused, loans_before(28));
     Ok(())
 }
 
@@ -84,14 +82,14 @@ fn check_written<R: Abort + AllocGlobal>(
     let mut out = Vec::from_slice(rt.alloc(), &full)?;
     let ((), refused) = while_memory_runs_out(rt, name, || {
         let answer = written.write(&mut out);
-        if answer.is_err() {
-            check_bytes(rt, name, &out, &full);
-        }
+        assert!(rt;
+            answer.is_ok() || out.as_slice() == full.as_slice(),
+            "{name}"
+        );
         answer
     })?;
-    check_holds(rt, name, out.starts_with(&full));
-    check_holds(rt, name, out.ends_with(expected));
-    check_count(rt, name, refused, loans_before(doubled(out.len())));
+    assert_eq!(rt; out.strip_prefix(&full), Some(expected), "{name}");
+    assert_eq!(rt; refused, loans_before(doubled(out.len())), "{name}");
     Ok(())
 }
 
@@ -140,5 +138,50 @@ fn each_sort_is_written_while_memory_runs_out(rt: HostRuntime) -> Result<(), Fai
     for (name, written, expected) in &rows {
         check_written(&rt, name, written, expected)?;
     }
+    Ok(())
+}
+
+// What was to be in a box for which there is no memory comes back.
+#[test]
+fn parts_while_memory_runs_out(rt: HostRuntime) -> Result<(), Fail> {
+    let alloc = rt.alloc();
+    let mut given = Some(one_function(alloc)?);
+    let (module, _) = while_memory_runs_out(&rt, "a module", || {
+        let Some(parts) = given.take() else {
+            return Err(Error::PartsDisagree);
+        };
+        match Module::from_unboxed(alloc, parts) {
+            Ok(module) => Ok(module),
+            Err((error, parts)) => {
+                assert_eq!(rt; parts.funcs.len(), 1);
+                given = Some(parts);
+                Err(error)
+            }
+        }
+    })?;
+    assert_eq!(rt; module.to_bytes(alloc)?.as_slice(), ONE_FUNCTION);
+    Ok(())
+}
+
+#[test]
+fn a_section_while_memory_runs_out(rt: HostRuntime) -> Result<(), Fail> {
+    let alloc = rt.alloc();
+    let mut given = Some(module_of(&rt, one_function(alloc)?)?);
+    let (section, _) = while_memory_runs_out(&rt, "a section", || {
+        let Some(module) = given.take() else {
+            return Err(Error::PartsDisagree);
+        };
+        match Section::of_module(alloc, module) {
+            Ok(section) => Ok(section),
+            Err((error, module)) => {
+                given = Some(module);
+                Err(error)
+            }
+        }
+    })?;
+    let Section::CoreModule(module) = section else {
+        panic!(rt; "another section");
+    };
+    assert_eq!(rt; module.to_bytes(alloc)?.as_slice(), ONE_FUNCTION);
     Ok(())
 }

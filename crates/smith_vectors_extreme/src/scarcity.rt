@@ -49,15 +49,15 @@ impl Scarcity {
             room: 0,
         };
         for exponent in 0..33u32 {
-            memory.take(1usize << (46 - exponent));
+            memory.take(1usize << (46 - exponent), MOST);
         }
         memory.take_small();
         Ok(memory)
     }
 
-    // Takes blocks of this size until one is refused.
-    fn take(&mut self, size: usize) {
-        for _ in 0..MOST {
+    // Takes blocks of this size until there are that many or one is refused.
+    fn take(&mut self, size: usize, many: usize) {
+        for _ in 0..many {
             let Ok(block) = Vec::with_capacity(self.alloc, size) else {
                 return;
             };
@@ -69,11 +69,11 @@ impl Scarcity {
 
     // Takes the small blocks that are free, of each size.
     fn take_small(&mut self) {
-        self.take(8192);
-        self.take(4096);
-        self.take(2048);
+        self.take(8192, MOST);
+        self.take(4096, MOST);
+        self.take(2048, MOST);
         for steps in 0..128usize {
-            self.take(2048 - STEP * steps);
+            self.take(2048 - STEP * steps, MOST);
         }
     }
 
@@ -82,15 +82,8 @@ impl Scarcity {
     fn lend(&mut self) {
         self.take_small();
         drop(self.kept.pop());
-        self.take_one(BLOCK.saturating_sub(self.room));
+        self.take(BLOCK.saturating_sub(self.room), 1);
         self.room = self.room.saturating_add(STEP);
-    }
-
-    // Takes one block of this size, if one is free.
-    fn take_one(&mut self, size: usize) {
-        if let Ok(block) = Vec::with_capacity(self.alloc, size) {
-            let _ = self.taken.push(block);
-        }
     }
 }
 

@@ -1,6 +1,5 @@
 //! Equal function types of a scope, also while memory runs out.
 
-use crate::common::{check_count, check_holds};
 use crate::scarcity::while_memory_runs_out;
 use smith_input::{Error, Unstructured};
 use smith_types::{ComponentValType, DefType, DefinedType, FuncType, PrimitiveValType, Scopes};
@@ -36,10 +35,10 @@ fn two_types(alloc: Global) -> Result<Scopes, Fail> {
 // The equals of that function type have these indexes.
 fn check_places<R: Abort>(rt: &R, scopes: &Scopes, func: &FuncType, places: &[u32]) {
     let many = scopes.equal_len(func);
-    check_count(rt, "equal function types", many, places.len());
+    assert_eq!(rt; many, places.len());
     for k in 0..many {
         let place = scopes.equal_at(func, k);
-        check_holds(rt, "a place", places.get(k) == Some(&place));
+        assert_eq!(rt; places.get(k), Some(&place));
     }
 }
 
@@ -53,7 +52,7 @@ fn check_equals<R: Abort>(
     for (byte, expected) in [0, 1, 2, 3].iter().zip(expected) {
         let input = [*byte];
         let found = scopes.choose_equal(func, &mut Unstructured::new(&input));
-        check_holds(rt, "an equal type", found == Ok(*expected));
+        assert_eq!(rt; found, Ok(*expected));
     }
 }
 
@@ -99,11 +98,11 @@ fn a_push_while_memory_runs_out(rt: HostRuntime) -> Result<(), Fail> {
         let answer = push(&rt, &mut scopes, &first);
         if answer.is_err() {
             check_places(&rt, &scopes, &func, &[]);
-            check_count(&rt, "types", scopes.own_len(), 0);
+            assert_eq!(rt; scopes.own_len(), 0);
         }
         answer
     })?;
-    check_holds(&rt, "an index", index == 0);
+    assert_eq!(rt; index, 0);
     check_places(&rt, &scopes, &func, &[0]);
     Ok(())
 }

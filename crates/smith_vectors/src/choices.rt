@@ -1,23 +1,22 @@
 //! What reads return.
 
-use crate::common::{check_bytes, check_count};
 use smith_input::{Unstructured, choose_offered};
 
 // An input, among how many is chosen, the choice, and what is left of the input.
-const CHOICES: &[(&str, &[u8], usize, usize, &[u8])] = &[
-    ("257, of two bytes", b"\x01\x00", 257, 256, b""),
-    ("257, of one byte", b"\x01", 257, 256, b""),
-    ("257, of no byte", b"", 257, 0, b""),
-    ("one reads nothing", b"\x05", 1, 0, b"\x05"),
+const CHOICES: &[(&[u8], usize, usize, &[u8])] = &[
+    (b"\x01\x00", 257, 256, b""),
+    (b"\x01", 257, 256, b""),
+    (b"", 257, 0, b""),
+    (b"\x05", 1, 0, b"\x05"),
 ];
 
 #[test]
 fn choices_among_so_many(rt: HostRuntime) {
-    for (name, input, many, choice, left) in CHOICES {
+    for (input, many, choice, left) in CHOICES {
         let mut u = Unstructured::new(input);
         assert!(rt; 0 < *many);
-        check_count(&rt, name, u.choose_index(*many), *choice);
-        check_bytes(&rt, name, u.left(), left);
+        assert_eq!(rt; u.choose_index(*many), *choice, "{many} of {input:?}");
+        assert_eq!(rt; u.left(), *left, "{many} of {input:?}");
     }
 }
 
@@ -29,14 +28,14 @@ fn items_ranges_ratios_and_loops(rt: HostRuntime) {
     let offers = [(false, 10u8), (true, 20), (true, 30)];
     assert_eq!(rt; choose_offered(&mut u, &offers), Some(30));
     assert_eq!(rt; choose_offered(&mut u, &[(false, 10u8)]), None);
-    check_bytes(&rt, "nothing is offered", u.left(), b"\x01");
+    assert_eq!(rt; u.left(), b"\x01".as_slice(), "nothing is offered");
     let mut u = Unstructured::new(b"\xff\xff\xff\xff\xff\xff\xff\xfe\x2a");
     assert_eq!(rt;
         u.int_in_range(0, u64::MAX),
         u64::MAX - 1,
         "the widest range"
     );
-    check_bytes(&rt, "the widest range", u.left(), b"\x2a");
+    assert_eq!(rt; u.left(), b"\x2a".as_slice(), "the widest range");
     let mut u = Unstructured::new(b"\x62\x63");
     assert!(rt; u.ratio(99, 100), "a ratio is a range from one");
     assert!(rt; !u.ratio(99, 100), "a ratio is a range from one");

@@ -1,7 +1,0 @@
-use Rattle.std.proofs.Common.{refl}
-use Rattle.smith_input.specs.Script.{pick}
-use Rattle.smith_rows.proofs.plans.nested.Goals as goal
-
-pub returns : goal.returns
-unfolding pick
-returns c = refl
