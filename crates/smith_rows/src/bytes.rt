@@ -1,9 +1,7 @@
 //! Bytes as words of a row: two hexadecimal digits, `61*100` for a hundred of them, `( 01 2a )*127` for a group of
-//! bytes that repeats, `preamble` for the first eight bytes of a component, `around*9` to put what stands before into
-//! nine components, one in another, and `@nested` for the script of that plan.
+//! bytes that repeats, `preamble` for the first eight bytes of a component, and `@nested` for the script of that plan.
 
 use crate::plans::scripts;
-use smith_format::write_section;
 use std::alloc::{AllocError, Global};
 use std::fmt;
 
@@ -64,34 +62,13 @@ fn push_word(
     Ok(true)
 }
 
-// Puts the bytes into that many components, one in another. Returns whether that is a number.
-fn nest(alloc: Global, bytes: &mut Vec<u8>, times: &str) -> Result<bool, AllocError> {
-    let Ok(times) = times.parse::<usize>() else {
-        return Ok(false);
-    };
-    for _ in 0..times {
-        let mut around = Vec::from_slice(alloc, PREAMBLE)?;
-        if write_section(&mut around, 4, bytes).is_err() {
-            return Err(AllocError);
-        }
-        *bytes = around;
-    }
-    Ok(true)
-}
-
 /// Appends the bytes of a line of words. Returns whether all of them are words.
 pub fn push_line(alloc: Global, bytes: &mut Vec<u8>, line: &str) -> Result<bool, AllocError> {
     let mut start = bytes.len();
     for word in line.split_ascii_whitespace() {
         if word == "(" {
             start = bytes.len();
-            continue;
-        }
-        let is_word = match word.strip_prefix("around*") {
-            Some(times) => nest(alloc, bytes, times)?,
-            None => push_word(alloc, bytes, start, word)?,
-        };
-        if !is_word {
+        } else if !push_word(alloc, bytes, start, word)? {
             return Ok(false);
         }
     }

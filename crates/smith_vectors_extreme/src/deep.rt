@@ -11,8 +11,7 @@ use std::process::Abort;
 use std::rc::Rc;
 use std::test::Fail;
 
-// From the input, which is used up, this many sections and bytes are generated, if that is known, with these last
-// bytes.
+// From the input, which is used up, so many sections and bytes are generated, if that is known, and these are the last.
 fn check_large<R: Abort + AllocGlobal>(
     rt: &R,
     limits: Config,

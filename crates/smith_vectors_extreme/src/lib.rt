@@ -6,6 +6,8 @@ mod common;
 #[cfg(test)]
 mod deep;
 #[cfg(test)]
+mod depths;
+#[cfg(test)]
 mod equal_types;
 #[cfg(test)]
 mod hashes;
