@@ -1,4 +1,3 @@
-pub mod Fragments
 pub mod Judgement
 pub mod Judges
 pub mod Preceding

@@ -12,7 +12,6 @@ pub mod ModuleScript
 pub mod Offered
 pub mod Offers
 pub mod Open
-pub mod Possible
 pub mod Readable
 pub mod ReadableCoreTypes
 pub mod ReadableTypes
