@@ -72,7 +72,7 @@ pub fn check(rt: &HostRuntime, path: Option<&str>, validates: bool) -> Result<Ex
     }
 }
 
-// Whether a text ends early, which that of a component does only if memory runs out: the error is not one of a write.
+// Whether the text broke off, and no write failed. The text of a component breaks off only if memory runs out.
 fn is_of_text(error: &io::Error) -> bool {
     error.kind() == io::ErrorKind::Uncategorized && error.raw_os_error().is_none()
 }

@@ -144,8 +144,8 @@ pub fn config_of(rt: &HostRuntime, limits: &Limits<'_>) -> Result<Config, ExitCo
     }
 }
 
-/// Returns the status after a message if the limits are from standard input, and what is called `other` too, whose file
-/// is absent then.
+/// Returns the status after a message if both the limits and what is called `other`, which has no path then, are from
+/// standard input.
 pub fn refuse_both(
     rt: &HostRuntime,
     limits: &Limits<'_>,

@@ -9,7 +9,7 @@ use crate::{FAULT, print_error};
 use smith_reduce::{ReduceError, Wanted, next_smaller, smaller};
 use std::process::ExitCode;
 
-// What ends with why no smaller component is looked for.
+// The status if no smaller component is looked for.
 fn status_of(error: &ReduceError) -> u8 {
     match error {
         ReduceError::Unread { .. } => UNREAD,

@@ -14,7 +14,7 @@ use std::alloc::Global;
 use std::io::Write;
 use std::process::ExitCode;
 
-/// Prints why there is no script, if a component breaks a rule also where, and returns the status.
+/// Prints why there is no script, and where a rule is broken if one is, and returns the status.
 pub fn refuse_script(
     rt: &HostRuntime,
     path: Option<&str>,

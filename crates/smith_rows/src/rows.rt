@@ -2,7 +2,7 @@
 //!
 //! `limits` sets the limits of what follows, by their names; the others have their defaults. A row begins with a task
 //! and the row's name, has its bytes on lines that begin with a space, and ends before an empty line. `with` sets one
-//! more limit for a row, whether it fits to the others or not. What follows a `#` is a comment. Each line is printed as
+//! more limit for a row, whether or not it fits the others. What follows a `#` is a comment. Each line is printed as
 //! it is, and what is found goes to lines that begin with `=` at the end of the row.
 
 use crate::answers::{TASKS, Task, answer};

@@ -36,7 +36,7 @@ pub(crate) struct Walk<'a> {
     rest: &'a [u8],
     /// The index spaces that precede it.
     pub(crate) spaces: Spaces,
-    // The ones of the components and types around it, outermost first.
+    // The index spaces of the components and types around it, outermost first.
     outer: Vec<Spaces>,
 }
 
