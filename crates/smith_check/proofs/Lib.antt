@@ -1,10 +1,14 @@
 pub mod FlatSteps
+pub mod Grading
 pub mod Growth
 pub mod Items
 pub mod Judging
+pub mod LabelSteps
 pub mod ModuleSteps
 pub mod NameSteps
 pub mod PartSteps
+pub mod Possibly
 pub mod Scenes
 pub mod Stepping
 pub mod TypeSteps
+pub mod ValueSteps

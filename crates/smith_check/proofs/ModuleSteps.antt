@@ -18,6 +18,7 @@ use Rattle.smith_input.specs.NewNames.{is_among}
 use Rattle.smith_input.proofs.Rests.{rest_at}
 use Rattle.smith_syntax.specs.Entries.{CoreEntry, ModuleDecl, exports, imports}
 use Rattle.smith_syntax.specs.ModuleTypes.{HasNewNames, adds, module_export_names, module_export_of, module_import_of, names_from}
+use Rattle.smith_syntax.specs.Possible.{PossibleDecl, PossibleModule, is_beyond}
 use Rattle.smith_syntax.specs.WellFormed.{FormedDecl, FormedDecls}
 use Rattle.smith_check.specs.Judges.{Judges}
 use Rattle.smith_check.specs.Taken.{Holds, HoldsModule, has_pair}
@@ -200,6 +201,13 @@ decls_at around shown xs i x own more h e m =
     (FormedDecl around own (shown x) × FormedDecls around fs (map shown (drop (i + 1) xs))))
     (sym m)
     (same_by (λ ys. FormedDecls around own (map shown ys)) _ _ (rest_at xs i x h e))
+
+pub module_at : {A : Type 0} (around : List CoreEntry) (shown : A → ModuleDecl) (xs : List A) (i : ℕ) (x : A) (own more : List Function) → i < length xs
+    → x ≡ get_or xs i x → more ≡ own ++ adds around own (shown x) → PossibleModule around own (map shown (drop i xs))
+    → PossibleDecl around own (shown x) × (is_beyond (shown x) ≡ false → PossibleModule around more (map shown (drop (i + 1) xs)))
+module_at around shown xs i x own more h e m p =
+    let q = subst (λ ys. PossibleModule around own (map shown ys)) (rest_at xs i x h e) p in
+    (q.0, λ b. subst (λ fs. PossibleModule around fs (map shown (drop (i + 1) xs))) (sym m) (q.1 b))
 
 pub no_new_names : HasNewNames []
 unfolding IsDistinct

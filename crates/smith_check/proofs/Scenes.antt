@@ -9,10 +9,11 @@ use Rattle.smith_tree.specs.Spaces.{Spaces, spaces_of}
 use Rattle.smith_tree.specs.Tree.{ExportEntry, Part, Tree, add, canons, component, core_module, core_types, custom, ends, exports, first, imports, types}
 use Rattle.smith_tree.specs.Tree.{exports_in, exports_of, imports_in, imports_of}
 use Rattle.smith_tree.specs.WellFormed.{Formed, FormedPart, export_names, import_names}
+use Rattle.smith_tree.proofs.Components.{spaces_added}
 use Rattle.smith_read.specs.Walk.{Step, closes, entry_steps, marks, steps_in, steps_of}
 use Rattle.smith_check.specs.Preceding.{Scene, empty_scene, scope_at}
 use Rattle.smith_check.specs.Stepping.{Fits, FormedAt, State, after, next}
-use Rattle.smith_check.proofs.Growth.{own-add, spaces-add}
+use Rattle.smith_check.proofs.Growth.{own-add}
 use Rattle.smith_check.proofs.Judging.{Same, same_all, same_trans}
 use Rattle.smith_check.proofs.NameSteps.{named_less, named_more, none_more}
 use Rattle.smith_check.proofs.TypeSteps.{named_front}
@@ -43,16 +44,16 @@ scene_plain t p i e =
     (export_names-add t p ∙ ap (λ es. export_names (exports_of t) ++ export_names es) e ∙ append-nil (export_names (exports_of t)))
 
 scene_add : (t : Tree) (p : Part) → scene_of (add t p) ≡ after (scene_of t) p
-scene_add t (custom n c) = scene_plain t (custom n c) refl refl ∙ scene_by (spaces-add t (custom n c)) refl refl
-scene_add t (core_module m) = scene_plain t (core_module m) refl refl ∙ scene_by (spaces-add t (core_module m)) refl refl
-scene_add t (core_types ts) = scene_plain t (core_types ts) refl refl ∙ scene_by (spaces-add t (core_types ts)) refl refl
-scene_add t (component u) = scene_plain t (component u) refl refl ∙ scene_by (spaces-add t (component u)) refl refl
-scene_add t (types ts) = scene_plain t (types ts) refl refl ∙ scene_by (spaces-add t (types ts)) refl refl
-scene_add t (canons fs) = scene_plain t (canons fs) refl refl ∙ scene_by (spaces-add t (canons fs)) refl refl
+scene_add t (custom n c) = scene_plain t (custom n c) refl refl ∙ scene_by (spaces_added t (custom n c)) refl refl
+scene_add t (core_module m) = scene_plain t (core_module m) refl refl ∙ scene_by (spaces_added t (core_module m)) refl refl
+scene_add t (core_types ts) = scene_plain t (core_types ts) refl refl ∙ scene_by (spaces_added t (core_types ts)) refl refl
+scene_add t (component u) = scene_plain t (component u) refl refl ∙ scene_by (spaces_added t (component u)) refl refl
+scene_add t (types ts) = scene_plain t (types ts) refl refl ∙ scene_by (spaces_added t (types ts)) refl refl
+scene_add t (canons fs) = scene_plain t (canons fs) refl refl ∙ scene_by (spaces_added t (canons fs)) refl refl
 scene_add t (imports is) =
-    scene_by (spaces-add t (imports is)) (import_names-add t (imports is)) (export_names-add t (imports is) ∙ append-nil (export_names (exports_of t)))
+    scene_by (spaces_added t (imports is)) (import_names-add t (imports is)) (export_names-add t (imports is) ∙ append-nil (export_names (exports_of t)))
 scene_add t (exports es) =
-    scene_by (spaces-add t (exports es)) (import_names-add t (exports es) ∙ append-nil (import_names (imports_of t))) (export_names-add t (exports es))
+    scene_by (spaces_added t (exports es)) (import_names-add t (exports es) ∙ append-nil (import_names (imports_of t))) (export_names-add t (exports es))
 
 same_part : (p : Part) (outer : List Scope) (t : Tree) → Same (FormedPart p outer t) (FormedAt p outer (scene_of t))
 same_part (imports is) outer t =

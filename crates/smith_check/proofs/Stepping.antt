@@ -2,6 +2,7 @@
 use Rattle.std.proofs.Common.{◌≡◌, ℕ, suc, ◌+◌, List, [], ◌∷◌, ◌++◌, length, reverse, refl, sym, ap, ◌∙◌, subst, arith}
 use Rattle.std.proofs.lemmas.List.{length-map, length-reverse}
 use Rattle.smith_syntax.specs.Scope.{Scope}
+use Rattle.smith_tree.specs.Possible.{Possible}
 use Rattle.smith_tree.specs.Spaces.{Spaces, after_canon, after_export}
 use Rattle.smith_tree.specs.Tree.{Canon, ExportEntry, Tree, canons, exports, lift, lower}
 use Rattle.smith_tree.specs.WellFormed.{WellFormed}
@@ -9,12 +10,13 @@ use Rattle.smith_scopes.specs.NodeScopes.{own_in}
 use Rattle.smith_read.specs.Items.{IsFirst, StopsAt, upto}
 use Rattle.smith_read.specs.Walk.{Step, closes, items_at, one, opens, steps_of}
 use Rattle.smith_check.specs.Preceding.{Scene, scope_at, spaces_in}
-use Rattle.smith_check.specs.Stepping.{AreAt, Fits, IsEven, Stands, State, after, next}
+use Rattle.smith_check.specs.Stepping.{AreAt, Fits, IsEven, MayFit, Stands, State, after, next}
 use Rattle.smith_check.specs.Taken.{Knows}
 use Rattle.smith_check.specs.declared.check.Check.{Check}
 use Rattle.smith_check.specs.declared.check.Open.{Open}
 use Rattle.smith_check.proofs.Items.{items_fit, start, taken, taken_next, whole_fits}
 use Rattle.smith_check.proofs.Judging.{Same, same_by, same_trans}
+use Rattle.smith_check.proofs.Possibly.{AllMay, step_same, whole_may}
 use Rattle.smith_check.proofs.Scenes.{AllFit, state}
 
 abbrev spaces_by : Scope → List ℕ → List ℕ → Spaces
@@ -25,7 +27,7 @@ with_open c o = record { scopes = c.scopes; opens = record { own = o; outer = c.
 
 -- With another function, or another name.
 module _ (c : Check) (at : State) (k : Stands c at) (o : Open) where
-  spaces_known : spaces_in (own_in c.scopes) c.opens.own ≡ at.here.spaces
+  pub spaces_known : spaces_in (own_in c.scopes) c.opens.own ≡ at.here.spaces
   spaces_known =
       ap (λ s. spaces_by s c.opens.own.functions.items c.opens.own.core_functions.items) k.own
       ∙ ap (λ fs. spaces_by (scope_at at.here) fs c.opens.own.core_functions.items) k.here.functions
@@ -74,6 +76,7 @@ pub record Going (t : Tree) (left : List Step) (c : Check) (item : ℕ) : Type 0
   pub stands : Stands c at
   pub whole : Same (WellFormed t) (AllFit left at)
   pub front : (n : ℕ) → Same (WellFormed (upto (item + n) t)) (AllFit (taken n left) at)
+  pub may : Possible t → AllMay left at
 
 pub going_first : (t : Tree) (c : Check) (left : List Step) → left ≡ steps_of t ++ closes ∷ [] → Stands c start → Going t left c 0
 going_first t c left e k = record {
@@ -84,6 +87,7 @@ going_first t c left e k = record {
       let h : n ≡ 0 + n = omega arith in
       subst (λ m. Same (WellFormed (upto m t)) (AllFit (taken n left) start)) h
       (subst (λ l. Same (WellFormed (upto n t)) (AllFit (taken n l) start)) (sym e) (items_fit n t));
+  may = λ p. subst (λ l. AllMay l start) (sym e) (whole_may t p);
 }
 
 -- at a step that does not fit
@@ -100,6 +104,9 @@ module _ (t : Tree) (x : Step) (xs left : List Step) (e : left ≡ x ∷ xs) (c 
   front_from n = same_trans (g.front (items_at x + n)) (same_by (λ l. AllFit l g.at) (taken (items_at x + n) left) (x ∷ taken n xs)
       (ap (taken (items_at x + n)) e ∙ taken_next n x xs))
 
+  may_here : Possible t → AllMay (x ∷ xs) g.at
+  may_here p = subst (λ l. AllMay l g.at) e (g.may p)
+
   pub going_next : (new : Check) (more : ℕ) → more ≡ item + items_at x → Fits x g.at → Stands new (next x g.at) → Going t xs new more
   going_next new more is fits k = record {
     at = next x g.at;
@@ -111,7 +118,12 @@ module _ (t : Tree) (x : Step) (xs left : List Step) (e : left ≡ x ∷ xs) (c 
         record { to = λ w. (s.to w).1; from = λ f. s.from (fits, f) } in
         let h : item + (items_at x + n) ≡ more + n = omega (arith, is) in
         subst (λ m. Same (WellFormed (upto m t)) (AllFit (taken n xs) (next x g.at))) h r;
+    may = λ p. subst (AllMay xs) (step_same x g.at fits) (may_here p).1;
   }
+
+  -- at a step that is not possible
+  pub going_broken : ¬ MayFit x g.at → ¬ Possible t
+  going_broken not p = not (may_here p).0
 
   pub going_stop : ¬ Fits x g.at → (¬ WellFormed t) × StopsAt WellFormed item t
   going_stop not = (

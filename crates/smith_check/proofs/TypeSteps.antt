@@ -1,6 +1,6 @@
 -- Declarations and members one by one.
-use Rattle.std.proofs.Common.{◌≡◌, ℕ, ◌+◌, ◌<◌, ◌≤◌, List, [], ◌∷◌, ◌++◌, length, map, get_or, take, refl, sym, ap, ◌∙◌, subst, arith, Option, Some}
-use Rattle.std.proofs.Common.{append-nil, append_assoc}
+use Rattle.std.proofs.Common.{◌≡◌, ℕ, ◌+◌, ◌<◌, ◌≤◌, List, [], ◌∷◌, ◌++◌, length, map, get_or, take, refl, sym, ap, ◌∙◌, subst, arith, Option, Some, true, false}
+use Rattle.std.proofs.Common.{append-nil, append_assoc, bytes_eq}
 use Rattle.std.proofs.Math.ListN.{drop}
 use Rattle.std.proofs.lemmas.List.{length-map, map_more, take_more, map-append, take-append-drop}
 use Rattle.std.specs.List.{AllByRecursion, IsDistinct}
@@ -16,15 +16,17 @@ use Rattle.smith_syntax.specs.Entries.{function, record_type, variant_type}
 use Rattle.smith_syntax.specs.Entries.{import_decl, export_decl}
 use Rattle.smith_check.specs.Taken.{Knows, KnowsDeclared, NamedDeclared, exported, imported}
 use Rattle.smith_check.specs.declared.types.DeclaredNames.{DeclaredNames}
-use Rattle.smith_syntax.specs.Scope.{Scope}
-use Rattle.smith_syntax.specs.WellFormed.{FormedDefined, FormedEntry, FormedMaybe, FormedVal, Named, decl_exports, decl_imports, export_of, import_of, names}
+use Rattle.smith_syntax.specs.Scope.{Scope, after_decl}
+use Rattle.smith_syntax.specs.Possible.{PossibleDeclaration, PossibleDeclarations, PossibleDefined, PossibleEntry, PossibleNames, after_possible}
+use Rattle.smith_syntax.specs.WellFormed.{FormedDeclaration, FormedDeclarations, FormedDefined, FormedEntry, FormedMaybe, FormedVal, Named, decl_exports, decl_imports, export_of, import_of, names}
 use Rattle.smith_syntax.specs.declared.types.ComponentValType.{ComponentValType}
 use Rattle.smith_read.specs.TypeNodes.{shown_decl_node}
 use Rattle.smith_read.specs.declared.type_nodes.DeclNode.{DeclNode}
 use Rattle.smith_syntax.specs.declared.deftype.ComponentTypeRef.{ComponentTypeRef}
 use Rattle.smith_read.specs.declared.type_nodes.DeclNode.TheVariants as declared
 use Rattle.smith_read.proofs.ShownNodes.{shown_export, shown_import}
-use Rattle.smith_check.proofs.Judging.{Same}
+use Rattle.smith_syntax.proofs.Possible.{after_same}
+use Rattle.smith_check.proofs.Judging.{Same, same_by, same_step}
 
 pub imports_at : (ds : List DeclNode) (i : ℕ) (d : DeclNode) → i < length ds → d ≡ get_or ds i d
     → decl_imports (in_order (map shown_decl_node (drop i ds)))
@@ -50,22 +52,32 @@ pub all_some : (own : Scope) (vs : List ComponentValType) → Same (AllByRecursi
 all_some own [] = record { to = λ p. p; from = λ p. p }
 all_some own (v ∷ vs) = let s = all_some own vs in record { to = λ p. (p.0, s.to p.1); from = λ p. (p.0, s.from p.1) }
 
--- names in front of well named ones
-pub named_front : (xs ys : List (List ℕ)) → Named (xs ++ ys) → Named xs
-named_front xs ys n = (
-  all_front Kebab xs ys n.0,
+-- Names that have a property, of which no two are the same.
+abbrev pub NamedBy : (List ℕ → Type 0) → List (List ℕ) → Type 0
+NamedBy P ns = AllByRecursion P ns × IsDistinct bytes_eq ns
+
+-- names in front of others
+pub front_of : (P : List ℕ → Type 0) (xs ys : List (List ℕ)) → NamedBy P (xs ++ ys) → NamedBy P xs
+front_of P xs ys n = (
+  all_front P xs ys n.0,
   new_distinct [] xs (new_front [] xs ys (distinct_new [] (xs ++ ys) (none_before (xs ++ ys)) n.1)),
 )
 
+pub named_front : (xs ys : List (List ℕ)) → Named (xs ++ ys) → Named xs
+named_front xs ys n = front_of Kebab xs ys n
+
 module _ {A : Type 0} (text : A → List ℕ) (xs : List A) (i : ℕ) where
   -- one more name of a list
-  pub named_upto : (x : A) → i < length xs → x ≡ get_or xs i x → Named (map text xs) → Named (map text (take i xs) ++ text x ∷ [])
-  named_upto x h e n =
+  pub upto : (P : List ℕ → Type 0) (x : A) → i < length xs → x ≡ get_or xs i x → NamedBy P (map text xs) → NamedBy P (map text (take i xs) ++ text x ∷ [])
+  upto P x h e n =
       let one : map text (take (i + 1) xs) ≡ map text (take i xs) ++ text x ∷ [] =
       map_more text xs i x h ∙ ap (λ y. map text (take i xs) ++ text y ∷ []) (sym e) in
       let all : map text (take (i + 1) xs) ++ map text (drop (i + 1) xs) ≡ map text xs =
       sym (map-append text (take (i + 1) xs) (drop (i + 1) xs)) ∙ ap (map text) (take-append-drop (i + 1) xs) in
-      subst Named one (named_front (map text (take (i + 1) xs)) (map text (drop (i + 1) xs)) (subst Named (sym all) n))
+      subst (NamedBy P) one (front_of P (map text (take (i + 1) xs)) (map text (drop (i + 1) xs)) (subst (NamedBy P) (sym all) n))
+
+  pub named_upto : (x : A) → i < length xs → x ≡ get_or xs i x → Named (map text xs) → Named (map text (take i xs) ++ text x ∷ [])
+  named_upto x h e n = upto Kebab x h e n
 
   pub names_more : (x : A) → i < length xs → x ≡ get_or xs i x → map text (take i xs) ++ text x ∷ [] ≡ map text (take (i + 1) xs)
   names_more x h e = sym (map_more text xs i x h ∙ ap (λ y. map text (take i xs) ++ text y ∷ []) (sym e))
@@ -113,6 +125,28 @@ signature_formed own outer ps r = let s = fields_named own ps in record {
   from = λ p. (subst Named (names_named ps) p.0, s.from p.1, omega (arith, length-map ps named, p.2), p.3);
 }
 
+-- the same as far as the standard asks it
+
+module _ {B : Type 0} (ps : List (String Global × B)) where
+  possible_names : PossibleNames false (map (λ p. p.0) (map named ps)) → PossibleNames false (map (λ p. string_bytes p.0) ps)
+  possible_names n = subst (PossibleNames false) (names_named ps) n
+
+  some_named : 1 ≤ length (map named ps) → 1 ≤ length ps
+  some_named h = omega (arith, length-map ps named, h)
+
+pub record_possible : (own : Scope) (ps : List (String Global × ComponentValType)) → PossibleDefined (record_type (map named ps)) own
+    → PossibleNames false (map (λ p. string_bytes p.0) ps) × AllByRecursion (FormedMaybe own) (map (λ p. Some p.1) ps) × (1 ≤ length ps)
+record_possible own ps f = (possible_names ps f.0, (fields_named own ps).from f.1, some_named ps f.2)
+
+pub variant_possible : (own : Scope) (ps : List (String Global × Option ComponentValType)) → PossibleDefined (variant_type (map named ps)) own
+    → PossibleNames false (map (λ p. string_bytes p.0) ps) × AllByRecursion (FormedMaybe own) (map (λ p. p.1) ps) × (1 ≤ length ps)
+variant_possible own ps f = (possible_names ps f.0, (cases_named own ps).from f.1, some_named ps f.2)
+
+pub signature_possible : (own : Scope) (outer : List Scope) (ps : List (String Global × ComponentValType)) (r : Option ComponentValType)
+    → PossibleEntry (function (signature ps r)) own outer
+    → PossibleNames false (map (λ p. string_bytes p.0) ps) × AllByRecursion (FormedMaybe own) (map (λ p. Some p.1) ps) × FormedMaybe own r
+signature_possible own outer ps r f = (possible_names ps f.0, (fields_named own ps).from f.1, f.2)
+
 pub named_none : (xs : List (List ℕ × Unit {0})) → xs ≡ [] → Named (names xs)
 unfolding IsDistinct
 named_none xs e = subst (λ (ys : List (List ℕ × Unit {0})). Named (names ys)) (sym e) (tt, tt)
@@ -136,6 +170,37 @@ exports_push (x ∷ ds) d =
     ∙ sym (append_assoc (names (export_of (shown_decl_node x))) (exported ds) (names (export_of (shown_decl_node d))))
     ∙ ap (λ z. z ++ names (export_of (shown_decl_node d)))
     (sym (map-append (λ y. y.0) (export_of (shown_decl_node x)) (decl_exports (in_order (map shown_decl_node ds)))))
+
+-- the rest of the declarations, as far as the standard asks it
+pub declarations_at : (ds : List DeclNode) (i : ℕ) (d : DeclNode) (own : Scope) (outer : List Scope) → i < length ds → d ≡ get_or ds i d
+    → PossibleDeclarations (in_order (map shown_decl_node (drop i ds))) own outer
+    → PossibleDeclaration (shown_decl_node d) own outer
+    × PossibleDeclarations (in_order (map shown_decl_node (drop (i + 1) ds))) (after_possible outer own (shown_decl_node d)) outer
+declarations_at ds i d own outer h e p = subst (λ (ys : List DeclNode). PossibleDeclarations (in_order (map shown_decl_node ys)) own outer) (rest_at ds i d h e) p
+
+-- What is judged of declarations up to a place, and one more.
+module _ (ds : List DeclNode) (i : ℕ) (d : DeclNode) (h : i < length ds) (e : d ≡ get_or ds i d) (own : Scope) (outer : List Scope)
+    (f : FormedDeclaration (shown_decl_node d) own outer) where
+  abbrev FormedFrom : ℕ → Scope → List Scope → Type 0
+  FormedFrom n own outer = FormedDeclarations (in_order (map shown_decl_node (drop n ds))) own outer
+
+  abbrev PossibleFrom : ℕ → Scope → List Scope → Type 0
+  PossibleFrom n own outer = PossibleDeclarations (in_order (map shown_decl_node (drop n ds))) own outer
+
+  abbrev next : Scope
+  next = after_decl outer own (shown_decl_node d)
+
+  pub formed_more : (P : Type 0) → Same P (FormedFrom i own outer) → Same P (FormedFrom (i + 1) next outer)
+  formed_more P s =
+      same_step s (same_by (λ (ys : List DeclNode). FormedDeclarations (in_order (map shown_decl_node ys)) own outer) _ _ (rest_at ds i d h e)) f
+
+  pub possible_more : PossibleFrom i own outer → PossibleFrom (i + 1) next outer
+  possible_more p =
+      subst (λ s. PossibleFrom (i + 1) s outer) (after_same (shown_decl_node d) own outer f) (declarations_at ds i d own outer h e p).1
+
+pub possible_none : (xs : List (List ℕ × Unit {0})) → xs ≡ [] → PossibleNames true (names xs)
+unfolding IsDistinct
+possible_none xs e = subst (λ (ys : List (List ℕ × Unit {0})). PossibleNames true (names ys)) (sym e) (tt, tt)
 
 -- a declaration that has no name
 pub quiet_knows : (s : DeclaredNames) (before : List DeclNode) (d : DeclNode) → import_of (shown_decl_node d) ≡ [] → export_of (shown_decl_node d) ≡ []
@@ -185,12 +250,19 @@ exports_append (x ∷ xs) ys =
     ∙ ap (λ z. z ++ exported ys) (sym (map-append (λ y. y.0) (export_of (shown_decl_node x)) (decl_exports (in_order (map shown_decl_node xs)))))
 
 -- Declarations that are well named are so up to a place.
-pub declared_upto : (ds : List DeclNode) (i : ℕ) (d : DeclNode) → i < length ds → d ≡ get_or ds i d → NamedDeclared ds → NamedDeclared (take i ds ++ d ∷ [])
-declared_upto ds i d h e n =
-    let one : take (i + 1) ds ≡ take i ds ++ d ∷ [] = take_more ds i d h ∙ ap (λ y. take i ds ++ y ∷ []) (sym e) in
+-- What they import, and what they export, is named so.
+abbrev pub DeclaredBy : (List ℕ → Type 0) → List DeclNode → Type 0
+DeclaredBy P ds = NamedBy P (imported ds) × NamedBy P (exported ds)
+
+pub one_more : (ds : List DeclNode) (i : ℕ) (d : DeclNode) → i < length ds → d ≡ get_or ds i d → take i ds ++ d ∷ [] ≡ take (i + 1) ds
+one_more ds i d h e = sym (take_more ds i d h ∙ ap (λ y. take i ds ++ y ∷ []) (sym e))
+
+pub declared_upto : (P : List ℕ → Type 0) (ds : List DeclNode) (i : ℕ) (d : DeclNode) → i < length ds → d ≡ get_or ds i d → DeclaredBy P ds
+    → DeclaredBy P (take i ds ++ d ∷ [])
+declared_upto P ds i d h e n =
     let whole : take (i + 1) ds ++ drop (i + 1) ds ≡ ds = take-append-drop (i + 1) ds in
-    let m : NamedDeclared (take (i + 1) ds ++ drop (i + 1) ds) = subst NamedDeclared (sym whole) n in
-    subst NamedDeclared one (
-      named_front _ _ (subst Named (imports_append (take (i + 1) ds) (drop (i + 1) ds)) m.0),
-      named_front _ _ (subst Named (exports_append (take (i + 1) ds) (drop (i + 1) ds)) m.1),
+    let m : DeclaredBy P (take (i + 1) ds ++ drop (i + 1) ds) = subst (DeclaredBy P) (sym whole) n in
+    subst (DeclaredBy P) (sym (one_more ds i d h e)) (
+      front_of P _ _ (subst (NamedBy P) (imports_append (take (i + 1) ds) (drop (i + 1) ds)) m.0),
+      front_of P _ _ (subst (NamedBy P) (exports_append (take (i + 1) ds) (drop (i + 1) ds)) m.1),
     )

@@ -1,3 +1,4 @@
+pub mod Fragments
 pub mod Judgement
 pub mod Judges
 pub mod Preceding

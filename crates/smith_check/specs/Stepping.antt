@@ -1,9 +1,11 @@
 -- The judgement of a component step by step.
-use Rattle.std.specs.Prelude.{◌≡◌, ◌++◌, List, [], ◌∷◌, length, map, reverse}
+use Rattle.std.specs.Prelude.{◌≡◌, ◌++◌, List, [], ◌∷◌, length, map, reverse, true}
 use Rattle.std.specs.List.{AllByRecursion}
 use Rattle.smith_syntax.specs.Scope.{Scope as PlainScope}
+use Rattle.smith_syntax.specs.Possible.{PossibleCores, PossibleNames, PossibleTypes}
 use Rattle.smith_syntax.specs.WellFormed.{FormedCores, FormedTypes, Named}
-use Rattle.smith_tree.specs.Spaces.{after_part}
+use Rattle.smith_tree.specs.Possible.{PossibleCanons, PossibleImports, PossibleParts}
+use Rattle.smith_tree.specs.Spaces.{after_part, no_spaces}
 use Rattle.smith_tree.specs.Tree.{Part, canons, component, core_module, core_types, custom, ends, exports, imports, types}
 use Rattle.smith_tree.specs.WellFormed.{Formed, FormedCanons, FormedExports, FormedImport, export_names, import_names}
 use Rattle.smith_read.specs.Walk.{Step, closes, marks, one, opens}
@@ -32,6 +34,17 @@ FormedAt (canons fs) outer s = FormedCanons fs s.spaces
 FormedAt (imports is) outer s = AllByRecursion (FormedImport (scope_at s)) is × Named (s.imports ++ import_names is)
 FormedAt (exports es) outer s = FormedExports es s.spaces × Named (s.exports ++ export_names es)
 
+-- A section is possible after that.
+abbrev pub PossibleAt : Part → List PlainScope → Scene → Type 0
+PossibleAt (custom name contents) outer s = Unit {0}
+PossibleAt (core_module text) outer s = Unit {0}
+PossibleAt (core_types ts) outer s = PossibleCores ts (scope_at s)
+PossibleAt (component t) outer s = PossibleParts t (scope_at s ∷ outer) no_spaces ends
+PossibleAt (types ts) outer s = PossibleTypes ts (scope_at s) outer
+PossibleAt (canons fs) outer s = PossibleCanons fs s.spaces
+PossibleAt (imports is) outer s = PossibleImports is s.spaces × PossibleNames true (s.imports ++ import_names is)
+PossibleAt (exports es) outer s = FormedExports es s.spaces × PossibleNames true (s.exports ++ export_names es)
+
 -- what there is in the innermost open component, and in those around it, innermost first
 pub record State : Type 0 where
   pub here : Scene
@@ -53,6 +66,12 @@ Fits (one p) at = FormedAt p (map scope_at at.around) at.here
 Fits opens at = Unit {0}
 Fits closes at = Unit {0}
 Fits marks at = Unit {0}
+
+abbrev pub MayFit : Step → State → Type 0
+MayFit (one p) at = PossibleAt p (map scope_at at.around) at.here
+MayFit opens at = Unit {0}
+MayFit closes at = Unit {0}
+MayFit marks at = Unit {0}
 
 abbrev pub AreAt : List Open → List Scene → Type 0
 AreAt [] [] = Unit {0}

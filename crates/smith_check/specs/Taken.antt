@@ -1,5 +1,5 @@
 -- The names before a place.
-use Rattle.std.specs.Prelude.{◌≡◌, ℕ, Bool, ◌&&◌, List, map, bytes_eq}
+use Rattle.std.specs.Prelude.{◌≡◌, ℕ, Bool, true, ◌&&◌, List, map, bytes_eq}
 use Rattle.std.specs.Ordering.{nat_cmp, ordering_then}
 use Rattle.std.specs.BTreeSet.{contains}
 use Rattle.std.specs.Borrow.{Bor}
@@ -8,6 +8,7 @@ use Rattle.std.specs.List.{flat_map, list_any}
 use Rattle.smith_input.specs.NewNames.{is_among}
 use Rattle.smith_syntax.specs.Entries.{Decls, ModuleDecl, in_order}
 use Rattle.smith_syntax.specs.ModuleTypes.{module_export_names, module_import_of}
+use Rattle.smith_syntax.specs.Possible.{PossibleNames}
 use Rattle.smith_syntax.specs.WellFormed.{Named, decl_exports, decl_imports, names}
 use Rattle.smith_read.specs.TypeNodes.{shown_decl_node}
 use Rattle.smith_read.specs.declared.type_nodes.DeclNode.{DeclNode}
@@ -47,6 +48,10 @@ exported ds = names (decl_exports (plain_decls ds))
 -- What they import is well named, and so is what they export.
 abbrev pub NamedDeclared : List DeclNode → Type 0
 NamedDeclared ds = Named (imported ds) × Named (exported ds)
+
+-- The same as far as the standard asks it.
+abbrev pub NamedPossibly : List DeclNode → Type 0
+NamedPossibly ds = PossibleNames true (imported ds) × PossibleNames true (exported ds)
 
 -- The sets have the names of these declarations of a component type or an instance type, which are well named, and no others.
 pub record KnowsDeclared (s : DeclaredNames) (before : List DeclNode) : Type 0 where

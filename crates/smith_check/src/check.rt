@@ -8,13 +8,13 @@ ghost use Rattle.smith_read.specs.Walk.{closes, items_at, one, opens, shown_step
 ghost use Rattle.smith_tree.specs.Shown.{shown_canon, shown_export};
 ghost use Rattle.smith_tree.specs.Tree.{canons, core_types, exports, imports, types};
 ghost use Rattle.smith_check.specs.Judgement.{Agrees};
-ghost use Rattle.smith_check.specs.Judges.{Judges};
+ghost use Rattle.smith_check.specs.Judges.{Grades, Judges};
 ghost use Rattle.smith_check.specs.Preceding.{IsAt, empty_scene};
-ghost use Rattle.smith_check.specs.Stepping.{Fits, IsEven, Stands, State, next};
+ghost use Rattle.smith_check.specs.Stepping.{Fits, IsEven, MayFit, Stands, State, next};
 
 use crate::canons::check_canon;
 use crate::entries::{check_export, check_import};
-use crate::error::{Checked, Fault, Judgement, Stop};
+use crate::error::{Asker, Checked, Fault, Judgement, Stop};
 use crate::modules::check_core;
 use crate::names::Names;
 use crate::types::check_type;
@@ -88,6 +88,8 @@ impl<'a> Check<'a> {
     fn check_core_type(&mut self, alloc: Global, ty: &'a CoreNode) -> Checked
         ensures judged { (at : State) → Stands self.old at
             → Judges result (Fits (one (core_types (shown_core_node ty.now ∷ []))) at) }
+        ensures graded { (at : State) → Stands self.old at
+            → Grades result (MayFit (one (core_types (shown_core_node ty.now ∷ []))) at) }
         ensures passed { (at : State) → Stands self.old at
             → OnOk result (Stands self.new (next (one (core_types (shown_core_node ty.now ∷ []))) at)) }
     {
@@ -99,6 +101,8 @@ impl<'a> Check<'a> {
     fn check_type(&mut self, alloc: Global, ty: &'a TypeNode) -> Checked
         ensures judged { (at : State) → Stands self.old at
             → Judges result (Fits (one (types (shown_type_node ty.now ∷ []))) at) }
+        ensures graded { (at : State) → Stands self.old at
+            → Grades result (MayFit (one (types (shown_type_node ty.now ∷ []))) at) }
         ensures passed { (at : State) → Stands self.old at
             → OnOk result (Stands self.new (next (one (types (shown_type_node ty.now ∷ []))) at)) }
     {
@@ -110,6 +114,8 @@ impl<'a> Check<'a> {
     fn check_canon(&mut self, canon: &Func) -> Checked
         ensures judged { (at : State) → Stands self.old at
             → Judges result (Fits (one (canons (shown_canon canon.now ∷ []))) at) }
+        ensures graded { (at : State) → Stands self.old at
+            → Grades result (MayFit (one (canons (shown_canon canon.now ∷ []))) at) }
         ensures passed { (at : State) → Stands self.old at
             → OnOk result (Stands self.new (next (one (canons (shown_canon canon.now ∷ []))) at)) }
     {
@@ -120,6 +126,8 @@ impl<'a> Check<'a> {
     fn check_import(&mut self, import: &'a ImportNode) -> Checked
         ensures judged { (at : State) → Stands self.old at
             → Judges result (Fits (one (imports (shown_import_node import.now ∷ []))) at) }
+        ensures graded { (at : State) → Stands self.old at
+            → Grades result (MayFit (one (imports (shown_import_node import.now ∷ []))) at) }
         ensures passed { (at : State) → Stands self.old at
             → OnOk result (Stands self.new (next (one (imports (shown_import_node import.now ∷ []))) at)) }
     {
@@ -129,6 +137,8 @@ impl<'a> Check<'a> {
     fn check_export(&mut self, export: &'a Export) -> Checked
         ensures judged { (at : State) → Stands self.old at
             → Judges result (Fits (one (exports (shown_export export.now ∷ []))) at) }
+        ensures graded { (at : State) → Stands self.old at
+            → Grades result (MayFit (one (exports (shown_export export.now ∷ []))) at) }
         ensures passed { (at : State) → Stands self.old at
             → OnOk result (Stands self.new (next (one (exports (shown_export export.now ∷ []))) at)) }
     {
@@ -138,6 +148,8 @@ impl<'a> Check<'a> {
     pub(crate) fn step(&mut self, alloc: Global, step: Step<'a>) -> Checked
         requires { IsEven self.old }
         ensures judged { (at : State) → Stands self.old at → Judges result (Fits (shown_step step.entry) at) }
+        ensures graded { (at : State) → Stands self.old at
+            → Grades result (MayFit (shown_step step.entry) at) }
         ensures passed { (at : State) → Stands self.old at
             → OnOk result (Stands self.new (next (shown_step step.entry) at)) }
     {
@@ -166,7 +178,8 @@ fn item_after(item: usize, step: Step<'_>) -> Result<usize, AllocError>
 
 /// Judges whether a component is well formed: `WellFormed` exactly if it is, and `IllFormed` exactly if it is not, with
 /// the first rule that it breaks and the number of the item that breaks it: what precedes that item is well formed, and
-/// what ends with it is not. No contract says which rule it is. An error is returned only if an allocation failed, and
+/// what ends with it is not. No contract says which rule it is. If the standard asks it, no validator may accept the
+/// component. An error is returned only if an allocation failed, and
 /// says nothing about the component.
 ///
 /// Each item is looked at once. The stack is bounded by how deep types nest, however deep components do.
@@ -180,7 +193,22 @@ pub fn judged(alloc: Global, component: &ComponentTree) -> Result<Judgement, All
         match check.step(alloc, step) {
             Ok(()) => {}
             Err(Stop::OutOfMemory) => return Err(AllocError),
-            Err(Stop::IllFormed(rule)) => return Ok(Judgement::IllFormed(Fault { item, rule })),
+            Err(Stop::IllFormed(rule)) => {
+                let asked_by = Asker::Standard;
+                return Ok(Judgement::IllFormed(Fault {
+                    item,
+                    rule,
+                    asked_by,
+                }));
+            }
+            Err(Stop::Outside(rule)) => {
+                let asked_by = Asker::Lupinanon;
+                return Ok(Judgement::IllFormed(Fault {
+                    item,
+                    rule,
+                    asked_by,
+                }));
+            }
         }
         item = item_after(item, step)?;
     }

@@ -1,13 +1,14 @@
 //! Imports and exports, and what they are of.
 
-ghost use Rattle.std.specs.Prelude.{◌≡◌, ◌<◌, ◌++◌, ◌∷◌, [], ℕ, List, false, length, string_bytes, OnOk};
+ghost use Rattle.std.specs.Prelude.{◌≡◌, ◌<◌, ◌++◌, ◌∷◌, [], ℕ, List, true, false, length, string_bytes, OnOk};
 ghost use Rattle.smith_syntax.specs.Scope.{Scope as PlainScope};
+ghost use Rattle.smith_syntax.specs.Possible.{PossibleNames};
 ghost use Rattle.smith_syntax.specs.WellFormed.{FormedRef, Named, is_type_eq};
 ghost use Rattle.smith_read.specs.PartNodes.{shown_import_node};
 ghost use Rattle.smith_tree.specs.Shown.{shown_export};
 ghost use Rattle.smith_tree.specs.Spaces.{after_export, after_import};
 ghost use Rattle.smith_tree.specs.WellFormed.{FormedImport};
-ghost use Rattle.smith_check.specs.Judges.{Judges};
+ghost use Rattle.smith_check.specs.Judges.{Grades, Judges};
 ghost use Rattle.smith_scopes.specs.NodeScopes.{own_in};
 ghost use Rattle.smith_check.specs.Preceding.{spaces_in};
 ghost use Rattle.smith_check.specs.Taken.{Knows};
@@ -52,11 +53,13 @@ pub(crate) fn check_reference(scopes: &NodeScopes<'_>, to: ComponentTypeRef) -> 
 
 // Checks what an import is of, which is not a type that is equal to another.
 pub(crate) fn check_imported(scopes: &NodeScopes<'_>, to: ComponentTypeRef) -> Checked
-    ensures { Judges result (FormedRef (own_in scopes.now) to × (is_type_eq to ≡ false)) }
+    ensures judged { Judges result (FormedRef (own_in scopes.now) to × (is_type_eq to ≡ false)) }
+    ensures graded { Grades result (FormedRef (own_in scopes.now) to) }
 {
+    check_reference(scopes, to)?;
     match to {
-        ComponentTypeRef::TypeEq(_) => Err(Stop::IllFormed(Rule::EqualType)),
-        _ => check_reference(scopes, to),
+        ComponentTypeRef::TypeEq(_) => Err(Stop::Outside(Rule::EqualType)),
+        _ => Ok(()),
     }
 }
 
@@ -69,6 +72,9 @@ pub(crate) fn check_import<'a>(
     ensures judged { (before : List (List ℕ)) → Knows here.old.imports before → Judges result
         (FormedImport (own_in scopes.now) (shown_import_node import.now)
         × Named (before ++ string_bytes import.now.name ∷ [])) }
+    ensures graded { (before : List (List ℕ)) → Knows here.old.imports before → Grades result
+        (FormedRef (own_in scopes.now) import.now.to
+        × PossibleNames true (before ++ string_bytes import.now.name ∷ [])) }
     ensures known { (before : List (List ℕ)) → Knows here.old.imports before
         → OnOk result (Knows here.new.imports (before ++ string_bytes import.now.name ∷ [])) }
     ensures added { OnOk result (spaces_in (own_in scopes.now) here.new
@@ -76,7 +82,7 @@ pub(crate) fn check_import<'a>(
     ensures exports { here.new.exports ≡ here.old.exports }
 {
     check_imported(scopes, import.to)?;
-    here.imports.add(&import.name)?;
+    here.imports.add(&import.name, true)?;
     if let ComponentTypeRef::Func(ty) = import.to {
         here.functions.push(ty)?;
     }
@@ -88,6 +94,9 @@ pub(crate) fn check_export<'a>(here: &mut Open<'a>, export: &'a Export) -> Check
     ensures judged { (before : List (List ℕ)) → Knows here.old.exports before → Judges result
         ((export.now.func_index < length here.old.functions.items)
         × Named (before ++ string_bytes export.now.name ∷ [])) }
+    ensures graded { (before : List (List ℕ)) → Knows here.old.exports before → Grades result
+        ((export.now.func_index < length here.old.functions.items)
+        × PossibleNames true (before ++ string_bytes export.now.name ∷ [])) }
     ensures known { (before : List (List ℕ)) → Knows here.old.exports before
         → OnOk result (Knows here.new.exports (before ++ string_bytes export.now.name ∷ [])) }
     ensures added { (own : PlainScope) → OnOk result
@@ -97,7 +106,7 @@ pub(crate) fn check_export<'a>(here: &mut Open<'a>, export: &'a Export) -> Check
     let Some(ty) = here.functions.get(export.func_index as usize).copied() else {
         return Err(Stop::IllFormed(Rule::NoFunction));
     };
-    here.exports.add(&export.name)?;
+    here.exports.add(&export.name, true)?;
     here.functions.push(ty)?;
     Ok(())
 }

@@ -74,8 +74,17 @@ pub enum Rule {
     NotFlat,
 }
 
-/// Why a component is not well formed: the first rule that it breaks, and the number of the item that breaks it. Which
-/// rule it is, no contract says.
+/// Who asks a rule. What breaks a rule of the standard is invalid for every validator.
+#[derive(Clone, Copy, Debug, PartialEq, Eq)]
+pub enum Asker {
+    /// The component model's standard.
+    Standard,
+    /// Lupinanon alone: the standard, or a validator, may have what breaks it.
+    Lupinanon,
+}
+
+/// Why a component is not well formed: the first rule that it breaks, who asks it, and the number of the item that breaks
+/// it. Which rule it is, no contract says.
 ///
 /// Items count from 0, in the order of the bytes: each custom section, each core module, the beginning of each
 /// component in this one, and each entry of a section that is a list.
@@ -83,6 +92,7 @@ pub enum Rule {
 pub struct Fault {
     pub item: usize,
     pub rule: Rule,
+    pub asked_by: Asker,
 }
 
 /// Whether a component is well formed.
@@ -97,8 +107,10 @@ pub enum Judgement {
 pub(crate) enum Stop {
     /// An allocation failed.
     OutOfMemory,
-    /// A rule is broken.
+    /// A rule of the standard is broken.
     IllFormed(Rule),
+    /// A rule is broken that the standard does not have, or not in this case.
+    Outside(Rule),
 }
 
 impl From<AllocError> for Stop {

@@ -11,4 +11,4 @@ mod types;
 mod values;
 
 pub use check::judged;
-pub use error::{Fault, Judgement, Rule};
+pub use error::{Asker, Fault, Judgement, Rule};

@@ -8,9 +8,11 @@ ghost use Rattle.smith_format.specs.Shown.{shown_func};
 ghost use Rattle.smith_format.specs.declared.types.RefType.TheVariants.{ExternRef, FuncRef};
 ghost use Rattle.smith_syntax.specs.Entries.{ModuleDecl};
 ghost use Rattle.smith_syntax.specs.ModuleTypes.{HasNewNames, adds, aliased};
+ghost use Rattle.smith_syntax.specs.Possible.{PossibleCore, PossibleDecl, PossibleEntity, PossibleLimits};
+ghost use Rattle.smith_syntax.specs.Possible.{PossibleMemory, PossibleModule, PossibleTable};
 ghost use Rattle.smith_syntax.specs.WellFormed.{FormedCore, FormedDecl, FormedDecls, FormedEntity};
 ghost use Rattle.smith_read.specs.Nodes.{shown_core_node, shown_module_node};
-ghost use Rattle.smith_check.specs.Judges.{Decides, Judges};
+ghost use Rattle.smith_check.specs.Judges.{Decides, Grades, Judges};
 ghost use Rattle.smith_scopes.specs.NodeScopes.{own_in};
 ghost use Rattle.smith_check.specs.Preceding.{functions_in};
 ghost use Rattle.smith_check.specs.Taken.{HoldsModule, has_pair};
@@ -34,14 +36,33 @@ fn are_limits(minimum: u64, maximum: Option<u64>) -> bool
     }
 }
 
-fn check_memory(memory: MemoryType) -> Checked
-    ensures { Judges result (FormedMemory memory) }
+// May the standard have such limits, of which those with addresses of 32 bits are at most `top`?
+fn are_possible(top: u64, wide: bool, minimum: u64, maximum: Option<u64>) -> bool
+    ensures { Decides result (PossibleLimits top wide minimum maximum) }
 {
-    if are_limits(memory.minimum, memory.maximum) && !memory.shared && !memory.memory64 {
-        Ok(())
-    } else {
-        Err(Stop::IllFormed(Rule::Memory))
+    match maximum {
+        Some(maximum) => minimum <= maximum && (wide || maximum <= top),
+        None => wide || minimum <= top,
     }
+}
+
+fn check_memory(memory: MemoryType) -> Checked
+    ensures judged { Judges result (FormedMemory memory) }
+    ensures graded { Grades result (PossibleMemory memory) }
+{
+    let MemoryType {
+        minimum,
+        maximum,
+        shared,
+        memory64,
+    } = memory;
+    if are_limits(minimum, maximum) && !shared && !memory64 {
+        return Ok(());
+    }
+    if are_possible(65_536, memory64, minimum, maximum) && (!shared || maximum.is_some()) {
+        return Err(Stop::Outside(Rule::Memory));
+    }
+    Err(Stop::IllFormed(Rule::Memory))
 }
 
 // Is it `funcref` or `externref`?
@@ -52,16 +73,19 @@ fn is_element(element: RefType) -> bool
 }
 
 fn check_table(table: TableType) -> Checked
-    ensures { Judges result (FormedTable true table) }
+    ensures judged { Judges result (FormedTable true table) }
+    ensures graded { Grades result (PossibleTable table) }
 {
     if is_element(table.element_type)
         && are_limits(table.minimum, table.maximum)
         && !table.table64
     {
-        Ok(())
-    } else {
-        Err(Stop::IllFormed(Rule::Table))
+        return Ok(());
     }
+    if are_possible(4_294_967_295, table.table64, table.minimum, table.maximum) {
+        return Err(Stop::Outside(Rule::Table));
+    }
+    Err(Stop::IllFormed(Rule::Table))
 }
 
 // The function type with that index in a module type.
@@ -73,7 +97,8 @@ fn function_at<'a>(own: &[&'a FuncType], index: u32) -> Option<&'a FuncType>
 
 // Checks what a module type imports or exports, given its function types so far.
 fn check_entity(own: &[&FuncType], entity: EntityType) -> Checked
-    ensures { Judges result (FormedEntity (functions_in own.now) entity) }
+    ensures judged { Judges result (FormedEntity (functions_in own.now) entity) }
+    ensures graded { Grades result (PossibleEntity (functions_in own.now) entity) }
 {
     match entity {
         EntityType::Func(index) => match function_at(own, index) {
@@ -87,7 +112,7 @@ fn check_entity(own: &[&FuncType], entity: EntityType) -> Checked
             Some(ty) => if ty.results.is_empty() {
                 Ok(())
             } else {
-                Err(Stop::IllFormed(Rule::TagResults))
+                Err(Stop::Outside(Rule::TagResults))
             },
             None => Err(Stop::IllFormed(Rule::NoType)),
         },
@@ -120,13 +145,16 @@ fn check_module_decl<'a>(
     own: &[&'a FuncType],
     decl: &ModuleNode,
 ) -> Checked
-    ensures { Judges result
+    ensures judged { Judges result
         (FormedDecl (own_in scopes.now).core_types (functions_in own.now) (shown_module_node decl.now)) }
+    ensures graded { Grades result
+        (PossibleDecl (own_in scopes.now).core_types (functions_in own.now) (shown_module_node decl.now)) }
 {
     match decl {
         ModuleNode::Func(_) => Ok(()),
         ModuleNode::OuterAlias { count, index } => match aliased(scopes, own, *count, *index) {
             Some(_) => Ok(()),
+            None if *count > 1 => Err(Stop::Outside(Rule::OuterAlias)),
             None => Err(Stop::IllFormed(Rule::OuterAlias)),
         },
         ModuleNode::Import { entity, .. } | ModuleNode::Export { entity, .. } => {
@@ -214,7 +242,9 @@ impl<'a> ModuleNames<'a> {
 
 // Checks the declarations of a module type.
 fn check_module<'a>(alloc: Global, scopes: &NodeScopes<'a>, decls: &'a [ModuleNode]) -> Checked
-    ensures { Judges result (FormedDecls (own_in scopes.now).core_types [] (map shown_module_node decls.now)
+    ensures judged { Judges result (FormedDecls (own_in scopes.now).core_types [] (map shown_module_node decls.now)
+        × HasNewNames (map shown_module_node decls.now)) }
+    ensures graded { Grades result (PossibleModule (own_in scopes.now).core_types [] (map shown_module_node decls.now)
         × HasNewNames (map shown_module_node decls.now)) }
 {
     let mut own = Vec::new(alloc);
@@ -229,7 +259,8 @@ fn check_module<'a>(alloc: Global, scopes: &NodeScopes<'a>, decls: &'a [ModuleNo
 }
 
 pub(crate) fn check_core<'a>(alloc: Global, scopes: &NodeScopes<'a>, ty: &'a CoreNode) -> Checked
-    ensures { Judges result (FormedCore (shown_core_node ty.now) (own_in scopes.now).core_types) }
+    ensures judged { Judges result (FormedCore (shown_core_node ty.now) (own_in scopes.now).core_types) }
+    ensures graded { Grades result (PossibleCore (shown_core_node ty.now) (own_in scopes.now).core_types) }
 {
     match ty {
         CoreNode::Func(_) => Ok(()),

@@ -3,13 +3,14 @@
 ghost use Rattle.std.specs.Prelude.{◌≡◌, ◌<◌, length, ◌∷◌, ◌++◌, [], List, map, OnOk};
 ghost use Rattle.smith_syntax.specs.Entries.{in_order};
 ghost use Rattle.smith_syntax.specs.Scope.{empty_scope};
+ghost use Rattle.smith_syntax.specs.Possible.{PossibleDeclaration, PossibleDeclarations, PossibleEntry};
 ghost use Rattle.smith_syntax.specs.WellFormed.{FormedDeclaration, FormedDeclarations, FormedEntry, decl_imports};
 ghost use Rattle.smith_syntax.specs.WellFormed.{import_of};
 ghost use Rattle.smith_read.specs.declared.type_nodes.DeclNode.{DeclNode};
 ghost use Rattle.smith_read.specs.TypeNodes.{shown_decl_node, shown_type_node};
-ghost use Rattle.smith_check.specs.Judges.{Decides, Judges};
+ghost use Rattle.smith_check.specs.Judges.{Decides, Grades, Judges};
 ghost use Rattle.smith_scopes.specs.NodeScopes.{outer_in, own_in};
-ghost use Rattle.smith_check.specs.Taken.{KnowsDeclared, NamedDeclared};
+ghost use Rattle.smith_check.specs.Taken.{KnowsDeclared, NamedDeclared, NamedPossibly};
 
 use crate::entries::{check_imported, check_reference};
 use crate::error::{Checked, Rule, Stop};
@@ -42,12 +43,14 @@ impl<'a> DeclaredNames<'a> {
     fn add(&mut self, decl: &'a DeclNode) -> Checked
         ensures judged { (before : List DeclNode) → KnowsDeclared self.old before
             → Judges result (NamedDeclared (before ++ decl.now ∷ [])) }
+        ensures graded { (before : List DeclNode) → KnowsDeclared self.old before
+            → Grades result (NamedPossibly (before ++ decl.now ∷ [])) }
         ensures added { (before : List DeclNode) → KnowsDeclared self.old before
             → OnOk result (KnowsDeclared self.new (before ++ decl.now ∷ [])) }
     {
         match decl {
-            DeclNode::Import { name, .. } => self.imports.add(name),
-            DeclNode::Export { name, .. } => self.exports.add(name),
+            DeclNode::Import { name, .. } => self.imports.add(name, true),
+            DeclNode::Export { name, .. } => self.exports.add(name, true),
             DeclNode::Core(_) => Ok(()),
             DeclNode::Type(_) => Ok(()),
             DeclNode::TypeAlias { .. } => Ok(()),
@@ -84,6 +87,8 @@ pub(crate) fn check_type<'a>(
     ty: &'a TypeNode,
 ) -> Checked
     ensures judged { Judges result (FormedEntry (shown_type_node ty.now) (own_in scopes.old) (outer_in scopes.old)) }
+    ensures graded { Grades result
+        (PossibleEntry (shown_type_node ty.now) (own_in scopes.old) (outer_in scopes.old)) }
     ensures own { OnOk result (own_in scopes.new ≡ own_in scopes.old) }
     ensures outer { OnOk result (outer_in scopes.new ≡ outer_in scopes.old) }
 {
@@ -104,6 +109,8 @@ pub(crate) fn check_type<'a>(
 fn check_decl<'a>(alloc: Global, scopes: &mut NodeScopes<'a>, decl: &'a DeclNode) -> Checked
     ensures judged { Judges result
         (FormedDeclaration (shown_decl_node decl.now) (own_in scopes.old) (outer_in scopes.old)) }
+    ensures graded { Grades result
+        (PossibleDeclaration (shown_decl_node decl.now) (own_in scopes.old) (outer_in scopes.old)) }
     ensures own { OnOk result (own_in scopes.new ≡ own_in scopes.old) }
     ensures outer { OnOk result (outer_in scopes.new ≡ outer_in scopes.old) }
 {
@@ -130,6 +137,9 @@ fn check_decls<'a>(alloc: Global, scopes: &mut NodeScopes<'a>, decls: &'a [DeclN
     ensures judged { Judges result
         (FormedDeclarations (in_order (map shown_decl_node decls.now)) empty_scope
         (own_in scopes.old ∷ outer_in scopes.old) × NamedDeclared decls.now) }
+    ensures graded { Grades result
+        (PossibleDeclarations (in_order (map shown_decl_node decls.now)) empty_scope
+        (own_in scopes.old ∷ outer_in scopes.old) × NamedPossibly decls.now) }
     ensures own { OnOk result (own_in scopes.new ≡ own_in scopes.old) }
     ensures outer { OnOk result (outer_in scopes.new ≡ outer_in scopes.old) }
 {

@@ -20,7 +20,7 @@ mod types;
 mod unread;
 mod writing;
 
-pub use core_types::{CoreNode, ModuleNode};
+pub use core_types::{CoreNode, ModuleNode, core_function_of, limits_of};
 pub use entries::contents_of;
 pub use error::ReadError;
 pub use externs::named_of;

@@ -66,7 +66,7 @@ impl fmt::Display for ScriptError {
             }
             ScriptError::Unread { reason, offset } => write!(f, "{reason} at offset {offset}"),
             ScriptError::IllFormed(fault) => {
-                let Fault { item, rule } = *fault;
+                let Fault { item, rule, .. } = *fault;
                 write!(f, "{rule} in item {item}")
             }
             ScriptError::NoScript { limit, offset } => {

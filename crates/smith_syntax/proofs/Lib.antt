@@ -4,7 +4,9 @@ pub mod ClearTypes
 pub mod Declarations
 pub mod Encoding
 pub mod Flat
+pub mod Labels
 pub mod Members
+pub mod Possible
 pub mod Shown
 pub mod Signature
 pub mod TooLong

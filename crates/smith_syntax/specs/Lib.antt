@@ -4,6 +4,7 @@ pub mod EntryCode
 pub mod Flat
 pub mod Grammar
 pub mod HasSignature
+pub mod Labels
 pub mod Marked
 pub mod Marks
 pub mod Members
@@ -11,6 +12,7 @@ pub mod ModuleTypes
 pub mod Nesting
 pub mod OwnSizes
 pub mod Places
+pub mod Possible
 pub mod SameDecl
 pub mod SameSignature
 pub mod Scope

@@ -27,7 +27,7 @@ after_added : (s : Spaces) (t : Tree) (p : Part) → fold spaces_after s (parts_
 after_added s ends p = refl
 after_added s (first q t) p = after_added (spaces_after s q) t p
 
-spaces_added : (t : Tree) (p : Part) → spaces_of (add t p) ≡ spaces_after (spaces_of t) p
+pub spaces_added : (t : Tree) (p : Part) → spaces_of (add t p) ≡ spaces_after (spaces_of t) p
 spaces_added t p = after_added no_spaces t p
 
 module _ (config : Config) (valid : config.must_validate ≡ true) (few : config.max_memories ≤ 100) where

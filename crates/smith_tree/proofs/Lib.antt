@@ -4,6 +4,7 @@ pub mod Depths
 pub mod Marking
 pub mod Offered
 pub mod Parts
+pub mod Possible
 pub mod ReadsCustom
 pub mod TooLong
 pub mod TypeNeeds

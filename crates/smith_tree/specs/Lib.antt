@@ -12,6 +12,7 @@ pub mod ModuleScript
 pub mod Offered
 pub mod Offers
 pub mod Open
+pub mod Possible
 pub mod Readable
 pub mod ReadableCoreTypes
 pub mod ReadableTypes

@@ -8,12 +8,20 @@ ghost use Rattle.smith_tree.specs.CoreTypeNeeds.{core_need};
 ghost use Rattle.smith_tree.specs.Depths.{scope_depth};
 ghost use Rattle.smith_tree.specs.Grammar.{Spells, component_text};
 ghost use Rattle.smith_tree.specs.Limits.{Maxima, max_depth};
+ghost use Rattle.smith_tree.specs.Possible.{Possible};
 ghost use Rattle.smith_tree.specs.TooLong.{TreeTooLong};
 ghost use Rattle.smith_tree.specs.Tree.{Tree};
+ghost use Rattle.smith_tree.specs.WellFormed.{WellFormed};
 ghost use Rattle.smith_tree.specs.TypeNeeds.{need};
 
 pub mod offers;
 pub mod validity;
+
+/// What is well formed is possible: the standard asks no more.
+#[tactic(auto, using(crate::proofs::Possible::formed_possible))]
+pub fn formed_components_are_possible()
+    ensures { (t : Tree) → WellFormed t → Possible t }
+{}
 
 /// No bytes have two readings.
 #[tactic(auto, using(crate::proofs::Clear::spells_law))]

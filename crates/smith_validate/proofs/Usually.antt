@@ -5,7 +5,7 @@ use Rattle.std.proofs.lemmas.List.Sums.{fold-append}
 use Rattle.std.specs.List.{AllByRecursion, AllZip, flat_map}
 use Rattle.std.specs.Option.{option_to_list}
 use Rattle.std.specs.Prelude.{slice_get}
-use Rattle.smith_check.proofs.Growth.{spaces-add}
+use Rattle.smith_tree.proofs.Components.{spaces_added}
 use Rattle.smith_input.proofs.Lists.{all_both}
 use Rattle.smith_syntax.specs.Entries.{Case, CoreEntry, DefValType, Entry, Field, ImportEntry, component_type, defined, function, instance_type, plain}
 use Rattle.smith_syntax.specs.Entries.{list_type, option_type, record_type, result_type, tuple_type, variant_type}
@@ -214,7 +214,7 @@ mutual
   parts_usual ends ws before s outer b k f = tt
   parts_usual (first p t) ws before s outer b k f =
       let then : Kinds (types_of (add before p)) (after_part p s outer b).own.types =
-      subst (λ (z : Spaces). Kinds z.types (after_part p s outer b).own.types) (sym (spaces-add before p)) (part_scopes p s (spaces_of before) outer b k.0) in (
+      subst (λ (z : Spaces). Kinds z.types (after_part p s outer b).own.types) (sym (spaces_added before p)) (part_scopes p s (spaces_of before) outer b k.0) in (
         part_usual p ws before s outer b k f.0,
         parts_usual t ws (add before p) (spaces_after s p) outer (after_part p s outer b) (then, k.1) f.1,
       )

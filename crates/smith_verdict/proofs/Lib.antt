@@ -1,2 +1,9 @@
+pub mod Members
 pub mod Offsets
+pub mod SectionWalk
+pub mod Spelled
+pub mod Walked
 pub mod WellFormed
+mod TellingModules
+mod Judging
+mod Loops

@@ -1,2 +1,9 @@
+pub mod Contained
+pub mod Framed
+pub mod Gives
+pub mod Shows
 pub mod Validities
 pub mod Verdicts
+pub mod Modules
+pub mod ModuleSections
+pub mod ModuleReading

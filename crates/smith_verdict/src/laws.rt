@@ -6,6 +6,7 @@ ghost use Rattle.smith_format.specs.declared.config.Config.{Config};
 ghost use Rattle.smith_tree.specs.Grammar.{Spells};
 ghost use Rattle.smith_tree.specs.Readable.{CanBeGenerated};
 ghost use Rattle.smith_tree.specs.Tree.{Tree};
+ghost use Rattle.smith_verdict.specs.Framed.{Framed};
 ghost use Rattle.smith_verdict.specs.Validities.{IsValidity};
 ghost use Rattle.smith_verdict.specs.Verdicts.{IsVerdict};
 
@@ -25,4 +26,10 @@ pub fn generated_components_are_valid()
     ensures { (config : Config) (tree : Tree) (bytes : List ℕ) (found : Validity) → config.must_validate ≡ true
         → IsConsistent config → CanBeGenerated config tree → Spells tree bytes → IsValidity bytes found
         → found ≡ Validity.Valid }
+{}
+
+/// The bytes of a component are framed.
+#[tactic(auto, using(crate::proofs::Spelled::spelled_framed))]
+pub fn spelled_components_are_framed()
+    ensures { (tree : Tree) (bytes : List ℕ) → Spells tree bytes → Framed bytes }
 {}

@@ -1,8 +1,10 @@
-use Rattle.std.proofs.Common.{ap, refl, subst, sym, ◌∙◌}
+use Rattle.std.proofs.Common.{ap, refl, subst, sym, true, ◌∙◌}
 use Rattle.smith_read.specs.TypeNodes.{shown_decl_node}
 use Rattle.smith_read.proofs.ShownNodes.{shown_alias, shown_core, shown_core_alias, shown_declared}
 use Rattle.smith_syntax.specs.WellFormed.{Named}
 use Rattle.smith_check.specs.Taken.{Knows}
+use Rattle.smith_syntax.specs.Possible.{PossibleNames}
+use Rattle.smith_check.proofs.Grading.{grades_by}
 use Rattle.smith_check.proofs.Judging.{judged_by, on_by}
 use Rattle.smith_check.proofs.TypeSteps.{export_push, import_push, known_named, quiet_at}
 use Rattle.smith_check.proofs.types.DeclaredNames.add.Goals as goal
@@ -66,3 +68,13 @@ returns-in-CoreTypeAlias-clause-judged c = λ before k.
 pub returns-in-CoreTypeAlias-clause-added : goal.returns-in-CoreTypeAlias-clause-added
 returns-in-CoreTypeAlias-clause-added c = λ before k.
     quiet_at _ _ _ _ (ap shown_decl_node c.in-CoreTypeAlias.is ∙ shown_core_alias _ _) refl refl k
+
+pub returns-in-Import-clause-graded : goal.returns-in-Import-clause-graded
+returns-in-Import-clause-graded c = λ before k.
+    let e = import_push before c.args.decl.now c.in-Import.name c.in-Import.to c.in-Import.is in
+    grades_by c.add.result (λ q. subst (PossibleNames true) e.0 q.0) (rw c.deref.ensures at (c.add.ensures.graded _ k.imports))
+
+pub returns-in-Export-clause-graded : goal.returns-in-Export-clause-graded
+returns-in-Export-clause-graded c = λ before k.
+    let e = export_push before c.args.decl.now c.in-Export.name c.in-Export.to c.in-Export.is in
+    grades_by c.add-in-Export.result (λ q. subst (PossibleNames true) e.0 q.1) (rw c.deref-in-Export.ensures at (c.add-in-Export.ensures.graded _ k.exports))
