@@ -34,7 +34,7 @@ taken_next n marks xs = let h : 0 + n ≡ n = omega arith in ap (λ m. marks ∷
 
 -- ---- counts
 
-counted-append : (xs ys : List Step) → counted (xs ++ ys) ≡ counted xs + counted ys
+pub counted-append : (xs ys : List Step) → counted (xs ++ ys) ≡ counted xs + counted ys
 counted-append [] ys = omega arith
 counted-append (x ∷ xs) ys = let e = counted-append xs ys in omega (arith, e)
 
@@ -56,7 +56,7 @@ mutual
   part_counted (imports is) = let e = entries_counted imports is in omega (arith, e)
   part_counted (exports es) = let e = entries_counted exports es in omega (arith, e)
 
-  tree_counted : (t : Tree) → counted (steps_of t) ≡ items t
+  pub tree_counted : (t : Tree) → counted (steps_of t) ≡ items t
   tree_counted ends = refl
   tree_counted (first p t) =
       let e = part_counted p in

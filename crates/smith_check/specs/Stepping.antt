@@ -38,7 +38,7 @@ FormedAt (exports es) outer s = FormedExports es s.spaces × Named (s.exports ++
 abbrev pub PossibleAt : Part → List PlainScope → Scene → Type 0
 PossibleAt (custom name contents) outer s = Unit {0}
 PossibleAt (core_module text) outer s = Unit {0}
-PossibleAt (core_types ts) outer s = PossibleCores ts (scope_at s)
+PossibleAt (core_types ts) outer s = PossibleCores ts (scope_at s) (length outer)
 PossibleAt (component t) outer s = PossibleParts t (scope_at s ∷ outer) no_spaces ends
 PossibleAt (types ts) outer s = PossibleTypes ts (scope_at s) outer
 PossibleAt (canons fs) outer s = PossibleCanons fs s.spaces

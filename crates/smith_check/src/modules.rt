@@ -1,7 +1,7 @@
 //! Core types.
 
-ghost use Rattle.std.specs.Prelude.{◌≡◌, ◌⊎◌, ◌&&◌, ◌||◌, ℕ, true, false, List, [], ◌∷◌, ◌++◌, map, option_map};
-ghost use Rattle.std.specs.Prelude.{slice_get, bytes_eq, IfOk, IfErr, OnOk, option_to_list};
+ghost use Rattle.std.specs.Prelude.{◌≡◌, ◌⊎◌, ◌&&◌, ◌||◌, ◌<◌, ◌+◌, ℕ, true, false, List, [], ◌∷◌, ◌++◌, length, map};
+ghost use Rattle.std.specs.Prelude.{slice_get, bytes_eq, IfOk, IfErr, OnOk, option_map, option_to_list};
 ghost use Rattle.std.specs.Borrow.{Bor};
 ghost use Rattle.smith_format.specs.CoreFormed.{FormedLimits, FormedMemory, FormedTable};
 ghost use Rattle.smith_format.specs.Shown.{shown_func};
@@ -13,7 +13,7 @@ ghost use Rattle.smith_syntax.specs.Possible.{PossibleMemory, PossibleModule, Po
 ghost use Rattle.smith_syntax.specs.WellFormed.{FormedCore, FormedDecl, FormedDecls, FormedEntity};
 ghost use Rattle.smith_read.specs.Nodes.{shown_core_node, shown_module_node};
 ghost use Rattle.smith_check.specs.Judges.{Decides, Grades, Judges};
-ghost use Rattle.smith_scopes.specs.NodeScopes.{own_in};
+ghost use Rattle.smith_scopes.specs.NodeScopes.{outer_in, own_in};
 ghost use Rattle.smith_check.specs.Preceding.{functions_in};
 ghost use Rattle.smith_check.specs.Taken.{HoldsModule, has_pair};
 ghost use Rattle.smith_check.specs.declared.error.Stop.TheVariants.{OutOfMemory};
@@ -139,6 +139,13 @@ fn aliased<'a>(
     }
 }
 
+// Is it the count of a scope beyond the one around the module type?
+fn is_far(scopes: &NodeScopes<'_>, count: u32) -> bool
+    ensures { Decides result ((1 < count) × (count < length (outer_in scopes.now) + 2)) }
+{
+    count > 1 && count as usize - 1 < scopes.nest.depth()
+}
+
 // Checks a declaration of a module type, given its function types so far.
 fn check_module_decl<'a>(
     scopes: &NodeScopes<'a>,
@@ -148,13 +155,14 @@ fn check_module_decl<'a>(
     ensures judged { Judges result
         (FormedDecl (own_in scopes.now).core_types (functions_in own.now) (shown_module_node decl.now)) }
     ensures graded { Grades result
-        (PossibleDecl (own_in scopes.now).core_types (functions_in own.now) (shown_module_node decl.now)) }
+        (PossibleDecl (own_in scopes.now).core_types (length (outer_in scopes.now)) (functions_in own.now)
+        (shown_module_node decl.now)) }
 {
     match decl {
         ModuleNode::Func(_) => Ok(()),
         ModuleNode::OuterAlias { count, index } => match aliased(scopes, own, *count, *index) {
             Some(_) => Ok(()),
-            None if *count > 1 => Err(Stop::Outside(Rule::OuterAlias)),
+            None if is_far(scopes, *count) => Err(Stop::Outside(Rule::OuterAlias)),
             None => Err(Stop::IllFormed(Rule::OuterAlias)),
         },
         ModuleNode::Import { entity, .. } | ModuleNode::Export { entity, .. } => {
@@ -244,8 +252,8 @@ impl<'a> ModuleNames<'a> {
 fn check_module<'a>(alloc: Global, scopes: &NodeScopes<'a>, decls: &'a [ModuleNode]) -> Checked
     ensures judged { Judges result (FormedDecls (own_in scopes.now).core_types [] (map shown_module_node decls.now)
         × HasNewNames (map shown_module_node decls.now)) }
-    ensures graded { Grades result (PossibleModule (own_in scopes.now).core_types [] (map shown_module_node decls.now)
-        × HasNewNames (map shown_module_node decls.now)) }
+    ensures graded { Grades result (PossibleModule (own_in scopes.now).core_types (length (outer_in scopes.now)) []
+        (map shown_module_node decls.now) × HasNewNames (map shown_module_node decls.now)) }
 {
     let mut own = Vec::new(alloc);
     let mut names = ModuleNames::new(alloc);
@@ -260,7 +268,8 @@ fn check_module<'a>(alloc: Global, scopes: &NodeScopes<'a>, decls: &'a [ModuleNo
 
 pub(crate) fn check_core<'a>(alloc: Global, scopes: &NodeScopes<'a>, ty: &'a CoreNode) -> Checked
     ensures judged { Judges result (FormedCore (shown_core_node ty.now) (own_in scopes.now).core_types) }
-    ensures graded { Grades result (PossibleCore (shown_core_node ty.now) (own_in scopes.now).core_types) }
+    ensures graded { Grades result
+        (PossibleCore (shown_core_node ty.now) (own_in scopes.now).core_types (length (outer_in scopes.now))) }
 {
     match ty {
         CoreNode::Func(_) => Ok(()),

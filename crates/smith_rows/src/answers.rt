@@ -4,7 +4,7 @@ use crate::components::{doubled, scripted, simpler, smaller, what_is_read};
 use crate::generations::{generate_from, held, is_generated, outcome, repeated};
 use crate::texts::{defaults, texts, unwritten};
 use smith_component::Config;
-use smith_verdict::{check, validate};
+use smith_verdict::{answer as validator_answer, check, validate};
 use std::alloc::{AllocError, Global};
 
 /// What a row asks of its bytes, as the head of the table says.
@@ -21,6 +21,7 @@ pub enum Task {
     Fronts,
     Check,
     Validate,
+    Answer,
     Smaller,
     Simpler,
     Doubled,
@@ -42,6 +43,7 @@ pub const TASKS: &[(&str, Task)] = &[
     ("fronts", Task::Fronts),
     ("check", Task::Check),
     ("validate", Task::Validate),
+    ("answer", Task::Answer),
     ("smaller", Task::Smaller),
     ("simpler", Task::Simpler),
     ("doubled", Task::Doubled),
@@ -127,6 +129,7 @@ pub fn answer(
         Task::Held => held(alloc, *limits, bytes),
         Task::Check => format!(in alloc; "= {}\n", check(alloc, bytes)?),
         Task::Validate => format!(in alloc; "= {}\n", validate(alloc, bytes)?),
+        Task::Answer => format!(in alloc; "= {}\n", validator_answer(alloc, bytes)?),
         Task::Smaller => smaller(alloc, bytes),
         Task::Simpler => simpler(alloc, bytes),
         Task::Doubled => doubled(alloc, bytes),

@@ -1,5 +1,5 @@
 -- What is well formed is possible.
-use Rattle.std.proofs.Common.{◌≡◌, ◌⊎◌, inl, inr, ⊎_elim, ℕ, zero, suc, ◌≤◌, Bool, true, false, List, [], ◌∷◌, ◌++◌, map, Option, Some, None, refl, sym, ap, ◌∙◌, subst, arith}
+use Rattle.std.proofs.Common.{◌≡◌, ◌⊎◌, inl, inr, ⊎_elim, ℕ, zero, suc, ◌≤◌, Bool, true, false, List, [], ◌∷◌, ◌++◌, length, map, Option, Some, None, refl, sym, ap, ◌∙◌, subst, arith}
 use Rattle.std.proofs.Common.{append-nil}
 use Rattle.std.specs.List.{AllByRecursion}
 use Rattle.std.specs.Option.{option_to_list}
@@ -59,13 +59,13 @@ entity_possible own (Memory m) f = memory_possible m f
 entity_possible own (Global g) f = tt
 entity_possible own (Tag t) f = (f.0, f.1)
 
-pub decl_possible : (around : List CoreEntry) (own : List Function) (d : ModuleDecl) → FormedDecl around own d → PossibleDecl around own d
-decl_possible around own (imports m n e) f = entity_possible own e f
-decl_possible around own (declares g) f = tt
-decl_possible around own (aliases zero i) f = f
-decl_possible around own (aliases (suc zero) i) f = f
-decl_possible around own (aliases (suc (suc n)) i) f = tt
-decl_possible around own (exports n e) f = entity_possible own e f
+pub decl_possible : (around : List CoreEntry) (far : ℕ) (own : List Function) (d : ModuleDecl) → FormedDecl around own d → PossibleDecl around far own d
+decl_possible around far own (imports m n e) f = entity_possible own e f
+decl_possible around far own (declares g) f = tt
+decl_possible around far own (aliases zero i) f = f
+decl_possible around far own (aliases (suc zero) i) f = f
+decl_possible around far own (aliases (suc (suc n)) i) f = absurd (let z : None ≡ Some f.0 = f.1 in cc)
+decl_possible around far own (exports n e) f = entity_possible own e f
 
 -- what is well formed names no scope beyond the one around it
 pub never_beyond : (around : List CoreEntry) (own : List Function) (d : ModuleDecl) → FormedDecl around own d → is_beyond d ≡ false
@@ -76,17 +76,18 @@ never_beyond around own (imports m n e) f = refl
 never_beyond around own (declares g) f = refl
 never_beyond around own (exports n e) f = refl
 
-module_possible : (around : List CoreEntry) (own : List Function) (ds : List ModuleDecl) → FormedDecls around own ds → PossibleModule around own ds
-module_possible around own [] f = tt
-module_possible around own (d ∷ ds) f = (decl_possible around own d f.0, λ b. module_possible around (own ++ adds around own d) ds f.1)
+module_possible : (around : List CoreEntry) (far : ℕ) (own : List Function) (ds : List ModuleDecl) → FormedDecls around own ds → PossibleModule around far own ds
+module_possible around far own [] f = tt
+module_possible around far own (d ∷ ds) f =
+    (decl_possible around far own d f.0, λ b. module_possible around far (own ++ adds around own d) ds f.1)
 
-pub core_possible : (e : CoreEntry) (around : List CoreEntry) → FormedCore e around → PossibleCore e around
-core_possible (core_func g) around f = tt
-core_possible (core_module ds) around f = (module_possible around [] ds f.0, f.1)
+pub core_possible : (e : CoreEntry) (around : List CoreEntry) (far : ℕ) → FormedCore e around → PossibleCore e around far
+core_possible (core_func g) around far f = tt
+core_possible (core_module ds) around far f = (module_possible around far [] ds f.0, f.1)
 
-pub cores_possible : (es : List CoreEntry) (own : Scope) → FormedCores es own → PossibleCores es own
-cores_possible [] own f = tt
-cores_possible (e ∷ es) own f = (core_possible e own.core_types f.0, cores_possible es (with_core_type own e) f.1)
+pub cores_possible : (es : List CoreEntry) (own : Scope) (far : ℕ) → FormedCores es own → PossibleCores es own far
+cores_possible [] own far f = tt
+cores_possible (e ∷ es) own far f = (core_possible e own.core_types far f.0, cores_possible es (with_core_type own e) far f.1)
 
 -- ---- types
 
@@ -130,7 +131,7 @@ mutual
   entry_possible (instance_type ds) own outer f = (declarations_possible ds _ (own ∷ outer) f.0, f.1, named_possible true _ f.2)
 
   pub declaration_possible : (d : Decl) (own : Scope) (outer : List Scope) → FormedDeclaration d own outer → PossibleDeclaration d own outer
-  declaration_possible (core_type_decl t k) own outer f = core_possible t own.core_types f
+  declaration_possible (core_type_decl t k) own outer f = core_possible t own.core_types (length outer) f
   declaration_possible (type_decl e) own outer f = entry_possible e own outer f
   declaration_possible (type_alias count i k) own outer f = f
   declaration_possible (core_type_alias count i k) own outer f = f

@@ -1,7 +1,7 @@
 -- What the standard asks of types and core types, with no bound and no choice of Lupinanon's own (Explainer.md, type and core type
 -- definitions, index spaces; core specification, memory and table types). What is well formed is possible; what is not possible is
 -- invalid for every validator.
-use Rattle.std.specs.Prelude.{◌≡◌, ◌⊎◌, ℕ, zero, suc, ◌≤◌, Bool, true, false, List, [], ◌∷◌, ◌++◌, map, length, Option, IfSome, Some, slice_get, bytes_eq, codes, nat_eq}
+use Rattle.std.specs.Prelude.{◌≡◌, ◌⊎◌, ℕ, zero, suc, ◌<◌, ◌≤◌, Bool, true, false, List, [], ◌∷◌, ◌++◌, map, length, Option, IfSome, Some, slice_get, bytes_eq, codes, nat_eq}
 use Rattle.std.specs.List.{AllByRecursion, IsDistinct, list_any}
 use Rattle.std.specs.Option.{is_some, option_to_list}
 use Rattle.smith_format.specs.CoreTypes.{Function}
@@ -62,14 +62,15 @@ PossibleEntity own (Memory m) = PossibleMemory m
 PossibleEntity own (Global g) = Unit {0}
 PossibleEntity own (Tag t) = (f : Function) × (slice_get own t.func_type_idx ≡ Some f)
 
--- A declaration after these own types. Nothing is asked of an outer alias of a scope beyond the one around the module type.
-abbrev pub PossibleDecl : List CoreEntry → List Function → ModuleDecl → Type 0
-PossibleDecl around own (imports m n e) = PossibleEntity own e
-PossibleDecl around own (declares f) = Unit {0}
-PossibleDecl around own (aliases zero i) = (f : Function) × (slice_get own i ≡ Some f)
-PossibleDecl around own (aliases (suc zero) i) = (f : Function) × (func_in (slice_get around i) ≡ Some f)
-PossibleDecl around own (aliases (suc (suc n)) i) = Unit {0}
-PossibleDecl around own (exports n e) = PossibleEntity own e
+-- A declaration after these own types, with so many scopes beyond the one around the module type. Of an outer alias of one of these it is asked only that
+-- the scope is there.
+abbrev pub PossibleDecl : List CoreEntry → ℕ → List Function → ModuleDecl → Type 0
+PossibleDecl around far own (imports m n e) = PossibleEntity own e
+PossibleDecl around far own (declares f) = Unit {0}
+PossibleDecl around far own (aliases zero i) = (f : Function) × (slice_get own i ≡ Some f)
+PossibleDecl around far own (aliases (suc zero) i) = (f : Function) × (func_in (slice_get around i) ≡ Some f)
+PossibleDecl around far own (aliases (suc (suc n)) i) = n < far
+PossibleDecl around far own (exports n e) = PossibleEntity own e
 
 -- Is it an outer alias of such a scope?
 abbrev pub is_beyond : ModuleDecl → Bool
@@ -77,20 +78,20 @@ is_beyond (aliases (suc (suc n)) i) = true
 is_beyond _ = false
 
 -- Declarations in a row: each is judged after those before it, and none after an outer alias of such a scope.
-abbrev pub PossibleModule : List CoreEntry → List Function → List ModuleDecl → Type 0
-PossibleModule around own [] = Unit {0}
-PossibleModule around own (d ∷ ds) =
-    PossibleDecl around own d × (is_beyond d ≡ false → PossibleModule around (own ++ adds around own d) ds)
+abbrev pub PossibleModule : List CoreEntry → ℕ → List Function → List ModuleDecl → Type 0
+PossibleModule around far own [] = Unit {0}
+PossibleModule around far own (d ∷ ds) =
+    PossibleDecl around far own d × (is_beyond d ≡ false → PossibleModule around far (own ++ adds around own d) ds)
 
--- a core type among the core types around it
-abbrev pub PossibleCore : CoreEntry → List CoreEntry → Type 0
-PossibleCore (core_func f) around = Unit {0}
-PossibleCore (core_module ds) around = PossibleModule around [] ds × HasNewNames ds
+-- a core type among the core types around it, with so many scopes beyond them
+abbrev pub PossibleCore : CoreEntry → List CoreEntry → ℕ → Type 0
+PossibleCore (core_func f) around far = Unit {0}
+PossibleCore (core_module ds) around far = PossibleModule around far [] ds × HasNewNames ds
 
 -- core types in a row: each is judged after those before it
-abbrev pub PossibleCores : List CoreEntry → Scope → Type 0
-PossibleCores [] own = Unit {0}
-PossibleCores (e ∷ es) own = PossibleCore e own.core_types × PossibleCores es (with_core_type own e)
+abbrev pub PossibleCores : List CoreEntry → Scope → ℕ → Type 0
+PossibleCores [] own far = Unit {0}
+PossibleCores (e ∷ es) own far = PossibleCore e own.core_types far × PossibleCores es (with_core_type own e) far
 
 -- The scope after a declaration in it: an import of a type adds that type too.
 abbrev pub after_possible : {N K : Type 0} → List Scope → Scope → DeclOf N K → Scope
@@ -109,7 +110,7 @@ abbrev mutual
       × (decl_imports ds ≡ []) × PossibleNames true (names (decl_exports ds))
 
   pub PossibleDeclaration : Decl → Scope → List Scope → Type 0
-  PossibleDeclaration (core_type_decl t k) own outer = PossibleCore t own.core_types
+  PossibleDeclaration (core_type_decl t k) own outer = PossibleCore t own.core_types (length outer)
   PossibleDeclaration (type_decl e) own outer = PossibleEntry e own outer
   PossibleDeclaration (type_alias count i k) own outer = (e : Entry) × (type_named (own ∷ outer) count i ≡ Some e)
   PossibleDeclaration (core_type_alias count i k) own outer = (e : CoreEntry) × (core_type_named (own ∷ outer) count i ≡ Some e)

@@ -130,7 +130,7 @@ mutual
   part_possible : (p : Part) (outer : List Scope) (before : Tree) → FormedPart p outer before → PossiblePart p outer (spaces_of before) before
   part_possible (custom name contents) outer before f = tt
   part_possible (core_module text) outer before f = tt
-  part_possible (core_types ts) outer before f = cores_possible ts (scope_of before) f
+  part_possible (core_types ts) outer before f = cores_possible ts (scope_of before) (length outer) f
   part_possible (component t) outer before f = parts_possible t (scope_of before ∷ outer) ends f
   part_possible (types ts) outer before f = types_possible ts (scope_of before) outer f
   part_possible (canons fs) outer before f = canons_possible fs (spaces_of before) f

@@ -1,6 +1,6 @@
 -- What the standard asks of a component, with no bound and no choice of Lupinanon's own (Explainer.md, index spaces; CanonicalABI.md,
 -- canon lift, canon lower, flattening). What is well formed is possible; what is not possible is invalid for every validator.
-use Rattle.std.specs.Prelude.{◌≡◌, ℕ, Bool, true, false, List, [], ◌∷◌, ◌++◌, map, fold, not, Option, Some, None, slice_get}
+use Rattle.std.specs.Prelude.{◌≡◌, ℕ, Bool, true, false, List, [], ◌∷◌, ◌++◌, map, fold, length, not, Option, Some, None, slice_get}
 use Rattle.std.specs.List.{AllByRecursion, list_all, list_any}
 use Rattle.std.specs.Option.{is_some, option_to_list}
 use Rattle.smith_syntax.specs.Entries.{Entry, ImportEntry, Signature, defined, function, list_type, primitive_type}
@@ -82,7 +82,7 @@ abbrev mutual
   pub PossiblePart : Part → List Scope → Spaces → Tree → Type 0
   PossiblePart (custom name contents) outer s before = Unit {0}
   PossiblePart (core_module text) outer s before = Unit {0}
-  PossiblePart (core_types ts) outer s before = PossibleCores ts (scope_in s)
+  PossiblePart (core_types ts) outer s before = PossibleCores ts (scope_in s) (length outer)
   PossiblePart (component t) outer s before = PossibleParts t (scope_in s ∷ outer) no_spaces ends
   PossiblePart (types ts) outer s before = PossibleTypes ts (scope_in s) outer
   PossiblePart (canons fs) outer s before = PossibleCanons fs s

@@ -117,7 +117,7 @@ module _ (bytes : List ℕ) (offset : ℕ) (rests front : Rests) (current : Bor 
       let s = all_push front current in
       (λ f. s.0 (subst AllSections e (w.whole.0 f)), λ p. w.whole.1 (subst AllSections (sym e) (s.1 p)))
 
-  left_here : offset + held front + length current.now ≤ length bytes
+  pub left_here : offset + held front + length current.now ≤ length bytes
   left_here = omega (arith, w.left, ap held e, held_push front current)
 
   -- Nothing is left of it.
@@ -128,9 +128,10 @@ module _ (bytes : List ℕ) (offset : ℕ) (rests front : Rests) (current : Bor 
       empty [] n = ends
       empty (b ∷ bs) n = absurd (omega arith)
 
-  -- It begins with no section.
-  pub walk_stop : 0 < length current.now → section_at current.now ≡ None → (Framed bytes → ⊥) × (offset ≤ length bytes)
-  walk_stop l n = (λ f. none_of current.now (here.0 f).1 l n, omega (arith, left_here))
+  -- It begins with no section, as was seen at an offset in it or at its end.
+  pub walk_stop : (seen : ℕ) → seen ≤ offset + length current.now → 0 < length current.now → section_at current.now ≡ None
+      → (Framed bytes → ⊥) × (seen ≤ length bytes)
+  walk_stop seen within l n = (λ f. none_of current.now (here.0 f).1 l n, omega (arith, left_here, within))
 
   -- It begins with one.
   module _ (rest inside : Bor (List ℕ)) (f : section_at current.now ≡ Some (inside.now, rest.now)) where

@@ -1,3 +1,4 @@
+pub mod Answers
 pub mod Contained
 pub mod Framed
 pub mod Gives
@@ -7,3 +8,5 @@ pub mod Verdicts
 pub mod Modules
 pub mod ModuleSections
 pub mod ModuleReading
+pub mod Findings
+pub mod ModuleWalk

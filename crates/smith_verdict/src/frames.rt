@@ -7,7 +7,6 @@ ghost use Rattle.smith_verdict.specs.Gives.{Gives};
 
 use smith_core::COMPONENT_PREAMBLE;
 use std::alloc::{AllocError, Global};
-use std::fmt;
 
 // What a core module begins with.
 const MAGIC: [u8; 4] = [0x00, 0x61, 0x73, 0x6d];
@@ -19,42 +18,35 @@ const LIMIT: u64 = 4_294_967_296;
 const LAST_ID: u8 = 12;
 
 /// What is wrong with a frame; each says what has to hold (Binary.md, component definitions).
-#[derive(Clone, Copy, Debug, PartialEq, Eq, thiserror::Error)]
+#[derive(Clone, Copy, Debug, PartialEq, Eq)]
 pub enum BrokenFrame {
     /// A component begins with its preamble of eight bytes, and a core module with the four bytes `\0asm`.
-    #[error("a preamble is missing")]
     Preamble,
     /// The id of a section is at most 12.
-    #[error("no section has that id")]
     Section,
     /// The length of a section is a number of 32 bits in at most five bytes, and no more than the bytes behind it.
-    #[error("the length of a section is no number, or more than the bytes behind it")]
     Frame,
     /// The count of a list is a number of 32 bits in at most five bytes, and no more than the bytes behind it, since
     /// each entry has one at least.
-    #[error("the count of a list is no number, or more than the bytes behind it")]
     Count,
 }
 
 /// Whether bytes have the frames of a component.
-///
-/// As text: `framed`, or what is wrong and where, such as `no section has that id at offset 8`.
 #[derive(Debug, PartialEq, Eq, Drop)]
 pub enum Framing {
     /// They have.
     Framed,
-    /// They have not: what is wrong, and the offset of the section with which it is wrong, which is that of its id. If
-    /// the preamble of the whole is missing, it is 0. It is at most the length; no contract says more of either.
+    /// They have not: what is wrong, and the offset at which that was seen: a preamble where it is missing, an id where
+    /// it is, a length behind it, or at the id before it if it is no number, and a count at the end of its section. It
+    /// is at most the length; no contract says more of either.
     Unframed { broken: BrokenFrame, offset: usize },
 }
 
-impl fmt::Display for Framing {
-    fn fmt<W: fmt::Write>(&self, f: &mut fmt::Formatter<W>) -> fmt::Result {
-        match self {
-            Framing::Framed => f.write_str("framed"),
-            Framing::Unframed { broken, offset } => write!(f, "{broken} at offset {offset}"),
-        }
-    }
+// What is wrong with the section in front, and how many bytes there are from where that is seen.
+#[derive(Clone, Copy)]
+struct Break {
+    broken: BrokenFrame,
+    left: usize,
 }
 
 // What follows those bytes, if they are in front.
@@ -76,6 +68,7 @@ fn number_below(limit: u64, bytes: &[u8]) -> Option<(u64, &[u8])>
     requires { limit ≤ 2 ^ 32 }
     ensures found { option_map (λ x. (x.0, x.1.now)) result ≡ number_below limit bytes.now }
     ensures below { IfSome result (λ x. x.0 < limit) }
+    ensures shorter { IfSome result (λ x. length x.1.now ≤ length bytes.now) }
 {
     if bytes.is_empty() {
         return None;
@@ -129,19 +122,53 @@ fn sections_in(id: u8, contents: &[u8]) -> Result<&[u8], BrokenFrame>
     }
 }
 
+// Where the section that these bytes follow has no frame: behind its length, or at its id if there is no length.
+fn frame_break(bytes: &[u8]) -> Break
+    requires { length bytes.now < 2 ^ 64 - 1 }
+    ensures { result.left ≤ length bytes.now + 1 }
+{
+    let broken = BrokenFrame::Frame;
+    match number_below(LIMIT, bytes) {
+        Some((_, rest)) => Break {
+            broken,
+            left: rest.len(),
+        },
+        None => Break {
+            broken,
+            left: bytes.len() + 1,
+        },
+    }
+}
+
+// Where the contents of a section are broken: a preamble at their beginning, and a count at their end.
+fn contents_break(broken: BrokenFrame, contents: &[u8], rest: &[u8]) -> Break {
+    let left = match broken {
+        BrokenFrame::Preamble => contents.len().saturating_add(rest.len()),
+        BrokenFrame::Section | BrokenFrame::Frame | BrokenFrame::Count => rest.len(),
+    };
+    Break { broken, left }
+}
+
 // The sections inside the section in front, and what follows it.
 #[tactic(auto, unfolding(crate::specs::Framed::section_at))]
-fn section_of(bytes: &[u8]) -> Result<(&[u8], &[u8]), BrokenFrame>
+fn section_of(bytes: &[u8]) -> Result<(&[u8], &[u8]), Break>
     requires { 0 < length bytes.now }
     ensures { Gives (λ x. (x.0.now, x.1.now)) result (section_at bytes.now) }
 {
     let id = bytes[0];
     if id > LAST_ID {
-        return Err(BrokenFrame::Section);
+        return Err(Break {
+            broken: BrokenFrame::Section,
+            left: bytes.len(),
+        });
     }
-    let (contents, rest) = counted(&bytes[1..]).ok_or(BrokenFrame::Frame)?;
-    let inside = sections_in(id, contents)?;
-    Ok((inside, rest))
+    let Some((contents, rest)) = counted(&bytes[1..]) else {
+        return Err(frame_break(&bytes[1..]));
+    };
+    match sections_in(id, contents) {
+        Ok(inside) => Ok((inside, rest)),
+        Err(broken) => Err(contents_break(broken, contents, rest)),
+    }
 }
 
 /// Whether bytes have the frames that a component has for any reader of the standard, whatever its grammar: the
@@ -174,7 +201,10 @@ pub fn framed(alloc: Global, bytes: &[u8]) -> Result<Framing, AllocError>
                 rests.push(rest)?;
                 rests.push(inside)?;
             }
-            Err(broken) => return Ok(Framing::Unframed { broken, offset }),
+            Err(Break { broken, left }) => {
+                let offset = offset + current.len().saturating_sub(left);
+                return Ok(Framing::Unframed { broken, offset });
+            }
         }
     }
     Ok(Framing::Framed)

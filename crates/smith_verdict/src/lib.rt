@@ -1,15 +1,18 @@
-//! What bytes are: a component that is well formed, one that is not, or none that is read; and whether they have the
-//! frames of a component.
+//! What bytes are: a component that is well formed, one that is not, or none that is read; and what they are to
+//! validators of the standard.
 #![tactic(auto)]
 
+mod answer;
 mod contained;
 mod frames;
 pub mod laws;
 mod module_sections;
+mod module_walk;
 mod modules;
 mod validity;
 mod verdict;
 
+pub use answer::{Answer, Bound, Broken, Outside, answer};
 pub use frames::{BrokenFrame, Framing, framed};
 pub use smith_check::Rule;
 pub use smith_read::Reason;

@@ -1,4 +1,4 @@
-use Rattle.std.proofs.Common.{◌++◌, List, [], ap, map, refl, subst, sym, ◌∙◌}
+use Rattle.std.proofs.Common.{◌++◌, List, [], ap, length, map, refl, subst, sym, ◌∙◌}
 use Rattle.std.specs.Borrow.{Bor}
 use Rattle.smith_format.specs.declared.types.FuncType.{FuncType}
 use Rattle.smith_syntax.specs.ModuleTypes.{HasNewNames}
@@ -6,7 +6,7 @@ use Rattle.smith_syntax.proofs.Possible.{never_beyond}
 use Rattle.smith_syntax.specs.Possible.{PossibleModule}
 use Rattle.smith_syntax.specs.WellFormed.{FormedDecls}
 use Rattle.smith_read.specs.Nodes.{shown_module_node}
-use Rattle.smith_scopes.specs.NodeScopes.{own_in}
+use Rattle.smith_scopes.specs.NodeScopes.{outer_in, own_in}
 use Rattle.smith_check.specs.Preceding.{functions_in}
 use Rattle.smith_check.specs.Taken.{HoldsModule}
 use Rattle.smith_check.proofs.Grading.{breaks_by, breaks_refuted, grades_passed}
@@ -21,8 +21,9 @@ loop-decl-init c = record {
       (FormedDecls (own_in c.args.scopes.now).core_types (functions_in fs) (map shown_module_node c.args.decls.now)))
       (sym c.new-own.ensures.items) same_all;
   may = subst
-      (λ (fs : List (Bor FuncType)). PossibleModule (own_in c.args.scopes.now).core_types [] (map shown_module_node c.args.decls.now)
-      → PossibleModule (own_in c.args.scopes.now).core_types (functions_in fs) (map shown_module_node c.args.decls.now))
+      (λ (fs : List (Bor FuncType)). PossibleModule (own_in c.args.scopes.now).core_types (length (outer_in c.args.scopes.now)) []
+      (map shown_module_node c.args.decls.now) → PossibleModule (own_in c.args.scopes.now).core_types (length (outer_in c.args.scopes.now)) (functions_in fs)
+      (map shown_module_node c.args.decls.now))
       (sym c.new-own.ensures.items) (λ p. p);
   holds = c.new-names.ensures;
   new = no_new_names;
@@ -41,7 +42,7 @@ loop-decl-preserved c =
           c.loop-decl-test.true c.decl-item.is added)
           formed;
       may = λ p.
-          (module_at around shown_module_node c.args.decls.now c.loop-decl.decl-index c.decl-item.result own (functions_in c.push_function.new.own.items)
+          (module_at around (length (outer_in c.args.scopes.now)) shown_module_node c.args.decls.now c.loop-decl.decl-index c.decl-item.result own (functions_in c.push_function.new.own.items)
           c.loop-decl-test.true c.decl-item.is added (c.loop-decl.invariant.may p)).1
           (never_beyond around own (shown_module_node c.decl-item.result) formed);
       holds = subst (HoldsModule c.add.new.self) more ((c.in_ok-add.ensures {u = tt}).added _ c.loop-decl.invariant.holds);
@@ -64,7 +65,7 @@ returns-in_err-check_module_decl-clause-graded c =
     let own = functions_in c.loop-decl.own.items in
     grades_passed _ _ c.from_residual.ensures.1
     (breaks_by
-    (λ p. (module_at around shown_module_node c.args.decls.now c.loop-decl.decl-index c.decl-item.result own _ c.loop-decl-test.true c.decl-item.is refl
+    (λ p. (module_at around (length (outer_in c.args.scopes.now)) shown_module_node c.args.decls.now c.loop-decl.decl-index c.decl-item.result own _ c.loop-decl-test.true c.decl-item.is refl
     (c.loop-decl.invariant.may p.0)).0)
     (rw c.deref.ensures.value at (c.in_err-check_module_decl.ensures {u = tt}).graded))
 

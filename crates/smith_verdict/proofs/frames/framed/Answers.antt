@@ -32,4 +32,4 @@ loop-current-preserved c =
 pub returns-in-Err : goal.returns-in-Err
 returns-in-Err c =
     let l : 0 < length c.in-Some-pop.current.now = search rules in
-    walk_stop c.args.bytes.now c.loop-current.offset _ _ _ c.in-Some-pop.ensures.items c.loop-current.invariant l c.in-Err.ensures
+    walk_stop c.args.bytes.now c.loop-current.offset _ _ _ c.in-Some-pop.ensures.items c.loop-current.invariant _ (search rules) l c.in-Err.ensures
