@@ -7,6 +7,14 @@ use Rattle.smith_c.proofs.Validates.{beyond_at, broken_at}
 use Rattle.smith_c.proofs.validate.lupinanon_proved_validate.Goals as goal
 use Rattle.smith_c.proofs.validate.lupinanon_proved_validate.Goals.{in-Ok-Valid, in-Ok-Invalid, in-Ok-Bound, in-Ok-Outside, in-Err}
 
+pub returns-clause-valid : goal.returns-clause-valid
+returns-clause-valid c is = elim c.match-answer.branch [
+    in-Ok-Valid w ↦ (subst (IsAnswer c.args.bytes.now) w.in-Ok-Valid.field-0-is w.in-Ok-Valid.ensures, search rules, search rules)
+  | in-Ok-Invalid w ↦ search rules
+  | in-Ok-Bound w ↦ search rules
+  | in-Ok-Outside w ↦ search rules
+  | in-Err w ↦ search rules ]
+
 pub returns-clause-invalid : goal.returns-clause-invalid
 returns-clause-invalid c is = elim c.match-answer.branch [
     in-Ok-Valid w ↦ search rules
