@@ -7,3 +7,6 @@ pub mod WellFormed
 mod TellingModules
 mod Judging
 mod Loops
+pub mod ModuleWalk
+pub mod Answering
+pub mod Answered
