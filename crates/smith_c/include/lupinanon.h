@@ -126,8 +126,8 @@ enum LupinanonStatus {
 };
 
 /* How many bytes of stack a call takes at most, with a fifth to spare: within limits of that max_nesting_depth, and at
- * 1000 also lupinanon_check and lupinanon_script_into of any bytes: theirs grows with how deep the bytes nest, whatever
- * the limits. At 1000, the greatest depth, that is 2 MiB. */
+ * 1000 also lupinanon_check, lupinanon_validate and lupinanon_script_into of any bytes: theirs grows with how deep the
+ * bytes nest, whatever the limits. At 1000, the greatest depth, that is 2 MiB. */
 #define LUPINANON_STACK(max_nesting_depth) (49152 + 2048 * (size_t)(max_nesting_depth))
 
 /* What lupinanon_check, lupinanon_validate and lupinanon_script_into write if they know no offset. */

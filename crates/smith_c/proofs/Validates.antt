@@ -2,9 +2,9 @@
 use Rattle.std.proofs.Common.{◌≡◌, ℕ, List, Option, None, Some, subst, sym}
 use Rattle.std.specs.Option.{unwrap_or}
 use Rattle.smith_verdict.specs.Answers.{AreBeyond, IsAnswer}
-use Rattle.smith_verdict.specs.declared.answer.Answer.TheVariants as answer
-use Rattle.smith_verdict.specs.declared.answer.Bound.{Bound}
-use Rattle.smith_verdict.specs.declared.answer.Broken.{Broken}
+use Rattle.smith_verdict.specs.declared.answers.Answer.TheVariants as answer
+use Rattle.smith_verdict.specs.declared.answers.Bound.{Bound}
+use Rattle.smith_verdict.specs.declared.answers.Broken.{Broken}
 use Rattle.smith_c.specs.Makes.{no_offset}
 
 pub broken_at : (bytes : List ℕ) (reason : Broken) (place : Option ℕ) (offset : ℕ) → offset ≡ unwrap_or place no_offset

@@ -5,12 +5,12 @@ use Rattle.smith_check.specs.declared.error.Rule.TheVariants.{NoType, NoFunction
 use Rattle.smith_check.specs.declared.error.Rule.TheVariants.{Kebab, NameTwice, TagResults, Memory, Table, NotScalar, NotFlat}
 use Rattle.smith_read.specs.declared.unread.Reason.{Reason}
 use Rattle.smith_read.specs.declared.unread.Reason.TheVariants as reason
-use Rattle.smith_verdict.specs.declared.answer.Bound.{Bound}
-use Rattle.smith_verdict.specs.declared.answer.Bound.TheVariants as bound
-use Rattle.smith_verdict.specs.declared.answer.Broken.{Broken}
-use Rattle.smith_verdict.specs.declared.answer.Broken.TheVariants as broken
-use Rattle.smith_verdict.specs.declared.answer.Outside.{Outside}
-use Rattle.smith_verdict.specs.declared.answer.Outside.TheVariants as outside
+use Rattle.smith_verdict.specs.declared.answers.Bound.{Bound}
+use Rattle.smith_verdict.specs.declared.answers.Bound.TheVariants as bound
+use Rattle.smith_verdict.specs.declared.answers.Broken.{Broken}
+use Rattle.smith_verdict.specs.declared.answers.Broken.TheVariants as broken
+use Rattle.smith_verdict.specs.declared.answers.Outside.{Outside}
+use Rattle.smith_verdict.specs.declared.answers.Outside.TheVariants as outside
 
 -- a rule of well-formed components, below 100
 abbrev pub rule_place : Rule → ℕ

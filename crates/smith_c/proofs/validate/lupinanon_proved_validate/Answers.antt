@@ -1,8 +1,8 @@
 use Rattle.std.proofs.Common.{rules, ◌≡◌, subst}
 use Rattle.smith_verdict.proofs.Answered.{sound_law}
 use Rattle.smith_verdict.specs.Answers.{IsAnswer}
-use Rattle.smith_verdict.specs.declared.answer.Answer.{Answer}
-use Rattle.smith_verdict.specs.declared.answer.Answer.TheVariants as answer
+use Rattle.smith_verdict.specs.declared.answers.Answer.{Answer}
+use Rattle.smith_verdict.specs.declared.answers.Answer.TheVariants as answer
 use Rattle.smith_c.proofs.Validates.{beyond_at, broken_at}
 use Rattle.smith_c.proofs.validate.lupinanon_proved_validate.Goals as goal
 use Rattle.smith_c.proofs.validate.lupinanon_proved_validate.Goals.{in-Ok-Valid, in-Ok-Invalid, in-Ok-Bound, in-Ok-Outside, in-Err}
