@@ -11,7 +11,7 @@ use Rattle.smith_tree.proofs.Weaker.{weaker_tree}
 use Rattle.smith_read.specs.Reads.{most_depth}
 use Rattle.smith_validate.specs.Outcome.{asking}
 use Rattle.smith_validate.specs.declared.error.Demand.TheVariants.{Named}
-use Rattle.smith_verdict.specs.Answers.{AreBroken, AreUnframed, IsAnswer, IsBounded, IsNamed, IsSound}
+use Rattle.smith_verdict.specs.Answers.{AreUnframed, IsAnswer, IsBounded, IsNamed, IsSound}
 use Rattle.smith_verdict.specs.Modules.{BoundedModule, SoundModule}
 use Rattle.smith_verdict.specs.declared.answers.Answer.{Answer}
 use Rattle.smith_verdict.specs.declared.answers.Answer.TheVariants as answer

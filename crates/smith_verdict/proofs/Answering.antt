@@ -1,18 +1,16 @@
 -- What is found of a component is what its bytes are answered to be.
-use Rattle.std.proofs.Common.{◌≡◌, ◌<◌, ◌≤◌, ℕ, List, Option, None, Some, refl, subst, sym, ◌∙◌}
+use Rattle.std.proofs.Common.{◌≡◌, ◌<◌, ℕ, List, Option, Some, subst, sym, ◌∙◌}
 use Rattle.std.specs.List.{AllByRecursion, Contains}
 use Rattle.std.proofs.lemmas.List.Elements.{All-contains, All-from_recursion}
-use Rattle.smith_tree.specs.Depths.{scope_depth}
 use Rattle.smith_tree.specs.Grammar.{Spells}
-use Rattle.smith_tree.specs.Possible.{Possible}
 use Rattle.smith_tree.specs.Tree.{Tree, modules}
 use Rattle.smith_tree.specs.WellFormed.{WellFormed}
 use Rattle.smith_tree.proofs.Clear.{spells_law}
 use Rattle.smith_read.specs.Items.{items}
 use Rattle.smith_read.specs.Places.{offset_in}
-use Rattle.smith_read.specs.Reads.{AreUnread, most_depth}
+use Rattle.smith_read.specs.Reads.{AreUnread}
 use Rattle.smith_check.specs.Judgement.{Agrees}
-use Rattle.smith_check.specs.declared.error.Asker.TheVariants.{Lupinanon, Standard}
+use Rattle.smith_check.specs.declared.error.Asker.TheVariants.{Standard}
 use Rattle.smith_check.specs.declared.error.Fault.{Fault}
 use Rattle.smith_check.specs.declared.error.Judgement.TheVariants as judgement
 use Rattle.smith_validate.specs.Outcome.{FallsShort}

@@ -1,5 +1,5 @@
 -- What is found of core modules, step by step.
-use Rattle.std.proofs.Common.{◌≡◌, ◌<◌, ◌≤◌, ℕ, ◌+◌, List, [], ◌∷◌, ◌++◌, append-nil, append_assoc, arith, ap, refl, subst, sym, ◌∙◌}
+use Rattle.std.proofs.Common.{◌≡◌, ◌≤◌, ℕ, ◌+◌, List, [], ◌∷◌, ◌++◌, append-nil, append_assoc, arith, ap, refl, subst, sym, ◌∙◌}
 use Rattle.std.proofs.lemmas.Grind.{flat_map-append}
 use Rattle.std.proofs.lemmas.List.Elements.{Contains-append_left, Contains-push}
 use Rattle.std.specs.Borrow.{Bor}
@@ -120,7 +120,7 @@ finding_first t xs e = record {
 pub finding_next : (t : Tree) (x : Step) (xs steps : List Step) (item then : ℕ) (found now : Modules) → steps ≡ x ∷ xs → Finding t steps item found
     → then ≡ item + items_at x → ((texts : List (List ℕ)) → AreModules item texts found → AreModules (item + items_at x) (texts ++ texts_in x) now)
     → Finding t xs then now
-finding_next t x xs steps item then found now e f is more = record {
+finding_next t x xs steps item then before now e f is more = record {
   texts = f.texts ++ texts_in x;
   all = f.all ∙ ap (λ l. f.texts ++ texts_of l) e ∙ sym (append_assoc f.texts (texts_in x) (texts_of xs));
   count = omega (arith, f.count, ap counted e, is);

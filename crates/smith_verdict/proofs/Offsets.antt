@@ -1,12 +1,12 @@
 -- Each item at which a component stops having a property has an offset.
-use Rattle.std.proofs.Common.{◌≡◌, ℕ, zero, suc, ◌+◌, ◌-◌, ◌<◌, ◌≤◌, List, [], ◌∷◌, ◌++◌, length, take, Option, Some, None, option_map, refl}
+use Rattle.std.proofs.Common.{◌≡◌, ℕ, zero, suc, ◌+◌, ◌-◌, ◌<◌, ◌≤◌, List, [], ◌++◌, length, take, Option, Some, None, option_map, refl}
 use Rattle.std.proofs.Common.{ap, sym, ◌∙◌, subst, arith, Bool, true, false, cond, nat_lt}
 use Rattle.std.proofs.lemmas.Bool.{le-ltb, lt-ltb, ltb-false, ltb-true}
 use Rattle.smith_format.specs.Piece.{Piece, ◌⊕◌, bytes, each, many, u}
 use Rattle.smith_format.proofs.Piece.{parts_are}
 use Rattle.smith_syntax.specs.Grammar.{core_entry, entry, import_entry}
 use Rattle.smith_tree.specs.Depths.{scope_depth}
-use Rattle.smith_tree.specs.Grammar.{Spells, canon, component_text, export_entry, part, parts, preamble}
+use Rattle.smith_tree.specs.Grammar.{Spells, canon, export_entry, part, parts, preamble}
 use Rattle.smith_tree.specs.Tree.{Part, Tree, canons, component, core_module, core_types, custom, ends, exports, first, imports, types}
 use Rattle.smith_tree.specs.Validates.{Validates}
 use Rattle.smith_tree.specs.WellFormed.{WellFormed}
