@@ -7,3 +7,5 @@ pub mod WellFormed
 mod TellingModules
 mod Judging
 mod Loops
+pub mod GeneratedModules
+pub mod GeneratedNames

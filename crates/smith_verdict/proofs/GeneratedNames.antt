@@ -1,0 +1,154 @@
+-- How long names are that are made new: a text of at most 101 bytes, and behind it how many names there were, in decimal digits.
+use Rattle.std.proofs.Common.{◌≡◌, ◌⊎◌, inl, inr, ℕ, zero, suc, ◌+◌, ◌*◌, ◌/◌, ◌%◌, ◌<◌, ◌≤◌, ◌^◌, Bool, true, false, ◌||◌, if◌then◌else◌, List, [], ◌∷◌, ◌++◌}
+use Rattle.std.proofs.Common.{length, bytes_eq, drop, refl, sym, ap, ◌∙◌, subst, arith, append_assoc, append-nil}
+use Rattle.std.proofs.Math.Seq.{drop-append_seam}
+use Rattle.std.proofs.lemmas.Bool.{cases_lt, leb-true}
+use Rattle.std.proofs.lemmas.Fmt.{decimal_digit, decimal_injective, decimal_step, length-decimal-le}
+use Rattle.std.proofs.lemmas.List.{length-append}
+use Rattle.std.proofs.lemmas.Slice.Eq.{bytes_eq-Decides}
+use Rattle.std.specs.Fmt.{decimal}
+use Rattle.std.specs.List.{AllByRecursion, list_any}
+use Rattle.smith_input.specs.NameScript.{AreReachable, IsReachable, IsReachableText, is_short, is_within, last_word_is_a}
+use Rattle.smith_input.specs.NewNames.{IsMadeNew, appended, is_among}
+use Rattle.smith_input.proofs.Digits.{some_digits}
+use Rattle.smith_input.proofs.Lists.{all_both}
+
+-- A greater number has no fewer digits.
+
+one_digit : (n : ℕ) → n < 10 → length (decimal n) ≡ 1
+one_digit n h = ap length (decimal_digit n h)
+
+digit_more : (n : ℕ) → 10 ≤ n → n < 2 ^ 64 → length (decimal n) ≡ length (decimal (n / 10)) + 1
+digit_more n h k = ap length (decimal_step n h k) ∙ length-append (decimal (n / 10)) ((48 + n % 10) ∷ [])
+
+digits_rise_by : (fuel j k : ℕ) → k ≤ fuel → j ≤ k → k < 2 ^ 64 → length (decimal j) ≤ length (decimal k)
+digits_rise_by zero j k enough h small = omega (arith, one_digit j (omega (arith, h, enough)), one_digit k (omega (arith, enough)))
+digits_rise_by (suc fuel) j k enough h small = elim (cases_lt j 10) [
+  | inl low ↦ omega (arith, one_digit j low, some_digits k)
+  | inr high ↦
+      let less : length (decimal (j / 10)) ≤ length (decimal (k / 10)) =
+          digits_rise_by fuel (j / 10) (k / 10) (omega (arith, enough, high, h)) (omega (arith, h)) (omega (arith, small)) in
+      omega (arith, less, digit_more j high (omega (arith, h, small)), digit_more k (omega (arith, h, high)) small)
+]
+
+digits_rise : (j k : ℕ) → j ≤ k → k < 2 ^ 64 → length (decimal j) ≤ length (decimal k)
+digits_rise j k h small = digits_rise_by k j k (omega arith) h small
+
+few_digits : (n : ℕ) → n < 2 ^ 32 → length (decimal n) ≤ 10
+few_digits n h = length-decimal-le 10 n (omega arith) (omega (arith, h)) (omega (arith, h))
+
+same_back : (a b x y : List ℕ) → a ++ x ≡ b ++ y → length x ≡ length y → x ≡ y
+same_back a b x y e same =
+    let fronts : length a ≡ length b = omega (arith, ap length e, same, length-append a x, length-append b y) in
+    sym (drop-append_seam a x) ∙ (λ i. drop (fronts i) (e i)) ∙ drop-append_seam b y
+
+-- The name ends with the digits of a number below that many.
+pub record Numbered (many : ℕ) (name : List ℕ) : Type 0 where
+  number : ℕ
+  before : number < many
+  front : List ℕ
+  is : name ≡ front ++ decimal number
+  within : length name ≤ 101 + 20 * length (decimal number)
+
+-- or it is short
+abbrev pub Comes : ℕ → List ℕ → Type 0
+Comes many name = (length name ≤ 101) ⊎ Numbered many name
+
+-- so does each of these, among as many
+abbrev pub AllCome : List (List ℕ) → Type 0
+AllCome names = AllByRecursion (Comes (length names)) names
+
+-- A short text is made a new name.
+abbrev pub IsMadeShort : List (List ℕ) → List ℕ → Type 0
+IsMadeShort names name = (text : List ℕ) × (length text ≤ 101) × IsMadeNew names text name
+
+among_holds : (P : List ℕ → Type 0) (names : List (List ℕ)) (q : List ℕ) → is_among names q ≡ true → AllByRecursion P names → P q
+among_holds P [] q among all = absurd (cc)
+among_holds P (n ∷ ns) q among all = by_test (bytes_eq n q) refl (λ more. among_holds P ns q more all.1)
+  where
+    by_test : (b : Bool) → bytes_eq n q ≡ b → (is_among ns q ≡ true → P q) → P q
+    by_test true e later = subst P ((bytes_eq-Decides n q).0 e) all.0
+    by_test false e later = later (ap (λ b. b || is_among ns q) (sym e) ∙ among)
+
+-- What has the digits of a number behind it has only the digits of shorter numbers before them.
+fewer_digits : (many : ℕ) (text : List ℕ) (times : ℕ) → many < 2 ^ 32 → (n : Numbered many (appended text (decimal many) (suc times)))
+    → length (decimal n.number) < length (decimal many)
+fewer_digits many text times small n = elim (cases_lt (length (decimal n.number)) (length (decimal many))) [
+  | inl less ↦ less
+  | inr no_less ↦
+      let rise : length (decimal n.number) ≤ length (decimal many) = digits_rise n.number many (omega (arith, n.before)) (omega (arith, small)) in
+      let same : decimal many ≡ decimal n.number =
+          same_back (appended text (decimal many) times) n.front (decimal many) (decimal n.number) n.is (omega (arith, rise, no_less)) in
+      let number : many ≡ n.number = decimal_injective many n.number (omega (arith, small)) (omega (arith, small, n.before)) same in
+      absurd (omega (arith, number, n.before))
+]
+
+grown : (many : ℕ) (text : List ℕ) (times : ℕ) → many < 2 ^ 32 → length text ≤ 101 → Comes many (appended text (decimal many) times)
+    → length (appended text (decimal many) times) + length (decimal many) ≤ 101 + 20 * length (decimal many)
+grown many text zero small short comes = omega (arith, short, some_digits many)
+grown many text (suc times) small short (inl low) = omega (arith, low, some_digits many)
+grown many text (suc times) small short (inr n) = omega (arith, n.within, fewer_digits many text times small n, few_digits many small)
+
+comes_next : (names : List (List ℕ)) (name : List ℕ) → length names < 2 ^ 32 → AllCome names → IsMadeShort names name
+    → Comes (suc (length names)) name
+comes_next names name small all (text, short, made) = by_times made.times made.name_is made.taken
+  where
+    ds : List ℕ
+    ds = decimal (length names)
+
+    by_times : (times : ℕ) → name ≡ appended text ds times → ((n : ℕ) → n < times → is_among names (appended text ds n) ≡ true)
+        → Comes (suc (length names)) name
+    by_times zero is taken = inl (omega (arith, ap length is, short))
+    by_times (suc times) is taken =
+        let comes = among_holds (Comes (length names)) names (appended text ds times) (taken times (omega arith)) all in
+        inr (record {
+          number = length names;
+          before = omega arith;
+          front = appended text ds times;
+          is = is;
+          within = omega (arith, ap length is, length-append (appended text ds times) ds, grown (length names) text times small short comes);
+        })
+
+comes_later : (many : ℕ) (names : List (List ℕ)) → AllByRecursion (Comes many) names → AllByRecursion (Comes (suc many)) names
+comes_later many [] all = tt
+comes_later many (n ∷ ns) all = (later all.0, comes_later many ns all.1)
+  where
+    later : Comes many n → Comes (suc many) n
+    later (inl low) = inl low
+    later (inr c) = inr (record { number = c.number; before = omega (arith, c.before); front = c.front; is = c.is; within = c.within })
+
+comes_short : (many : ℕ) (name : List ℕ) → many ≤ 2 ^ 32 → Comes many name → length name ≤ 1000
+comes_short many name small (inl low) = omega (arith, low)
+comes_short many name small (inr c) = omega (arith, c.within, few_digits c.number (omega (arith, small, c.before)))
+
+-- the name that is made new, and all names there then
+pub made_short : (names : List (List ℕ)) (name : List ℕ) → length names < 2 ^ 32 → AllCome names → IsMadeShort names name
+    → (length name ≤ 1000) × AllCome (names ++ name ∷ [])
+made_short names name small all made =
+    let next = comes_next names name small all made in
+    let count : suc (length names) ≡ length (names ++ name ∷ []) = omega (arith, length-append names (name ∷ [])) in (
+      comes_short (suc (length names)) name (omega (arith, small)) next,
+      subst (λ many. AllByRecursion (Comes many) (names ++ name ∷ [])) count
+      (all_both (Comes (suc (length names))) names (name ∷ []) (comes_later (length names) names all) (next, tt)),
+    )
+
+-- Names in kebab case, and texts.
+
+pub short_read : (names : List (List ℕ)) (name : List ℕ) → IsReachable 100 names name → IsMadeShort names name
+short_read names name (text, read, made) = (text, within (last_word_is_a text) (leb-true (length text) _ read), made)
+  where
+    within : (b : Bool) → length text ≤ (if b then 101 else 100) → length text ≤ 101
+    within true h = h
+    within false h = omega (arith, h)
+
+pub short_text_read : (names : List (List ℕ)) (name : List ℕ) → IsReachableText 100 names name → IsMadeShort names name
+short_text_read names name (text, read, made) = (text, omega (arith, leb-true (length text) 100 read), made)
+
+-- names after those before them
+pub all_short : (before ns : List (List ℕ)) → length before + length ns ≤ 2 ^ 32 → AllCome before → AreReachable 100 before ns
+    → AllByRecursion (λ n. length n ≤ 1000) ns × AllCome (before ++ ns)
+all_short before [] few all read = (tt, subst AllCome (sym (append-nil before)) all)
+all_short before (n ∷ ns) few all read =
+    let one = made_short before n (omega (arith, few)) all (short_read before n read.0) in
+    let more = all_short (before ++ n ∷ []) ns (omega (arith, few, length-append before (n ∷ []))) one.1 read.1 in
+    ((one.0, more.0), subst AllCome (append_assoc before (n ∷ []) ns) more.1)
