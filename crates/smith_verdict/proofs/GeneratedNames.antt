@@ -121,15 +121,35 @@ comes_short : (many : ℕ) (name : List ℕ) → many ≤ 2 ^ 32 → Comes many 
 comes_short many name small (inl low) = omega (arith, low)
 comes_short many name small (inr c) = omega (arith, c.within, few_digits c.number (omega (arith, small, c.before)))
 
+-- Names that come so, of which there are at most that many.
+pub record AreMade (most : ℕ) (names : List (List ℕ)) : Type 0 where
+  come : AllCome names
+  few : length names ≤ most
+
+pub none_made : AreMade 0 []
+none_made = record { come = tt; few = omega arith }
+
+pub made_among : {m n : ℕ} {names : List (List ℕ)} → m ≤ n → AreMade m names → AreMade n names
+made_among h made = record { come = made.come; few = omega (arith, h, made.few) }
+
+-- and no more of them
+pub none_more : (most : ℕ) (names : List (List ℕ)) → AreMade most names → AreMade (suc most) (names ++ [])
+none_more most names made = made_among (omega arith) (subst (AreMade most) (sym (append-nil names)) made)
+
 -- the name that is made new, and all names there then
-pub made_short : (names : List (List ℕ)) (name : List ℕ) → length names < 2 ^ 32 → AllCome names → IsMadeShort names name
-    → (length name ≤ 1000) × AllCome (names ++ name ∷ [])
-made_short names name small all made =
-    let next = comes_next names name small all made in
+pub one_made : (most : ℕ) (names : List (List ℕ)) (name : List ℕ) → most < 2 ^ 32 → AreMade most names → IsMadeShort names name
+    → (length name ≤ 1000) × AreMade (suc most) (names ++ name ∷ [])
+one_made most names name small all made =
+    let few : length names < 2 ^ 32 = omega (arith, small, all.few) in
+    let next = comes_next names name few all.come made in
     let count : suc (length names) ≡ length (names ++ name ∷ []) = omega (arith, length-append names (name ∷ [])) in (
-      comes_short (suc (length names)) name (omega (arith, small)) next,
-      subst (λ many. AllByRecursion (Comes many) (names ++ name ∷ [])) count
-      (all_both (Comes (suc (length names))) names (name ∷ []) (comes_later (length names) names all) (next, tt)),
+      comes_short (suc (length names)) name (omega (arith, few)) next,
+      record {
+        come =
+            subst (λ many. AllByRecursion (Comes many) (names ++ name ∷ [])) count
+            (all_both (Comes (suc (length names))) names (name ∷ []) (comes_later (length names) names all.come) (next, tt));
+        few = omega (arith, count, all.few);
+      },
     )
 
 -- Names in kebab case, and texts.
@@ -145,10 +165,10 @@ pub short_text_read : (names : List (List ℕ)) (name : List ℕ) → IsReachabl
 short_text_read names name (text, read, made) = (text, omega (arith, leb-true (length text) 100 read), made)
 
 -- names after those before them
-pub all_short : (before ns : List (List ℕ)) → length before + length ns ≤ 2 ^ 32 → AllCome before → AreReachable 100 before ns
-    → AllByRecursion (λ n. length n ≤ 1000) ns × AllCome (before ++ ns)
-all_short before [] few all read = (tt, subst AllCome (sym (append-nil before)) all)
-all_short before (n ∷ ns) few all read =
-    let one = made_short before n (omega (arith, few)) all (short_read before n read.0) in
-    let more = all_short (before ++ n ∷ []) ns (omega (arith, few, length-append before (n ∷ []))) one.1 read.1 in
-    ((one.0, more.0), subst AllCome (append_assoc before (n ∷ []) ns) more.1)
+pub all_made : (most : ℕ) (before ns : List (List ℕ)) → most + length ns ≤ 2 ^ 32 → AreMade most before → AreReachable 100 before ns
+    → AllByRecursion (λ n. length n ≤ 1000) ns × AreMade (most + length ns) (before ++ ns)
+all_made most before [] few all read = (tt, made_among (omega arith) (subst (AreMade most) (sym (append-nil before)) all))
+all_made most before (n ∷ ns) few all read =
+    let one = one_made most before n (omega (arith, few)) all (short_read before n read.0) in
+    let more = all_made (suc most) (before ++ n ∷ []) ns (omega (arith, few)) one.1 read.1 in
+    ((one.0, more.0), made_among (omega arith) (subst (AreMade (suc most + length ns)) (append_assoc before (n ∷ []) ns) more.1))

@@ -9,3 +9,4 @@ mod Judging
 mod Loops
 pub mod GeneratedModules
 pub mod GeneratedNames
+pub mod GeneratedTypes
