@@ -1,6 +1,6 @@
 -- The declarations of a module type one by one, and their names.
 use Rattle.std.proofs.Common.{◌≡◌, ℕ, ◌+◌, ◌<◌, Bool, true, false, ◌&&◌, ◌||◌, List, [], ◌∷◌, ◌++◌, map, length, take, get_or, refl, sym, ap, ◌∙◌, subst}
-use Rattle.std.proofs.Common.{append-nil, arith, bytes_eq, None, Some, Result, Ok, Err, zero, suc}
+use Rattle.std.proofs.Common.{append-nil, bytes_eq, Result, Ok, Err}
 use Rattle.std.proofs.Math.ListN.{drop}
 use Rattle.std.proofs.lemmas.Bool.{false≢true}
 use Rattle.std.proofs.lemmas.Grind.{flat_map-append}
@@ -16,8 +16,8 @@ use Rattle.smith_format.specs.Entities.{CoreImport}
 use Rattle.smith_format.specs.declared.types.EntityType.{EntityType}
 use Rattle.smith_input.specs.NewNames.{is_among}
 use Rattle.smith_input.proofs.Rests.{rest_at}
-use Rattle.smith_syntax.specs.Entries.{CoreEntry, ModuleDecl, aliases, exports, imports}
-use Rattle.smith_syntax.specs.ModuleTypes.{HasNewNames, adds, aliased, module_export_names, module_export_of, module_import_of, names_from}
+use Rattle.smith_syntax.specs.Entries.{CoreEntry, ModuleDecl, exports, imports}
+use Rattle.smith_syntax.specs.ModuleTypes.{HasNewNames, adds, module_export_names, module_export_of, module_import_of, names_from}
 use Rattle.smith_syntax.specs.Possible.{PossibleDecl, PossibleModule, is_beyond}
 use Rattle.smith_syntax.specs.WellFormed.{FormedDecl, FormedDecls}
 use Rattle.smith_check.specs.Judges.{Judges}
@@ -208,13 +208,6 @@ pub module_at : {A : Type 0} (around : List CoreEntry) (far : ℕ) (shown : A �
 module_at around far shown xs i x own more h e m p =
     let q = subst (λ ys. PossibleModule around far own (map shown ys)) (rest_at xs i x h e) p in
     (q.0, λ b. subst (λ fs. PossibleModule around far fs (map shown (drop (i + 1) xs))) (sym m) (q.1 b))
-
--- an outer alias that names nothing, and no scope beyond the one around
-pub alias_impossible : (around : List CoreEntry) (far : ℕ) (own : List Function) (count i : ℕ) → aliased around own count i ≡ None
-    → ¬ ((1 < count) × (count < far + 2)) → ¬ PossibleDecl around far own (aliases count i)
-alias_impossible around far own zero i e no p = let z : None ≡ Some p.0 = sym e ∙ p.1 in absurd cc
-alias_impossible around far own (suc zero) i e no p = let z : None ≡ Some p.0 = sym e ∙ p.1 in absurd cc
-alias_impossible around far own (suc (suc n)) i e no p = no (omega (arith, p), omega (arith, p))
 
 pub no_new_names : HasNewNames []
 unfolding IsDistinct

@@ -1,21 +1,18 @@
 -- Core modules that stand for generated ones are sound.
-use Rattle.std.proofs.Common.{◌≡◌, ℕ, zero, suc, ◌+◌, ◌*◌, ◌<◌, ◌≤◌, ◌^◌, Bool, true, false, List, [], ◌∷◌, ◌++◌, length, refl, sym, ap, ◌∙◌, subst, arith, Option}
+use Rattle.std.proofs.Common.{◌≡◌, ℕ, ◌+◌, ◌*◌, ◌<◌, ◌≤◌, ◌^◌, List, [], ◌∷◌, ◌++◌, length, refl, sym, ap, ◌∙◌, subst, arith, Option}
 use Rattle.std.proofs.Common.{Some, None, IfSome}
-use Rattle.std.specs.List.{AllByRecursion, Contains}
-use Rattle.smith_input.specs.Offers.{offered}
+use Rattle.std.specs.List.{AllByRecursion}
 use Rattle.smith_input.proofs.Lists.{all_both}
 use Rattle.smith_format.specs.CoreFormed.{FormedFunction, FormedMemory}
 use Rattle.smith_format.specs.CoreTypes.{Function, core_function, core_val}
 use Rattle.smith_format.specs.Entities.{bit, has_maximum, maximum, memory_type}
 use Rattle.smith_format.specs.Limits.{configured, max_results}
 use Rattle.smith_format.specs.Numbers.{unsigned}
-use Rattle.smith_format.specs.Piece.{Piece, ◌⊕◌, byte, bytes, bytes_of, each, many, number, sized, u}
+use Rattle.smith_format.specs.Piece.{Piece, ◌⊕◌, bytes, bytes_of, each, many, number, sized, u}
 use Rattle.smith_format.specs.Writing.{Takes}
 use Rattle.smith_format.specs.declared.config.Config.{Config}
 use Rattle.smith_format.specs.declared.types.MemoryType.{MemoryType}
-use Rattle.smith_format.specs.declared.types.RefType.TheVariants.{FuncRef, ExternRef}
 use Rattle.smith_format.specs.declared.types.ValType.{ValType}
-use Rattle.smith_format.specs.declared.types.ValType.TheVariants.{I32, I64, F32, F64, V128, Ref}
 use Rattle.smith_format.proofs.Digits.{unsigned_short_32, unsigned_short_64}
 use Rattle.smith_format.proofs.Piece.{joined, number_fits}
 use Rattle.smith_format.proofs.Sizes.{takes_bytes, takes_sized, takes_then, takes_u}
@@ -23,41 +20,11 @@ use Rattle.smith_syntax.proofs.Possible.{memory_possible}
 use Rattle.smith_core.specs.Preamble.{core_preamble}
 use Rattle.smith_core.specs.StandInScript.{IsStandIn}
 use Rattle.smith_core.specs.StandInText.{StandIn, listed, stand_in_text}
-use Rattle.smith_core.proofs.Segments.{all_read}
-use Rattle.smith_core.proofs.StandInMade.{few_results}
-use Rattle.smith_tree.specs.Readable.{StandsForModule}
-use Rattle.smith_verdict.specs.Modules.{FewValues, IsFew, IsPlain, IsPlainFunction, SoundMemory, SoundModule}
-
--- What holds of the value types that there can be holds of those that the limits allow.
-
-offered_all : {A : Type 0} (P : A → Type 0) (b : Bool) (xs : List A) → AllByRecursion P xs → AllByRecursion P (offered b xs)
-offered_all P true xs all = all
-offered_all P false xs all = tt
-
--- It holds of all value types but references to types.
-pub record OfValues (P : ValType → Type 0) : Type 0 where
-  pub numbers : AllByRecursion P (I32 ∷ I64 ∷ [])
-  pub floats : AllByRecursion P (F32 ∷ F64 ∷ [])
-  pub vectors : AllByRecursion P (V128 ∷ [])
-  pub references : AllByRecursion P (Ref FuncRef ∷ Ref ExternRef ∷ [])
-
-configured_all : (P : ValType → Type 0) (config : Config) → OfValues P → AllByRecursion P (configured config)
-configured_all P config all =
-    let floats = offered config.allow_floats (F32 ∷ F64 ∷ []) in
-    let vectors = offered config.simd_enabled (V128 ∷ []) in
-    all_both P (((I32 ∷ I64 ∷ []) ++ floats) ++ vectors) (offered config.reference_types_enabled (Ref FuncRef ∷ Ref ExternRef ∷ []))
-    (all_both P ((I32 ∷ I64 ∷ []) ++ floats) vectors
-    (all_both P (I32 ∷ I64 ∷ []) floats all.numbers (offered_all P config.allow_floats (F32 ∷ F64 ∷ []) all.floats))
-    (offered_all P config.simd_enabled (V128 ∷ []) all.vectors))
-    (offered_all P config.reference_types_enabled (Ref FuncRef ∷ Ref ExternRef ∷ []) all.references)
-
-pub configured_value : (P : ValType → Type 0) (config : Config) → OfValues P → (v : ValType) → Contains (configured config) v → P v
-configured_value P config all v c = all_read P (configured config) c.0 v (configured_all P config all) c.1 (sym c.2)
-
-pub configured_values : (P : ValType → Type 0) (config : Config) → OfValues P → (vs : List ValType) → AllByRecursion (Contains (configured config)) vs
-    → AllByRecursion P vs
-configured_values P config all [] c = tt
-configured_values P config all (v ∷ vs) c = (configured_value P config all v c.0, configured_values P config all vs c.1)
+use Rattle.smith_tree.specs.Readable.{IsReadablePart, IsReadableRest, StandsForModule}
+use Rattle.smith_tree.specs.Tree.{Part, Tree, add, anywhere_in, canons, component, core_module, core_types, custom, ends, exports, first, imports, modules}
+use Rattle.smith_tree.specs.Tree.{modules_in, types}
+use Rattle.smith_verdict.proofs.GeneratedValues.{OfValues, configured_values, few_values}
+use Rattle.smith_verdict.specs.Modules.{FewValues, IsPlain, IsPlainFunction, SoundMemory, SoundModule}
 
 plain_values : OfValues IsPlain
 plain_values = record { numbers = (tt, (tt, tt)); floats = (tt, (tt, tt)); vectors = (tt, tt); references = (tt, (tt, tt)) }
@@ -121,12 +88,9 @@ short_memories [] all = tt
 short_memories (m ∷ ms) all = (short_memory m all.0, short_memories ms all.1)
 
 module _ (config : Config) where
-  few_values : (f : Function) → FormedFunction (configured config) (max_results config) f → (length f.0 ≤ 20) × (length f.1 ≤ 20)
-  few_values f h = (h.few_params, let most = few_results config.multi_value_enabled in omega (arith, h.few_results, most))
-
   short_function : (f : Function) → FormedFunction (configured config) (max_results config) f → IsShort 51 (core_function f)
   short_function f h =
-      let few = few_values f h in
+      let few = few_values config f h in
       let P : ValType → Type 0 = λ v. IsShort 1 (core_val v) in
       wider (omega (arith, few.0, few.1))
       (short_then (short_bytes (0x60 ∷ []))
@@ -170,9 +134,10 @@ module _ (config : Config) where
   plain_functions : (fs : List Function) → AllByRecursion (FormedFunction (configured config) (max_results config)) fs → AllByRecursion IsPlainFunction fs
   plain_functions [] all = tt
   plain_functions (f ∷ fs) all =
-      let formed = all.0 in
-      ((configured_values IsPlain config plain_values f.0 formed.params, configured_values IsPlain config plain_values f.1 formed.results),
-      plain_functions fs all.1)
+      let formed = all.0 in (
+        (configured_values IsPlain config plain_values f.0 formed.params, configured_values IsPlain config plain_values f.1 formed.results),
+        plain_functions fs all.1,
+      )
 
   few_functions : (fs : List Function) → AllByRecursion (FormedFunction (configured config) (max_results config)) fs → AllByRecursion FewValues fs
   few_functions [] all = tt
@@ -182,6 +147,27 @@ module _ (config : Config) where
 
   pub module_sound : config.max_memories ≤ 100 → (text : List ℕ) → StandsForModule config text → SoundModule text
   module_sound few text (s, is, spelled) =
-      let bytes = stand_in_spelled config s is (omega (arith, is.few_memories, few)) in
-      (s, (bytes.1 ∙ ap Some (sym (spelled ∙ ap bytes_of bytes.1)), plain_functions s.types is.types), sound_memories s.memories is.memories,
-      (let most = is.few_types in omega (arith, most), omega (arith, is.few_memories, few), few_functions s.types is.types))
+      let bytes = stand_in_spelled config s is (omega (arith, is.few_memories, few)) in (
+        s,
+        (bytes.1 ∙ ap Some (sym (spelled ∙ ap bytes_of bytes.1)), plain_functions s.types is.types),
+        sound_memories s.memories is.memories,
+        (let most = is.few_types in omega (arith, most), omega (arith, is.few_memories, few), few_functions s.types is.types),
+      )
+
+  -- at every depth
+  mutual
+    pub sound_modules : config.max_memories ≤ 100 → (t before : Tree) → IsReadableRest config t before → AllByRecursion SoundModule (modules t)
+    sound_modules few ends before read = tt
+    sound_modules few (first p t) before read =
+        all_both SoundModule (anywhere_in modules_in p) (modules t) (modules_in_part few p before read.0) (sound_modules few t (add before p) read.1)
+
+    modules_in_part : config.max_memories ≤ 100 → (p : Part) (before : Tree) → IsReadablePart config p before
+        → AllByRecursion SoundModule (anywhere_in modules_in p)
+    modules_in_part few (core_module text) before read = (module_sound few text read, tt)
+    modules_in_part few (component t) before read = sound_modules few t ends read
+    modules_in_part few (custom name contents) before read = tt
+    modules_in_part few (core_types ts) before read = tt
+    modules_in_part few (types ts) before read = tt
+    modules_in_part few (canons fs) before read = tt
+    modules_in_part few (imports is) before read = tt
+    modules_in_part few (exports es) before read = tt

@@ -1,4 +1,5 @@
--- How long names are that are made new: a text of at most 101 bytes, and behind it how many names there were, in decimal digits.
+-- How long names are that are made new: a text of at most 101 bytes, and behind it how many names there were, in decimal digits, perhaps several times.
+-- The names with the digits of one number behind them are few, since the names before them ended with the digits of smaller numbers.
 use Rattle.std.proofs.Common.{◌≡◌, ◌⊎◌, inl, inr, ℕ, zero, suc, ◌+◌, ◌*◌, ◌/◌, ◌%◌, ◌<◌, ◌≤◌, ◌^◌, Bool, true, false, ◌||◌, if◌then◌else◌, List, [], ◌∷◌, ◌++◌}
 use Rattle.std.proofs.Common.{length, bytes_eq, drop, refl, sym, ap, ◌∙◌, subst, arith, append_assoc, append-nil}
 use Rattle.std.proofs.Math.Seq.{drop-append_seam}
@@ -7,8 +8,8 @@ use Rattle.std.proofs.lemmas.Fmt.{decimal_digit, decimal_injective, decimal_step
 use Rattle.std.proofs.lemmas.List.{length-append}
 use Rattle.std.proofs.lemmas.Slice.Eq.{bytes_eq-Decides}
 use Rattle.std.specs.Fmt.{decimal}
-use Rattle.std.specs.List.{AllByRecursion, list_any}
-use Rattle.smith_input.specs.NameScript.{AreReachable, IsReachable, IsReachableText, is_short, is_within, last_word_is_a}
+use Rattle.std.specs.List.{AllByRecursion}
+use Rattle.smith_input.specs.NameScript.{AreReachable, IsReachable, IsReachableText, last_word_is_a}
 use Rattle.smith_input.specs.NewNames.{IsMadeNew, appended, is_among}
 use Rattle.smith_input.proofs.Digits.{some_digits}
 use Rattle.smith_input.proofs.Lists.{all_both}
@@ -27,7 +28,7 @@ digits_rise_by (suc fuel) j k enough h small = elim (cases_lt j 10) [
   | inl low ↦ omega (arith, one_digit j low, some_digits k)
   | inr high ↦
       let less : length (decimal (j / 10)) ≤ length (decimal (k / 10)) =
-          digits_rise_by fuel (j / 10) (k / 10) (omega (arith, enough, high, h)) (omega (arith, h)) (omega (arith, small)) in
+      digits_rise_by fuel (j / 10) (k / 10) (omega (arith, enough, high, h)) (omega (arith, h)) (omega (arith, small)) in
       omega (arith, less, digit_more j high (omega (arith, h, small)), digit_more k (omega (arith, h, high)) small)
 ]
 
@@ -70,7 +71,7 @@ among_holds P (n ∷ ns) q among all = by_test (bytes_eq n q) refl (λ more. amo
     by_test true e later = subst P ((bytes_eq-Decides n q).0 e) all.0
     by_test false e later = later (ap (λ b. b || is_among ns q) (sym e) ∙ among)
 
--- What has the digits of a number behind it has only the digits of shorter numbers before them.
+-- What gets the digits of a number behind it ends with the digits of a shorter one, if it was long: numbers of one length are told apart there.
 fewer_digits : (many : ℕ) (text : List ℕ) (times : ℕ) → many < 2 ^ 32 → (n : Numbered many (appended text (decimal many) (suc times)))
     → length (decimal n.number) < length (decimal many)
 fewer_digits many text times small n = elim (cases_lt (length (decimal n.number)) (length (decimal many))) [
@@ -78,7 +79,7 @@ fewer_digits many text times small n = elim (cases_lt (length (decimal n.number)
   | inr no_less ↦
       let rise : length (decimal n.number) ≤ length (decimal many) = digits_rise n.number many (omega (arith, n.before)) (omega (arith, small)) in
       let same : decimal many ≡ decimal n.number =
-          same_back (appended text (decimal many) times) n.front (decimal many) (decimal n.number) n.is (omega (arith, rise, no_less)) in
+      same_back (appended text (decimal many) times) n.front (decimal many) (decimal n.number) n.is (omega (arith, rise, no_less)) in
       let number : many ≡ n.number = decimal_injective many n.number (omega (arith, small)) (omega (arith, small, n.before)) same in
       absurd (omega (arith, number, n.before))
 ]
@@ -132,9 +133,9 @@ none_made = record { come = tt; few = omega arith }
 pub made_among : {m n : ℕ} {names : List (List ℕ)} → m ≤ n → AreMade m names → AreMade n names
 made_among h made = record { come = made.come; few = omega (arith, h, made.few) }
 
--- and no more of them
-pub none_more : (most : ℕ) (names : List (List ℕ)) → AreMade most names → AreMade (suc most) (names ++ [])
-none_more most names made = made_among (omega arith) (subst (AreMade most) (sym (append-nil names)) made)
+-- and none behind them
+pub none_more : {m n : ℕ} (names : List (List ℕ)) → m ≤ n → AreMade m names → AreMade n (names ++ [])
+none_more {m} {n} names h made = made_among h (subst (AreMade m) (sym (append-nil names)) made)
 
 -- the name that is made new, and all names there then
 pub one_made : (most : ℕ) (names : List (List ℕ)) (name : List ℕ) → most < 2 ^ 32 → AreMade most names → IsMadeShort names name
@@ -167,7 +168,7 @@ short_text_read names name (text, read, made) = (text, omega (arith, leb-true (l
 -- names after those before them
 pub all_made : (most : ℕ) (before ns : List (List ℕ)) → most + length ns ≤ 2 ^ 32 → AreMade most before → AreReachable 100 before ns
     → AllByRecursion (λ n. length n ≤ 1000) ns × AreMade (most + length ns) (before ++ ns)
-all_made most before [] few all read = (tt, made_among (omega arith) (subst (AreMade most) (sym (append-nil before)) all))
+all_made most before [] few all read = (tt, none_more before (omega arith) all)
 all_made most before (n ∷ ns) few all read =
     let one = one_made most before n (omega (arith, few)) all (short_read before n read.0) in
     let more = all_made (suc most) (before ++ n ∷ []) ns (omega (arith, few)) one.1 read.1 in

@@ -1,12 +1,11 @@
 -- What is in types that can be generated.
-use Rattle.std.proofs.Common.{◌≡◌, ℕ, zero, suc, ◌+◌, ◌<◌, ◌≤◌, ◌^◌, Bool, true, false, if◌then◌else◌, List, [], ◌∷◌, ◌++◌, length, map, refl, sym, ap, ◌∙◌, subst}
-use Rattle.std.proofs.Common.{arith, append-nil, bytes_eq, filter, flat_map}
+use Rattle.std.proofs.Common.{◌≡◌, ℕ, suc, ◌+◌, ◌<◌, ◌≤◌, ◌^◌, Bool, true, false, if◌then◌else◌, List, [], ◌∷◌, ◌++◌, length, map, refl, sym, ap, ◌∙◌, subst}
+use Rattle.std.proofs.Common.{arith, bytes_eq, filter, flat_map}
 use Rattle.std.proofs.lemmas.Grind.{flat_map-append}
 use Rattle.std.proofs.lemmas.List.{length-map, map-append}
 use Rattle.std.proofs.lemmas.List.Elements.{filter-append}
 use Rattle.std.proofs.lemmas.Slice.Eq.{bytes_eq-Decides}
 use Rattle.std.specs.List.{AllByRecursion}
-use Rattle.smith_input.specs.NameScript.{AreReachable}
 use Rattle.smith_input.proofs.Lists.{all_back, all_front}
 use Rattle.smith_format.specs.CoreFormed.{FormedFunction}
 use Rattle.smith_format.specs.CoreTypes.{Function}
@@ -18,8 +17,10 @@ use Rattle.smith_syntax.specs.CoreLimits.{CoreLimits, EntityLimits}
 use Rattle.smith_syntax.specs.Entries.{CoreEntry, Decl, Decls, DefValType, Entry, ModuleDecl, aliases, component_type, core_func}
 use Rattle.smith_syntax.specs.Entries.{core_module as core_module_type, core_type_alias, core_type_decl, decl_count, declares, defined, enum_type, export_decl}
 use Rattle.smith_syntax.specs.Entries.{exports as module_exports, flags_type, function, import_decl, imports as module_imports, instance_type, no_decls}
-use Rattle.smith_syntax.specs.Entries.{list_type, option_type, primitive_type, record_type, result_type, then_decls, tuple_type, type_alias, type_decl, variant_type}
-use Rattle.smith_syntax.specs.ModuleTypes.{adds, declared_in, entities_in, entities_of, func_of, module_export_names, module_export_of, module_import_of, names_from}
+use Rattle.smith_syntax.specs.Entries.{list_type, option_type, primitive_type, record_type, result_type, then_decls, tuple_type, type_alias, type_decl}
+use Rattle.smith_syntax.specs.Entries.{variant_type}
+use Rattle.smith_syntax.specs.ModuleTypes.{adds, declared_in, entities_in, entities_of, func_of, module_export_names, module_export_of, module_import_of}
+use Rattle.smith_syntax.specs.ModuleTypes.{names_from}
 use Rattle.smith_syntax.specs.Scope.{Scope, after_decl, empty_scope, with_core_type, with_type}
 use Rattle.smith_syntax.specs.TypeLimits.{DeclLimits, DeclsLimits, EntryLimits}
 use Rattle.smith_syntax.specs.WellFormed.{FormedCore, FormedCores, FormedDecl, FormedDeclaration, FormedDeclarations, FormedDecls, FormedDefined, FormedEntity}
@@ -28,7 +29,7 @@ use Rattle.smith_tree.specs.ReadableCoreTypes.{AreReadableModuleDecls, IsReadabl
 use Rattle.smith_tree.specs.ReadableTypes.{AreReadableDecls, AreReadableNames, IsReadableDecl, IsReadableDefined, IsReadableType}
 use Rattle.smith_tree.proofs.Fronts.{front_length}
 use Rattle.smith_verdict.specs.Contained.{Content, OfCore, OfDecl, OfDecls, OfDefined, OfEntry, OfModuleDecl, OfNames, core_function, entity, module_type, text}
-use Rattle.smith_verdict.proofs.GeneratedNames.{AreMade, all_made, made_among, none_made, none_more, one_made, short_read, short_text_read}
+use Rattle.smith_verdict.proofs.GeneratedNames.{AreMade, all_made, none_made, none_more, one_made, short_read, short_text_read}
 
 -- It holds of all that types within the limits have in them.
 pub record Holds (config : Config) (P : Content → Type 0) : Type 0 where
@@ -70,7 +71,7 @@ module_names_more most ds d imported exported = record {
 }
 
 module_names_same : (most : ℕ) (ds : List ModuleDecl) → ModuleNames most ds → (from : List ℕ) → AreMade (suc most) (names_from from ds ++ [])
-module_names_same most ds k from = none_more most (names_from from ds) (k.imported from)
+module_names_same most ds k from = none_more (names_from from ds) (omega arith) (k.imported from)
 
 -- the name of an import is one more from its module
 imported_more : (most : ℕ) (ds : List ModuleDecl) (m n : List ℕ) (e : EntityType) → ModuleNames most ds → AreMade (suc most) (names_from m ds ++ n ∷ [])
@@ -83,7 +84,7 @@ imported_more most ds m n e k made from = by_test (bytes_eq m from) refl
     by_test false other = module_names_same most ds k from
 
 module _ (config : Config) (P : Content → Type 0) (holds : Holds config P) where
-  pub of_names : (ns : List (List ℕ)) → AllByRecursion (λ n. length n ≤ 1000) ns → OfNames P ns
+  of_names : (ns : List (List ℕ)) → AllByRecursion (λ n. length n ≤ 1000) ns → OfNames P ns
   of_names [] all = tt
   of_names (n ∷ ns) all = (holds.names n all.0, of_names ns all.1)
 
@@ -98,17 +99,17 @@ module _ (config : Config) (P : Content → Type 0) (holds : Holds config P) whe
       → AllByRecursion (EntityLimits config) (entities_in d) → IsReadableModuleDecl before d → OfModuleDecl P d × ModuleNames (suc most) (before ++ d ∷ [])
   of_module_decl around own most before (declares f) few k formed functions entities read = (
     holds.functions f functions.0,
-    module_names_more most before (declares f) (module_names_same most before k) (none_more most (module_export_names before) k.exported),
+    module_names_more most before (declares f) (module_names_same most before k) (none_more (module_export_names before) (omega arith) k.exported),
   )
   of_module_decl around own most before (aliases count i) few k formed functions entities read = (
     tt,
-    module_names_more most before (aliases count i) (module_names_same most before k) (none_more most (module_export_names before) k.exported),
+    module_names_more most before (aliases count i) (module_names_same most before k) (none_more (module_export_names before) (omega arith) k.exported),
   )
   of_module_decl around own most before (module_imports m n e) few k formed functions entities read =
       let made = one_made most (names_from m before) n few (k.imported m) (short_text_read (names_from m before) n read.1.1) in (
         (holds.names m (let short = read.0.1 in omega (arith, short)), holds.names n made.0, holds.entities own e entities.0 formed),
         module_names_more most before (module_imports m n e) (imported_more most before m n e k made.1)
-            (none_more most (module_export_names before) k.exported),
+            (none_more (module_export_names before) (omega arith) k.exported),
       )
   of_module_decl around own most before (module_exports n e) few k formed functions entities read =
       let made = one_made most (module_export_names before) n few k.exported (short_text_read (module_export_names before) n read.1) in (
@@ -124,13 +125,13 @@ module _ (config : Config) (P : Content → Type 0) (holds : Holds config P) whe
       let F : Function → Type 0 = FormedFunction (configured config) (max_results config) in
       let E : EntityType → Type 0 = EntityLimits config in
       let one = of_module_decl around own most before d (omega (arith, few)) k formed.0 (all_front F (func_of d) (declared_in ds) functions)
-                (all_front E (entities_in d) (entities_of ds) entities) read.0 in (
+      (all_front E (entities_in d) (entities_of ds) entities) read.0 in (
         one.0,
         of_module_decls around (own ++ adds around own d) (suc most) (before ++ d ∷ []) ds (omega (arith, few)) one.1 formed.1
             (all_back F (func_of d) (declared_in ds) functions) (all_back E (entities_in d) (entities_of ds) entities) read.1,
       )
 
-  pub of_core : (e : CoreEntry) (around : List CoreEntry) → FormedCore e around → CoreLimits config e → IsReadableCore e → OfCore P e
+  of_core : (e : CoreEntry) (around : List CoreEntry) → FormedCore e around → CoreLimits config e → IsReadableCore e → OfCore P e
   of_core (core_func f) around formed limits read = holds.functions f limits
   of_core (core_module_type ds) around formed limits read =
       let few : length ds ≤ 105 = omega (arith, front_length ds, limits.declarations) in
@@ -162,32 +163,40 @@ module _ (config : Config) (P : Content → Type 0) (holds : Holds config P) whe
     imports : AreMade most imported
     exports : AreMade most exported
 
+  no_decl_names : DeclNames 0 [] []
+  no_decl_names = record { imports = none_made; exports = none_made }
+
   none_named : (most : ℕ) (imported exported : List (List ℕ)) → DeclNames most imported exported → DeclNames (suc most) (imported ++ []) (exported ++ [])
-  none_named most imported exported ns = record { imports = none_more most imported ns.imports; exports = none_more most exported ns.exports }
+  none_named most imported exported ns = record {
+    imports = none_more imported (omega arith) ns.imports;
+    exports = none_more exported (omega arith) ns.exports;
+  }
 
   mutual
-    pub of_entry : (e : Entry) (own : Scope) (outer : List Scope) → FormedEntry e own outer → EntryLimits config e → IsReadableType e → OfEntry P e
+    of_entry : (e : Entry) (own : Scope) (outer : List Scope) → FormedEntry e own outer → EntryLimits config e → IsReadableType e → OfEntry P e
     of_entry (defined t) own outer formed limits read = of_defined t own formed read
     of_entry (function s) own outer formed limits read =
         of_new_names (names s.params) (let few = formed.2 in omega (arith, few, length-map s.params (λ p. p.0))) read
     of_entry (component_type ds) own outer formed limits read =
-        of_decls ds empty_scope (own ∷ outer) 0 [] [] (let few = limits.0 in omega (arith, few)) (record { imports = none_made; exports = none_made }) formed.0 limits.1 read
+        of_decls ds empty_scope (own ∷ outer) 0 [] [] (let few = limits.0 in omega (arith, few)) no_decl_names formed.0 limits.1 read
     of_entry (instance_type ds) own outer formed limits read =
-        of_decls ds empty_scope (own ∷ outer) 0 [] [] (let few = limits.0 in omega (arith, few)) (record { imports = none_made; exports = none_made }) formed.0 limits.1 read
+        of_decls ds empty_scope (own ∷ outer) 0 [] [] (let few = limits.0 in omega (arith, few)) no_decl_names formed.0 limits.1 read
 
     of_decl : (d : Decl) (own : Scope) (outer : List Scope) (most : ℕ) (imported exported : List (List ℕ)) → most < 2 ^ 32
         → DeclNames most imported exported → FormedDeclaration d own outer → DeclLimits config d → IsReadableDecl d imported exported
         → OfDecl P d × DeclNames (suc most) (imported ++ names (import_of d)) (exported ++ names (export_of d))
-    of_decl (core_type_decl t k) own outer most imported exported few ns formed limits read = (of_core t own.core_types formed limits read, none_named most imported exported ns)
-    of_decl (type_decl e) own outer most imported exported few ns formed limits read = (of_entry e own outer formed limits read, none_named most imported exported ns)
+    of_decl (core_type_decl t k) own outer most imported exported few ns formed limits read =
+        (of_core t own.core_types formed limits read, none_named most imported exported ns)
+    of_decl (type_decl e) own outer most imported exported few ns formed limits read =
+        (of_entry e own outer formed limits read, none_named most imported exported ns)
     of_decl (type_alias count i k) own outer most imported exported few ns formed limits read = (tt, none_named most imported exported ns)
     of_decl (core_type_alias count i k) own outer most imported exported few ns formed limits read = (tt, none_named most imported exported ns)
     of_decl (import_decl name n r) own outer most imported exported few ns formed limits read =
         let made = one_made most imported name few ns.imports (short_read imported name read) in
-        (holds.names name made.0, record { imports = made.1; exports = none_more most exported ns.exports })
+        (holds.names name made.0, record { imports = made.1; exports = none_more exported (omega arith) ns.exports })
     of_decl (export_decl name n r) own outer most imported exported few ns formed limits read =
         let made = one_made most exported name few ns.exports (short_read exported name read) in
-        (holds.names name made.0, record { imports = none_more most imported ns.imports; exports = made.1 })
+        (holds.names name made.0, record { imports = none_more imported (omega arith) ns.imports; exports = made.1 })
 
     of_decls : (ds : Decls) (own : Scope) (outer : List Scope) (most : ℕ) (imported exported : List (List ℕ)) → most + decl_count ds ≤ 100
         → DeclNames most imported exported → FormedDeclarations ds own outer → DeclsLimits config ds → AreReadableDecls ds imported exported → OfDecls P ds

@@ -53,3 +53,16 @@ sound_is_found text s j e h m = judged_sound s j h (sound_sections text s e m)
 
 pub unread_is_other : (text : List ℕ) → stand_in_at text ≡ None → JudgesModule text Other
 unread_is_other text e = (λ m. none_spelled text m.0 e m.1.0, λ m. none_spelled text m.0 e m.1.0, λ m. none_spelled text m.0 e m.1.0)
+
+-- ---- no module is judged in two ways
+
+read_back : (text : List ℕ) (s : StandIn) → stand_in_text s ≡ Some text → stand_in_at text ≡ Some s
+read_back text s e = tells_stand_in.whole text s e
+
+pub sound_not_broken : (text : List ℕ) → SoundModule text → BrokenModule text → ⊥
+sound_not_broken text m n =
+    let e = read_back text m.0 m.1.0 in
+    (broken_sections text m.0 e n).1 (possible m.0.memories (sound_sections text m.0 e m).1)
+
+pub sound_not_bounded : (text : List ℕ) → SoundModule text → BoundedModule text → ⊥
+sound_not_bounded text m n = let e = read_back text m.0 m.1.0 in (bounded_sections text m.0 e n).2 (sound_sections text m.0 e m).2

@@ -85,35 +85,50 @@ upto_all n ends h = refl
 upto_all n (first p t) h =
     rw (le-ltb n (items_in p) (omega (arith, h))) (ap (first p) (upto_all (n - items_in p) t (omega (arith, h))))
 
--- There is more with one more item than without it.
-offset_there : (n : ℕ) (t : Tree) (b : List ℕ) → Spells t b → (upto n t ≡ upto (n + 1) t → ⊥) → (offset : ℕ) × (offset_in n t ≡ Some offset)
-offset_there n t b spells grows = by_test (nat_lt n (items t)) refl
+-- An item with which there is more than without it is there.
+pub item_is : (n : ℕ) (t : Tree) → (upto n t ≡ upto (n + 1) t → ⊥) → n < items t
+item_is n t grows = by_test (nat_lt n (items t)) refl
   where
-    by_test : (o : Bool) → nat_lt n (items t) ≡ o → (offset : ℕ) × (offset_in n t ≡ Some offset)
-    by_test true e =
-        let x = before_there n t b spells (λ c i. tree_there n t c i (ltb-true n (items t) e)) in
-        (length x.0, ap (option_map length) x.1)
+    by_test : (o : Bool) → nat_lt n (items t) ≡ o → n < items t
+    by_test true e = ltb-true n (items t) e
     by_test false e =
         let l : items t ≤ n = ltb-false n (items t) e in
         absurd (grows (upto_all n t l ∙ sym (upto_all (n + 1) t (omega (arith, l)))))
 
-pub found_broken : (bytes : List ℕ) (t : Tree) (rule : Rule) (offset : Option ℕ) (item : ℕ) → Spells t bytes
-    → scope_depth t ≤ most_depth → ¬ WellFormed t → StopsAt WellFormed item t → offset ≡ offset_in item t
-    → IsVerdict bytes (verdict.IllFormed rule offset)
-found_broken bytes t rule offset item spells shallow not stopped is =
-    let o = offset_there item t bytes spells (λ e. stopped.1 (subst WellFormed e stopped.0)) in
-    subst (λ x. IsVerdict bytes (verdict.IllFormed rule x)) (sym (is ∙ o.1)) (t, spells, shallow, (not, (item, o.1, stopped)))
+-- Each item has an offset.
+pub offset_of_item : (n : ℕ) (t : Tree) (b : List ℕ) → Spells t b → n < items t → (offset : ℕ) × (offset_in n t ≡ Some offset)
+offset_of_item n t b spells l =
+    let x = before_there n t b spells (λ c i. tree_there n t c i l) in
+    (length x.0, ap (option_map length) x.1)
 
-judged : (demand : Demand) (t : Tree) → WellFormed t → IsJudged demand t
+offset_there : (n : ℕ) (t : Tree) (b : List ℕ) → Spells t b → (upto n t ≡ upto (n + 1) t → ⊥) → (offset : ℕ) × (offset_in n t ≡ Some offset)
+offset_there n t b spells grows = offset_of_item n t b spells (item_is n t grows)
+
+pub judged : (demand : Demand) (t : Tree) → WellFormed t → IsJudged demand t
 judged Named t f = f
 judged Size t f = tt
 judged Count t f = tt
 judged Memories t f = tt
 judged Tables t f = tt
 
+-- With the item at which a property stops to hold, there is more than without it.
+pub stop_grows : (P : Tree → Type 0) (item : ℕ) (t : Tree) → StopsAt P item t → upto item t ≡ upto (item + 1) t → ⊥
+stop_grows P item t stopped e = stopped.1 (subst P e stopped.0)
+
+pub short_grows : (demand : Demand) (item : ℕ) (t : Tree) → WellFormed t → FallsShort demand item t → upto item t ≡ upto (item + 1) t → ⊥
+short_grows demand item t formed short e =
+    (short.there (judged demand t formed)).1 (weaker_tree (asking demand) _ (subst Validates e short.before))
+
+pub found_broken : (bytes : List ℕ) (t : Tree) (rule : Rule) (offset : Option ℕ) (item : ℕ) → Spells t bytes
+    → scope_depth t ≤ most_depth → ¬ WellFormed t → StopsAt WellFormed item t → offset ≡ offset_in item t
+    → IsVerdict bytes (verdict.IllFormed rule offset)
+found_broken bytes t rule offset item spells shallow not stopped is =
+    let o = offset_there item t bytes spells (stop_grows WellFormed item t stopped) in
+    subst (λ x. IsVerdict bytes (verdict.IllFormed rule x)) (sym (is ∙ o.1)) (t, spells, shallow, (not, (item, o.1, stopped)))
+
 pub found_short : (bytes : List ℕ) (t : Tree) (demand : Demand) (offset : Option ℕ) (item : ℕ) → Spells t bytes → WellFormed t
     → FallsShort demand item t → offset ≡ offset_in item t → IsValidity bytes (validity.Invalid demand offset)
 found_short bytes t demand offset item spells formed short is =
     let u = short.there (judged demand t formed) in
-    let o = offset_there item t bytes spells (λ e. u.1 (weaker_tree (asking demand) _ (subst Validates e short.before))) in
+    let o = offset_there item t bytes spells (short_grows demand item t formed short) in
     subst (λ x. IsValidity bytes (validity.Invalid demand x)) (sym (is ∙ o.1)) (t, spells, formed, u.0, (item, o.1, short.before, u.1))

@@ -1,8 +1,7 @@
 -- What bytes are to every validator of the standard, whatever its bounds and whatever more it has.
-use Rattle.std.specs.Prelude.{◌≡◌, ◌≤◌, ℕ, true, false, List, length, None, Some, nat_eq}
+use Rattle.std.specs.Prelude.{◌≡◌, ◌≤◌, ℕ, false, List, length, None, Some, nat_eq}
 use Rattle.std.specs.List.{AllByRecursion, Contains, starts_with}
 use Rattle.smith_core.specs.Preamble.{core_preamble}
-use Rattle.smith_tree.specs.Demands.{Demands}
 use Rattle.smith_tree.specs.Depths.{scope_depth}
 use Rattle.smith_tree.specs.Grammar.{Spells}
 use Rattle.smith_tree.specs.Possible.{Possible}
@@ -11,7 +10,8 @@ use Rattle.smith_tree.specs.Validates.{ValidTree, Validates}
 use Rattle.smith_tree.specs.WellFormed.{WellFormed}
 use Rattle.smith_read.specs.Places.{offset_in}
 use Rattle.smith_read.specs.Reads.{most_depth}
-use Rattle.smith_validate.specs.Outcome.{asking, nothing}
+use Rattle.smith_validate.specs.Outcome.{asking}
+use Rattle.smith_validate.specs.declared.error.Demand.{Demand}
 use Rattle.smith_validate.specs.declared.error.Demand.TheVariants.{Named}
 use Rattle.smith_verdict.specs.Contained.{HasNoReferences, KeepsMore}
 use Rattle.smith_verdict.specs.Framed.{Framed}
@@ -34,13 +34,9 @@ pub record IsSound (t : Tree) : Type 0 where
 abbrev pub IsNamed : Tree → Type 0
 IsNamed = ValidTree (asking Named)
 
--- the demands that are bounds of wasmparser's own
-abbrev pub bounds : Demands
-bounds = record nothing { sizes = true; counts = true; memories = true; tables = true }
-
--- It keeps all bounds of wasmparser's own.
+-- It keeps all bounds of wasmparser's own: it meets each demand that is no name, and its names, core types and core modules are not too long.
 pub record IsBounded (t : Tree) : Type 0 where
-  pub demands : ValidTree bounds t
+  pub demands : (demand : Demand) → ¬ (demand ≡ Named) → ValidTree (asking demand) t
   pub contents : KeepsMore t
   pub modules : AllByRecursion (λ text. ¬ BoundedModule text) (modules t)
 
@@ -48,7 +44,7 @@ pub record IsBounded (t : Tree) : Type 0 where
 abbrev pub Breaks : Broken → Tree → Type 0
 Breaks (broken.Rule r) t = ¬ Possible t
 Breaks broken.Named t = WellFormed t × (¬ IsNamed t)
-Breaks broken.Module t = (text : List ℕ) × Contains text (modules t) × BrokenModule text
+Breaks broken.Module t = (text : List ℕ) × Contains (modules t) text × BrokenModule text
 Breaks _ t = ⊥
 
 -- An item of the component begins at that offset.

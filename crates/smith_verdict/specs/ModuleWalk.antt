@@ -1,6 +1,8 @@
 -- What is found of core modules in a row.
-use Rattle.std.specs.Prelude.{ℕ, ◌<◌, List}
+use Rattle.std.specs.Prelude.{ℕ, ◌<◌, List, []}
 use Rattle.std.specs.List.{AllByRecursion, Contains}
+use Rattle.smith_tree.specs.Tree.{modules_in}
+use Rattle.smith_read.specs.Walk.{Step, one}
 use Rattle.smith_verdict.specs.Modules.{BoundedModule, BrokenModule, SoundModule}
 use Rattle.smith_verdict.specs.declared.module_walk.Modules.{Modules}
 use Rattle.smith_verdict.specs.declared.module_walk.Modules.TheVariants.{Sound, Broken, Bounded, Other}
@@ -15,3 +17,8 @@ AreModules items texts Sound = AllByRecursion SoundModule texts
 AreModules items texts (Broken item) = IsOne BrokenModule items texts item
 AreModules items texts (Bounded item) = IsOne BoundedModule items texts item
 AreModules items texts (Other item) = IsOne (λ text. ¬ SoundModule text) items texts item
+
+-- the core module that a step is, if it is one
+abbrev pub texts_in : Step → List (List ℕ)
+texts_in (one p) = modules_in p
+texts_in _ = []

@@ -1,6 +1,7 @@
 -- What a check of a component's contents says.
-use Rattle.std.specs.Prelude.{◌≡◌, Result, Ok, Err}
+use Rattle.std.specs.Prelude.{◌≡◌, ◌<◌, Result, Ok, Err}
 use Rattle.smith_tree.specs.Tree.{Tree}
+use Rattle.smith_read.specs.Items.{items}
 use Rattle.smith_read.specs.Walk.{Step, one}
 use Rattle.smith_verdict.specs.Contained.{Content, HasNoReferences, KeepsMore, OfPart}
 use Rattle.smith_verdict.specs.declared.contained.Contained.{Contained}
@@ -21,8 +22,8 @@ abbrev pub OfStep : (Content → Type 0) → Step → Type 0
 OfStep P (one p) = OfPart P p
 OfStep P _ = Unit {0}
 
--- what is said of a component
+-- what is said of a component, and that it has the item
 abbrev pub IsContained : Tree → Contained → Type 0
 IsContained t contained.Plain = HasNoReferences t × KeepsMore t
-IsContained t (contained.Reference item) = ¬ HasNoReferences t
-IsContained t (contained.TooMuch item) = ¬ KeepsMore t
+IsContained t (contained.Reference item) = (¬ HasNoReferences t) × (item < items t)
+IsContained t (contained.TooMuch item) = (¬ KeepsMore t) × (item < items t)

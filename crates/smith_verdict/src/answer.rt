@@ -1,13 +1,20 @@
 //! What bytes are to every validator of the standard: valid, invalid, beyond a bound, or outside of what is judged.
 
-ghost use Rattle.std.specs.Prelude.{◌≡◌, ◌≤◌, IfOk};
+ghost use Rattle.std.specs.Prelude.{◌≤◌, ℕ, List, IfOk, Some};
 ghost use Rattle.smith_tree.specs.Depths.{scope_depth};
 ghost use Rattle.smith_tree.specs.Grammar.{Spells};
+ghost use Rattle.smith_tree.specs.Tree.{Tree, modules as module_texts};
+ghost use Rattle.smith_tree.specs.Validates.{Validates};
 ghost use Rattle.smith_tree.specs.WellFormed.{WellFormed};
+ghost use Rattle.smith_read.specs.Items.{items};
 ghost use Rattle.smith_read.specs.PartNodes.{shown_tree};
 ghost use Rattle.smith_read.specs.Reads.{AreUnread, most_depth};
-ghost use Rattle.smith_verdict.specs.Answers.{IsAnswer};
+ghost use Rattle.smith_check.specs.Judgement.{Agrees};
+ghost use Rattle.smith_validate.specs.Outcome.{FallsShort};
+ghost use Rattle.smith_verdict.specs.Answers.{AreUnframed, IsAnswer};
 ghost use Rattle.smith_verdict.specs.Findings.{IsFound};
+ghost use Rattle.smith_verdict.specs.ModuleWalk.{AreModules};
+ghost use Rattle.smith_verdict.specs.Shows.{IsContained};
 
 use crate::contained::{Contained, check_contents};
 use crate::frames::{BrokenFrame, Framing, framed};
@@ -104,8 +111,8 @@ pub enum Answer {
         rule: Broken,
         offset: Option<usize>,
     },
-    /// A well formed component beyond a bound: which one, and the offset of an item. The offset is always there. The
-    /// standard refuses nothing that precedes the item; what follows it was not looked at for names.
+    /// A well formed component beyond a bound: which one, and the offset of an item. The offset is always there. If the
+    /// bound is one of a type or a count, it was not looked at whether what follows that item is named.
     Bound {
         demand: Bound,
         offset: Option<usize>,
@@ -142,7 +149,10 @@ impl fmt::Display for Answer {
     }
 }
 
-fn frame_reason(frame: BrokenFrame) -> Broken {
+fn frame_reason(frame: BrokenFrame) -> Broken
+    ensures { (bytes : List ℕ) (offset : ℕ) → AreUnframed bytes offset
+        → IsAnswer bytes (Answer.Invalid result (Some offset)) }
+{
     match frame {
         BrokenFrame::Preamble => Broken::Preamble,
         BrokenFrame::Section => Broken::Section,
@@ -160,14 +170,20 @@ pub(crate) enum Found {
     Outside(Outside, usize),
 }
 
-fn found_fault(fault: Fault) -> Found {
+#[tactic(auto, using(crate::proofs::Answering::fault_outside, crate::proofs::Answering::fault_broken))]
+fn found_fault(fault: Fault) -> Found
+    ensures { (t : Tree) → Agrees t (Judgement.IllFormed fault) → IsFound t result }
+{
     match fault.asked_by {
         Asker::Standard => Found::Invalid(Broken::Rule(fault.rule), fault.item),
         Asker::Lupinanon => Found::Outside(Outside::Rule(fault.rule), fault.item),
     }
 }
 
-fn found_shortfall(shortfall: Shortfall) -> Found {
+#[tactic(auto, using(crate::proofs::Answering::unnamed, crate::proofs::Answering::beyond))]
+fn found_shortfall(shortfall: Shortfall) -> Found
+    ensures { (t : Tree) → WellFormed t → FallsShort shortfall.demand shortfall.item t → IsFound t result }
+{
     match shortfall.demand {
         Demand::Named => Found::Invalid(Broken::Named, shortfall.item),
         Demand::Size => Found::Bound(Bound::Size, shortfall.item),
@@ -177,7 +193,11 @@ fn found_shortfall(shortfall: Shortfall) -> Found {
     }
 }
 
-fn found_within(contents: Contained, modules: Modules) -> Found {
+// What is found of a component that is well formed and meets all demands.
+fn found_within(contents: Contained, modules: Modules) -> Found
+    ensures { (t : Tree) → WellFormed t → Validates t → IsContained t contents
+        → AreModules (items t) (module_texts t) modules → IsFound t result }
+{
     match contents {
         Contained::Reference(item) => Found::Outside(Outside::Reference, item),
         Contained::TooMuch(item) => Found::Bound(Bound::Contents, item),

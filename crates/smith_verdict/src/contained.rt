@@ -1,7 +1,7 @@
 //! Whether a component that was read has concrete references among its core types, and whether it keeps bounds of
 //! wasmparser that no demand speaks of.
 
-ghost use Rattle.std.specs.Prelude.{IfOk, map};
+ghost use Rattle.std.specs.Prelude.{◌≡◌, IfErr, IfOk, map};
 ghost use Rattle.std.specs.List.{AllByRecursion};
 ghost use Rattle.smith_format.specs.Shown.{shown_func};
 ghost use Rattle.smith_syntax.specs.Entries.{function, in_order};
@@ -9,7 +9,7 @@ ghost use Rattle.smith_syntax.specs.Shown.{shown_defined};
 ghost use Rattle.smith_read.specs.Nodes.{shown_core_node, shown_module_node};
 ghost use Rattle.smith_read.specs.PartNodes.{shown_tree};
 ghost use Rattle.smith_read.specs.TypeNodes.{shown_decl_node, shown_type_node};
-ghost use Rattle.smith_read.specs.Walk.{shown_step};
+ghost use Rattle.smith_read.specs.Walk.{items_at, shown_step};
 ghost use Rattle.smith_check.specs.Judges.{Decides};
 ghost use Rattle.smith_verdict.specs.Contained.{IsPlain, IsPlainContent, IsPlainEntity, IsPlainRef};
 ghost use Rattle.smith_verdict.specs.Contained.{IsWithinBounds, OfCore, OfDecl, OfModuleDecl, OfDecls, OfDefined};
@@ -254,6 +254,7 @@ fn check_decls(decls: &[DeclNode]) -> Checked
 fn check_step(step: Step<'_>) -> Checked
     ensures plain { Shows Found.Reference result (OfStep IsPlainContent (shown_step step.entry)) }
     ensures bounded { Shows Found.TooMuch result (OfStep IsWithinBounds (shown_step step.entry)) }
+    ensures item { IfErr result (λ _. items_at (shown_step step.entry) ≡ 1) }
 {
     match step {
         Step::Custom(section) => check_text(&section.name),
@@ -266,7 +267,7 @@ fn check_step(step: Step<'_>) -> Checked
 }
 
 /// Whether a component has concrete references, and whether it keeps the bounds: `Plain` exactly if it has none and
-/// keeps them. If it does neither, either may be found; no contract says in which item. An error is returned only if an
+/// keeps them. If it does neither, either may be found; the component has the item. An error is returned only if an
 /// allocation failed, and says nothing about the component.
 ///
 /// Each item is looked at once. The stack is bounded by how deep types nest, however deep components do.

@@ -1,10 +1,11 @@
 //! What the core modules of a component are to a validator.
 
-ghost use Rattle.std.specs.Prelude.{◌++◌, ◌∷◌, ℕ, List, [], IfOk};
+ghost use Rattle.std.specs.Prelude.{◌+◌, ◌++◌, ◌∷◌, ℕ, List, [], IfOk};
 ghost use Rattle.smith_tree.specs.Tree.{modules};
 ghost use Rattle.smith_read.specs.Items.{items};
 ghost use Rattle.smith_read.specs.PartNodes.{shown_tree};
-ghost use Rattle.smith_verdict.specs.ModuleWalk.{AreModules};
+ghost use Rattle.smith_read.specs.Walk.{items_at, shown_step};
+ghost use Rattle.smith_verdict.specs.ModuleWalk.{AreModules, texts_in};
 ghost use Rattle.smith_verdict.specs.Modules.{JudgesModule};
 
 use crate::modules::{ModuleJudgement, module_of};
@@ -27,18 +28,40 @@ pub(crate) enum Modules {
 impl Modules {
     // What they are with the next module, which is that item. What is broken comes first, and then what is beyond a
     // bound.
+    #[tactic(auto, using(crate::proofs::ModuleWalk::and_lemmas))]
     fn and(self, judgement: ModuleJudgement, item: usize) -> Modules
         ensures { (text : List ℕ) (texts : List (List ℕ)) → JudgesModule text judgement → AreModules item texts self
             → AreModules (item + 1) (texts ++ text ∷ []) result }
     {
-        match (self, judgement) {
-            (found, ModuleJudgement::Sound) => found,
-            (Modules::Broken(first), _) => Modules::Broken(first),
-            (_, ModuleJudgement::Broken) => Modules::Broken(item),
-            (Modules::Bounded(first), _) => Modules::Bounded(first),
-            (_, ModuleJudgement::Bounded) => Modules::Bounded(item),
-            (Modules::Other(first), ModuleJudgement::Other) => Modules::Other(first),
-            (Modules::Sound, ModuleJudgement::Other) => Modules::Other(item),
+        match judgement {
+            ModuleJudgement::Sound => self,
+            ModuleJudgement::Broken => match self {
+                Modules::Broken(first) => Modules::Broken(first),
+                Modules::Sound | Modules::Bounded(_) | Modules::Other(_) => Modules::Broken(item),
+            },
+            ModuleJudgement::Bounded => match self {
+                Modules::Sound | Modules::Other(_) => Modules::Bounded(item),
+                Modules::Broken(_) | Modules::Bounded(_) => self,
+            },
+            ModuleJudgement::Other => match self {
+                Modules::Sound => Modules::Other(item),
+                Modules::Broken(_) | Modules::Bounded(_) | Modules::Other(_) => self,
+            },
+        }
+    }
+
+    // What they are with the modules of the next step.
+    fn after(self, alloc: Global, step: Step<'_>, item: usize) -> Result<Modules, AllocError>
+        ensures { IfOk result (λ found. (texts : List (List ℕ)) → AreModules item texts self
+            → AreModules (item + items_at (shown_step step.entry)) (texts ++ texts_in (shown_step step.entry)) found) }
+    {
+        match step {
+            Step::CoreModule(text) => {
+                let judgement = module_of(alloc, text)?;
+                Ok(self.and(judgement, item))
+            }
+            Step::Custom(_) | Step::Begin(_) | Step::End(_) | Step::CoreType(_) => Ok(self),
+            Step::Type(_) | Step::Canon(_) | Step::Import(_) | Step::Export(_) => Ok(self),
         }
     }
 }
@@ -53,9 +76,7 @@ pub(crate) fn check_modules(alloc: Global, component: &ComponentTree) -> Result<
     let mut found = Modules::Sound;
     let mut item: usize = 0;
     while let Some(step) = steps.next()? {
-        if let Step::CoreModule(text) = step {
-            found = found.and(module_of(alloc, text)?, item);
-        }
+        found = found.after(alloc, step, item)?;
         // Memory is exhausted before numbers are.
         item = item.checked_add(step.items()).ok_or(AllocError)?;
     }
