@@ -9,12 +9,10 @@ ghost use Rattle.smith_tree.specs.Readable.{CanBeGenerated};
 ghost use Rattle.smith_tree.specs.Tree.{Tree};
 ghost use Rattle.smith_read.specs.Reads.{most_depth};
 ghost use Rattle.smith_verdict.specs.Answers.{IsAnswer, IsSound};
-ghost use Rattle.smith_verdict.specs.Answers.{IsAnswer};
 ghost use Rattle.smith_verdict.specs.Framed.{Framed};
 ghost use Rattle.smith_verdict.specs.Validities.{IsValidity};
 ghost use Rattle.smith_verdict.specs.Verdicts.{IsVerdict};
 
-use crate::answer::Answer;
 use crate::answer::Answer;
 use crate::validity::Validity;
 use crate::verdict::Verdict;
@@ -34,14 +32,6 @@ pub fn generated_components_are_valid()
         → found ≡ Validity.Valid }
 {}
 
-/// The bytes of a sound component are answered to be valid: no other answer holds of them, if scopes are at most
-/// `MOST_DEPTH` of `smith_read` deep.
-#[tactic(auto, using(crate::proofs::Answered::sound_law))]
-pub fn sound_components_are_valid()
-    ensures { (tree : Tree) (bytes : List ℕ) (found : Answer) → Spells tree bytes → scope_depth tree ≤ most_depth
-        → IsSound tree → IsAnswer bytes found → found ≡ Answer.Valid }
-{}
-
 /// If components must validate, the bytes of one that can be generated, such as `generate` returns, are answered to be
 /// valid.
 #[tactic(auto, using(crate::proofs::Generated::found_answered))]
@@ -49,6 +39,14 @@ pub fn generated_components_are_answered_valid()
     ensures { (config : Config) (tree : Tree) (bytes : List ℕ) (found : Answer) → config.must_validate ≡ true
         → IsConsistent config → CanBeGenerated config tree → Spells tree bytes → IsAnswer bytes found
         → found ≡ Answer.Valid }
+{}
+
+/// The bytes of a sound component are answered to be valid: no other answer holds of them, if scopes are at most
+/// `MOST_DEPTH` of `smith_read` deep.
+#[tactic(auto, using(crate::proofs::Answered::sound_law))]
+pub fn sound_components_are_valid()
+    ensures { (tree : Tree) (bytes : List ℕ) (found : Answer) → Spells tree bytes → scope_depth tree ≤ most_depth
+        → IsSound tree → IsAnswer bytes found → found ≡ Answer.Valid }
 {}
 
 /// The bytes of a component are framed.
