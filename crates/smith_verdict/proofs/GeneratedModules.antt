@@ -102,9 +102,9 @@ module _ (config : Config) where
   short_functions [] all = tt
   short_functions (f ∷ fs) all = (short_function f all.0, short_functions fs all.1)
 
-spelled : (p : Piece) → ¬ (p ≡ None) → (text : List ℕ) × (p ≡ Some text)
-spelled None some = absurd (some refl)
-spelled (Some text) some = (text, refl)
+has_text : (p : Piece) → ¬ (p ≡ None) → (text : List ℕ) × (p ≡ Some text)
+has_text None some = absurd (some refl)
+has_text (Some text) some = (text, refl)
 
 -- the section of a list, if it has one
 listed_spelled : {A : Type 0} (id : ℕ) (f : A → Piece) (most : ℕ) (xs : List A) → length xs ≤ 100 → length xs * most ≤ 10000
@@ -112,7 +112,7 @@ listed_spelled : {A : Type 0} (id : ℕ) (f : A → Piece) (most : ℕ) (xs : Li
 listed_spelled id f most [] few small all = ([], refl)
 listed_spelled id f most (x ∷ xs) few small all =
     let s = short_many f most (x ∷ xs) (omega (arith, few)) all in
-    spelled (sized id (many f (x ∷ xs))) (takes_sized id s.takes (omega (arith, s.few, small))).spelled
+    has_text (sized id (many f (x ∷ xs))) (takes_sized id s.takes (omega (arith, s.few, small))).spelled
 
 stand_in_spelled : (config : Config) (s : StandIn) → IsStandIn config s → length s.memories ≤ 100 → (text : List ℕ) × (stand_in_text s ≡ Some text)
 stand_in_spelled config s is few =

@@ -43,21 +43,21 @@ same_back a b x y e same =
     let fronts : length a ≡ length b = omega (arith, ap length e, same, length-append a x, length-append b y) in
     sym (drop-append_seam a x) ∙ (λ i. drop (fronts i) (e i)) ∙ drop-append_seam b y
 
--- The name ends with the digits of a number below that many.
+-- The name ends with the digits of a number below that many, and is so much longer at most than a short one.
 pub record Numbered (many : ℕ) (name : List ℕ) : Type 0 where
   number : ℕ
   before : number < many
   front : List ℕ
   is : name ≡ front ++ decimal number
-  within : length name ≤ 101 + 20 * length (decimal number)
+  within : length name ≤ 101 + 10 * length (decimal number)
 
--- or it is short
-abbrev pub Comes : ℕ → List ℕ → Type 0
-Comes many name = (length name ≤ 101) ⊎ Numbered many name
+-- a name that may be among so many
+abbrev pub HasOrigin : ℕ → List ℕ → Type 0
+HasOrigin many name = (length name ≤ 101) ⊎ Numbered many name
 
--- so does each of these, among as many
-abbrev pub AllCome : List (List ℕ) → Type 0
-AllCome names = AllByRecursion (Comes (length names)) names
+-- so may each of these, of which there are as many
+abbrev pub HaveOrigins : List (List ℕ) → Type 0
+HaveOrigins names = AllByRecursion (HasOrigin (length names)) names
 
 -- A short text is made a new name.
 abbrev pub IsMadeShort : List (List ℕ) → List ℕ → Type 0
@@ -84,71 +84,71 @@ fewer_digits many text times small n = elim (cases_lt (length (decimal n.number)
       absurd (omega (arith, number, n.before))
 ]
 
-grown : (many : ℕ) (text : List ℕ) (times : ℕ) → many < 2 ^ 32 → length text ≤ 101 → Comes many (appended text (decimal many) times)
-    → length (appended text (decimal many) times) + length (decimal many) ≤ 101 + 20 * length (decimal many)
-grown many text zero small short comes = omega (arith, short, some_digits many)
+grown : (many : ℕ) (text : List ℕ) (times : ℕ) → many < 2 ^ 32 → length text ≤ 101 → HasOrigin many (appended text (decimal many) times)
+    → length (appended text (decimal many) times) + length (decimal many) ≤ 101 + 10 * length (decimal many)
+grown many text zero small short origin = omega (arith, short, some_digits many)
 grown many text (suc times) small short (inl low) = omega (arith, low, some_digits many)
 grown many text (suc times) small short (inr n) = omega (arith, n.within, fewer_digits many text times small n, few_digits many small)
 
-comes_next : (names : List (List ℕ)) (name : List ℕ) → length names < 2 ^ 32 → AllCome names → IsMadeShort names name
-    → Comes (suc (length names)) name
-comes_next names name small all (text, short, made) = by_times made.times made.name_is made.taken
+origin_next : (names : List (List ℕ)) (name : List ℕ) → length names < 2 ^ 32 → HaveOrigins names → IsMadeShort names name
+    → HasOrigin (suc (length names)) name
+origin_next names name small all (text, short, made) = by_times made.times made.name_is made.taken
   where
     ds : List ℕ
     ds = decimal (length names)
 
     by_times : (times : ℕ) → name ≡ appended text ds times → ((n : ℕ) → n < times → is_among names (appended text ds n) ≡ true)
-        → Comes (suc (length names)) name
+        → HasOrigin (suc (length names)) name
     by_times zero is taken = inl (omega (arith, ap length is, short))
     by_times (suc times) is taken =
-        let comes = among_holds (Comes (length names)) names (appended text ds times) (taken times (omega arith)) all in
+        let origin = among_holds (HasOrigin (length names)) names (appended text ds times) (taken times (omega arith)) all in
         inr (record {
           number = length names;
           before = omega arith;
           front = appended text ds times;
           is = is;
-          within = omega (arith, ap length is, length-append (appended text ds times) ds, grown (length names) text times small short comes);
+          within = omega (arith, ap length is, length-append (appended text ds times) ds, grown (length names) text times small short origin);
         })
 
-comes_later : (many : ℕ) (names : List (List ℕ)) → AllByRecursion (Comes many) names → AllByRecursion (Comes (suc many)) names
-comes_later many [] all = tt
-comes_later many (n ∷ ns) all = (later all.0, comes_later many ns all.1)
+origins_later : (many : ℕ) (names : List (List ℕ)) → AllByRecursion (HasOrigin many) names → AllByRecursion (HasOrigin (suc many)) names
+origins_later many [] all = tt
+origins_later many (n ∷ ns) all = (later all.0, origins_later many ns all.1)
   where
-    later : Comes many n → Comes (suc many) n
+    later : HasOrigin many n → HasOrigin (suc many) n
     later (inl low) = inl low
     later (inr c) = inr (record { number = c.number; before = omega (arith, c.before); front = c.front; is = c.is; within = c.within })
 
-comes_short : (many : ℕ) (name : List ℕ) → many ≤ 2 ^ 32 → Comes many name → length name ≤ 1000
-comes_short many name small (inl low) = omega (arith, low)
-comes_short many name small (inr c) = omega (arith, c.within, few_digits c.number (omega (arith, small, c.before)))
+origin_short : (many : ℕ) (name : List ℕ) → many ≤ 2 ^ 32 → HasOrigin many name → length name ≤ 1000
+origin_short many name small (inl low) = omega (arith, low)
+origin_short many name small (inr c) = omega (arith, c.within, few_digits c.number (omega (arith, small, c.before)))
 
--- Names that come so, of which there are at most that many.
+-- Names that may be made new one after another, of which there are at most that many.
 pub record AreMade (most : ℕ) (names : List (List ℕ)) : Type 0 where
-  come : AllCome names
+  origins : HaveOrigins names
   few : length names ≤ most
 
 pub none_made : AreMade 0 []
-none_made = record { come = tt; few = omega arith }
+none_made = record { origins = tt; few = omega arith }
 
 pub made_among : {m n : ℕ} {names : List (List ℕ)} → m ≤ n → AreMade m names → AreMade n names
-made_among h made = record { come = made.come; few = omega (arith, h, made.few) }
+made_among h made = record { origins = made.origins; few = omega (arith, h, made.few) }
 
 -- and none behind them
 pub none_more : {m n : ℕ} (names : List (List ℕ)) → m ≤ n → AreMade m names → AreMade n (names ++ [])
 none_more {m} {n} names h made = made_among h (subst (AreMade m) (sym (append-nil names)) made)
 
--- the name that is made new, and all names there then
+-- a name that is made new, and all names after it is
 pub one_made : (most : ℕ) (names : List (List ℕ)) (name : List ℕ) → most < 2 ^ 32 → AreMade most names → IsMadeShort names name
     → (length name ≤ 1000) × AreMade (suc most) (names ++ name ∷ [])
 one_made most names name small all made =
     let few : length names < 2 ^ 32 = omega (arith, small, all.few) in
-    let next = comes_next names name few all.come made in
+    let next = origin_next names name few all.origins made in
     let count : suc (length names) ≡ length (names ++ name ∷ []) = omega (arith, length-append names (name ∷ [])) in (
-      comes_short (suc (length names)) name (omega (arith, few)) next,
+      origin_short (suc (length names)) name (omega (arith, few)) next,
       record {
-        come =
-            subst (λ many. AllByRecursion (Comes many) (names ++ name ∷ [])) count
-            (all_both (Comes (suc (length names))) names (name ∷ []) (comes_later (length names) names all.come) (next, tt));
+        origins =
+            subst (λ many. AllByRecursion (HasOrigin many) (names ++ name ∷ [])) count
+            (all_both (HasOrigin (suc (length names))) names (name ∷ []) (origins_later (length names) names all.origins) (next, tt));
         few = omega (arith, count, all.few);
       },
     )

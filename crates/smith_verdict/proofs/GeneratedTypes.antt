@@ -31,7 +31,7 @@ use Rattle.smith_tree.proofs.Fronts.{front_length}
 use Rattle.smith_verdict.specs.Contained.{Content, OfCore, OfDecl, OfDecls, OfDefined, OfEntry, OfModuleDecl, OfNames, core_function, entity, module_type, text}
 use Rattle.smith_verdict.proofs.GeneratedNames.{AreMade, all_made, none_made, none_more, one_made, short_read, short_text_read}
 
--- It holds of all that types within the limits have in them.
+-- It holds of what types within the limits contain: short names, function types, and what module types import, export and declare.
 pub record Holds (config : Config) (P : Content → Type 0) : Type 0 where
   pub names : (n : List ℕ) → length n ≤ 1000 → P (text n)
   pub functions : (f : Function) → FormedFunction (configured config) (max_results config) f → P (core_function f)
