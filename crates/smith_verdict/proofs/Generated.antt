@@ -14,8 +14,8 @@ use Rattle.smith_tree.proofs.Components.{valid_tree}
 use Rattle.smith_tree.proofs.KeptLimits.{limits_kept}
 use Rattle.smith_verdict.specs.Answers.{IsAnswer, IsSound}
 use Rattle.smith_verdict.specs.Contained.{IsPlain, IsPlainContent, IsPlainEntity, IsPlainRef, IsWithinBounds}
-use Rattle.smith_verdict.specs.declared.answer.Answer.{Answer}
-use Rattle.smith_verdict.specs.declared.answer.Answer.TheVariants as answer
+use Rattle.smith_verdict.specs.declared.answers.Answer.{Answer}
+use Rattle.smith_verdict.specs.declared.answers.Answer.TheVariants as answer
 use Rattle.smith_verdict.proofs.Answered.{sound_law}
 use Rattle.smith_verdict.proofs.GeneratedModules.{sound_modules}
 use Rattle.smith_verdict.proofs.GeneratedTrees.{of_whole}
