@@ -13,9 +13,9 @@ use Rattle.smith_validate.specs.Outcome.{asking}
 use Rattle.smith_validate.specs.declared.error.Demand.TheVariants.{Named}
 use Rattle.smith_verdict.specs.Answers.{AreBroken, AreUnframed, IsAnswer, IsBounded, IsNamed, IsSound}
 use Rattle.smith_verdict.specs.Modules.{BoundedModule, SoundModule}
-use Rattle.smith_verdict.specs.declared.answer.Answer.{Answer}
-use Rattle.smith_verdict.specs.declared.answer.Answer.TheVariants as answer
-use Rattle.smith_verdict.specs.declared.answer.Broken.TheVariants as broken
+use Rattle.smith_verdict.specs.declared.answers.Answer.{Answer}
+use Rattle.smith_verdict.specs.declared.answers.Answer.TheVariants as answer
+use Rattle.smith_verdict.specs.declared.answers.Broken.TheVariants as broken
 use Rattle.smith_verdict.proofs.Answering.{contained}
 use Rattle.smith_verdict.proofs.Judging.{sound_not_bounded, sound_not_broken}
 use Rattle.smith_verdict.proofs.Spelled.{spelled_framed}
@@ -46,7 +46,7 @@ module _ (t : Tree) (b : List ℕ) (spelled : Spells t b) (sound : IsSound t) wh
   sound_answered (answer.Invalid broken.Named (Some offset)) shallow f =
       absurd (f.2.1 (subst IsNamed (same f.0 f.1) (weaker_tree (asking Named) t sound.valid)))
   sound_answered (answer.Invalid broken.Module (Some offset)) shallow f =
-      absurd (sound_not_broken f.2.0 (contained (modules f.0) f.2.0 (subst (λ r. AllByRecursion SoundModule (modules r)) (same f.0 f.1) sound.modules) f.2.1) f.2.2)
+      absurd (sound_not_broken f.2.0 (contained SoundModule (modules f.0) f.2.0 (subst (λ r. AllByRecursion SoundModule (modules r)) (same f.0 f.1) sound.modules) f.2.1) f.2.2)
   sound_answered (answer.Invalid broken.Preamble (Some offset)) shallow f = absurd (unframed offset f)
   sound_answered (answer.Invalid broken.Section (Some offset)) shallow f = absurd (unframed offset f)
   sound_answered (answer.Invalid broken.Frame (Some offset)) shallow f = absurd (unframed offset f)

@@ -22,12 +22,12 @@ use Rattle.smith_verdict.specs.Answers.{Breaks, IsAnswer, IsSound}
 use Rattle.smith_verdict.specs.Findings.{IsFound}
 use Rattle.smith_verdict.specs.ModuleWalk.{IsOne}
 use Rattle.smith_verdict.specs.Modules.{BoundedModule, BrokenModule, SoundModule}
-use Rattle.smith_verdict.specs.declared.answer.Answer.TheVariants as answer
-use Rattle.smith_verdict.specs.declared.answer.Bound.{Bound}
-use Rattle.smith_verdict.specs.declared.answer.Broken.{Broken}
-use Rattle.smith_verdict.specs.declared.answer.Broken.TheVariants as broken
-use Rattle.smith_verdict.specs.declared.answer.Found.TheVariants as found
-use Rattle.smith_verdict.specs.declared.answer.Outside.{Outside}
+use Rattle.smith_verdict.specs.declared.answers.Answer.TheVariants as answer
+use Rattle.smith_verdict.specs.declared.answers.Bound.{Bound}
+use Rattle.smith_verdict.specs.declared.answers.Broken.{Broken}
+use Rattle.smith_verdict.specs.declared.answers.Broken.TheVariants as broken
+use Rattle.smith_verdict.specs.declared.finding.Finding.TheVariants as found
+use Rattle.smith_verdict.specs.declared.answers.Outside.{Outside}
 use Rattle.smith_verdict.proofs.Offsets.{item_is, judged, offset_of_item, short_grows, stop_grows}
 
 -- ---- a rule that is broken
@@ -57,12 +57,12 @@ beyond t bound demand item other formed short =
 
 -- ---- what is found of modules
 
-pub contained : {P : List ℕ → Type 0} (texts : List (List ℕ)) (text : List ℕ) → AllByRecursion P texts → Contains texts text → P text
-contained {P} texts text all there = All-contains P texts text (All-from_recursion P texts all) there
+pub contained : (P : List ℕ → Type 0) (texts : List (List ℕ)) (text : List ℕ) → AllByRecursion P texts → Contains texts text → P text
+contained P texts text all there = All-contains P texts text (All-from_recursion P texts all) there
 
 not_all : {P Q : List ℕ → Type 0} (texts : List (List ℕ)) (n item : ℕ) → IsOne P n texts item → ((text : List ℕ) → P text → Q text → ⊥)
     → ¬ AllByRecursion Q texts
-not_all texts n item one both all = both one.1 one.3 (contained texts one.1 all one.2)
+not_all {P} {Q} texts n item one both all = both one.1 one.3 (contained Q texts one.1 all one.2)
 
 pub module_broken : (t : Tree) (item : ℕ) → IsOne BrokenModule (items t) (modules t) item → IsFound t (found.Invalid broken.Module item)
 module_broken t item one = ((one.1, one.2, one.3), one.0)

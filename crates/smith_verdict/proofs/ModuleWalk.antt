@@ -2,12 +2,17 @@
 use Rattle.std.proofs.Common.{◌≡◌, ◌<◌, ◌≤◌, ℕ, ◌+◌, List, [], ◌∷◌, ◌++◌, append-nil, append_assoc, arith, ap, refl, subst, sym, ◌∙◌}
 use Rattle.std.proofs.lemmas.Grind.{flat_map-append}
 use Rattle.std.proofs.lemmas.List.Elements.{Contains-append_left, Contains-push}
+use Rattle.std.specs.Borrow.{Bor}
 use Rattle.std.specs.List.{AllByRecursion, flat_map}
 use Rattle.smith_input.proofs.Lists.{all_both}
 use Rattle.smith_tree.specs.Tree.{Part, Tree, anywhere_in, canons, component, core_module, core_types, custom, ends, exports, first, imports, modules, modules_in}
 use Rattle.smith_tree.specs.Tree.{types}
 use Rattle.smith_read.specs.Items.{items}
-use Rattle.smith_read.specs.Walk.{Step, closes, entry_steps, items_at, steps_in, steps_of}
+use Rattle.smith_read.specs.Walk.{Step, begins, closes, ended, entry_steps, items_at, shown_step, steps_in, steps_of}
+use Rattle.smith_read.specs.declared.steps.Contents.{Contents}
+use Rattle.smith_read.specs.declared.steps.Contents.TheVariants as kind
+use Rattle.smith_read.specs.declared.steps.Step.{Step as StepNode}
+use Rattle.smith_read.specs.declared.steps.Step.TheVariants as step
 use Rattle.smith_check.proofs.Items.{counted, counted-append, tree_counted}
 use Rattle.smith_verdict.specs.ModuleWalk.{AreModules, IsOne, texts_in}
 use Rattle.smith_verdict.specs.Modules.{BoundedModule, BrokenModule, SoundModule}
@@ -23,7 +28,7 @@ pub one_here : (P : List ℕ → Type 0) (item : ℕ) (texts : List (List ℕ)) 
 one_here P item texts text p = (omega arith, text, Contains-push texts text, p)
 
 pub one_more : (P : List ℕ → Type 0) (n m : ℕ) (texts more : List (List ℕ)) (item : ℕ) → n ≤ m → IsOne P n texts item → IsOne P m (texts ++ more) item
-one_more P n m texts more item l o = (omega (arith, o.0), o.1, Contains-append_left texts more o.2, o.3)
+one_more P n m texts more item l o = (omega (arith, o.0), o.1, Contains-append_left texts more o.1 o.2, o.3)
 
 -- those before a module that is sound, or one more that is not worse
 pub same_found : (n m : ℕ) (texts more : List (List ℕ)) (found : Modules) → n ≤ m → AllByRecursion SoundModule more → AreModules n texts found
@@ -32,6 +37,36 @@ same_found n m texts more Sound l s a = all_both SoundModule texts more a s
 same_found n m texts more (Broken item) l s a = one_more BrokenModule n m texts more item l a
 same_found n m texts more (Bounded item) l s a = one_more BoundedModule n m texts more item l a
 same_found n m texts more (Other item) l s a = one_more (λ text. ¬ SoundModule text) n m texts more item l a
+
+pub ruleset and_lemmas = (all_more, one_here, one_more, same_found)
+
+-- a step that is no core module
+none_begun : (c : Contents) → texts_in (begins c) ≡ []
+none_begun (kind.Parts ps) = refl
+none_begun (kind.CoreTypes ts) = refl
+none_begun (kind.Types ts) = refl
+none_begun (kind.Canons fs) = refl
+none_begun (kind.Imports is) = refl
+none_begun (kind.Exports es) = refl
+
+none_ended : (c : Contents) → texts_in (ended c) ≡ []
+none_ended (kind.Parts ps) = refl
+none_ended (kind.CoreTypes ts) = refl
+none_ended (kind.Types ts) = refl
+none_ended (kind.Canons fs) = refl
+none_ended (kind.Imports is) = refl
+none_ended (kind.Exports es) = refl
+
+pub none_in : (s : StepNode) → ((x : Bor (List ℕ)) → s ≡ step.CoreModule x → ⊥) → texts_in (shown_step s) ≡ []
+none_in (step.CoreModule x) other = absurd (other x refl)
+none_in (step.Custom s) other = refl
+none_in (step.Begin c) other = none_begun c
+none_in (step.End c) other = none_ended c
+none_in (step.CoreType t) other = refl
+none_in (step.Type t) other = refl
+none_in (step.Canon f) other = refl
+none_in (step.Import i) other = refl
+none_in (step.Export e) other = refl
 
 -- ---- all of a component
 

@@ -16,10 +16,10 @@ use Rattle.smith_validate.specs.declared.error.Demand.TheVariants.{Named}
 use Rattle.smith_verdict.specs.Contained.{HasNoReferences, KeepsMore}
 use Rattle.smith_verdict.specs.Framed.{Framed}
 use Rattle.smith_verdict.specs.Modules.{BoundedModule, BrokenModule, SoundModule}
-use Rattle.smith_verdict.specs.declared.answer.Answer.{Answer}
-use Rattle.smith_verdict.specs.declared.answer.Answer.TheVariants as answer
-use Rattle.smith_verdict.specs.declared.answer.Broken.{Broken}
-use Rattle.smith_verdict.specs.declared.answer.Broken.TheVariants as broken
+use Rattle.smith_verdict.specs.declared.answers.Answer.{Answer}
+use Rattle.smith_verdict.specs.declared.answers.Answer.TheVariants as answer
+use Rattle.smith_verdict.specs.declared.answers.Broken.{Broken}
+use Rattle.smith_verdict.specs.declared.answers.Broken.TheVariants as broken
 
 -- Every validator has to accept it, if it has all features and no lower bounds than wasmparser: it is well formed, names what it imports and exports, keeps
 -- all bounds, has no concrete references, and its core modules are sound.

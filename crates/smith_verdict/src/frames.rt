@@ -124,7 +124,7 @@ fn sections_in(id: u8, contents: &[u8]) -> Result<&[u8], BrokenFrame>
 
 // Where the section that these bytes follow has no frame: behind its length, or at its id if there is no length.
 fn frame_break(bytes: &[u8]) -> Break
-    requires { length bytes.now < 2 ^ 64 - 1 }
+    requires { length bytes.now + 1 < 2 ^ 64 }
     ensures { result.left ≤ length bytes.now + 1 }
 {
     let broken = BrokenFrame::Frame;

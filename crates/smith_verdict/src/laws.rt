@@ -13,7 +13,7 @@ ghost use Rattle.smith_verdict.specs.Framed.{Framed};
 ghost use Rattle.smith_verdict.specs.Validities.{IsValidity};
 ghost use Rattle.smith_verdict.specs.Verdicts.{IsVerdict};
 
-use crate::answer::Answer;
+use crate::answers::Answer;
 use crate::validity::Validity;
 use crate::verdict::Verdict;
 

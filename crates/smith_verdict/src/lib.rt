@@ -2,8 +2,9 @@
 //! validators of the standard.
 #![tactic(auto)]
 
-mod answer;
+mod answers;
 mod contained;
+mod finding;
 mod frames;
 pub mod laws;
 mod module_sections;
@@ -12,7 +13,8 @@ mod modules;
 mod validity;
 mod verdict;
 
-pub use answer::{Answer, Bound, Broken, Outside, answer};
+pub use answers::{Answer, Bound, Broken, Outside};
+pub use finding::answer;
 pub use frames::{BrokenFrame, Framing, framed};
 pub use smith_check::Rule;
 pub use smith_read::Reason;

@@ -60,8 +60,7 @@ impl Modules {
                 let judgement = module_of(alloc, text)?;
                 Ok(self.and(judgement, item))
             }
-            Step::Custom(_) | Step::Begin(_) | Step::End(_) | Step::CoreType(_) => Ok(self),
-            Step::Type(_) | Step::Canon(_) | Step::Import(_) | Step::Export(_) => Ok(self),
+            _ => Ok(self),
         }
     }
 }
