@@ -1,4 +1,4 @@
-/* What checks.c and edits.c share: bytes, and allocations that are refused. */
+/* What checks.c, answers.c and edits.c share: bytes, and allocations that are refused. */
 #ifndef CHECKS_H
 #define CHECKS_H
 
@@ -38,7 +38,7 @@ typedef struct Bytes {
 #define BYTES(...) {(const uint8_t[]){__VA_ARGS__}, sizeof((const uint8_t[]){__VA_ARGS__})}
 
 /* Whether nothing is written from a place on. */
-static int is_untouched(const uint8_t output[ROOM], size_t place) {
+static inline int is_untouched(const uint8_t output[ROOM], size_t place) {
     for (; place < ROOM; place++)
         if (output[place] != 0xaa) return 0;
     return 1;

@@ -1,6 +1,6 @@
 /* Two threads make components at once, each in an output of its own, and produce the same bytes. Then the deepest
- * components are made and checked, and made again from their scripts, in a thread whose stack is as lupinanon.h says.
- * Built with -fsanitize=thread if the compiler has it. */
+ * components are made, checked and validated, and made again from their scripts, in a thread whose stack is as
+ * lupinanon.h says. Built with -fsanitize=thread if the compiler has it. */
 #include "lupinanon.h"
 #include <pthread.h>
 #include <stdio.h>
@@ -49,7 +49,7 @@ struct Deep {
     size_t depth;
     uint8_t input[DEEP_INPUT];
     size_t input_len, len;
-    int32_t made, checked, scripted, made_again, too_deep;
+    int32_t made, checked, validated, scripted, made_again, too_deep;
     int is_same;
 };
 
@@ -88,6 +88,7 @@ static void *make_and_check(void *argument) {
     limits.max_type_size = 10 * MOST_DEPTH;
     deep->made = lupinanon_generate_into(&limits, deep->input, deep->input_len, output, OUTPUT, &deep->len, NULL);
     deep->checked = lupinanon_check(output, deep->len, NULL);
+    deep->validated = lupinanon_validate(output, deep->len, NULL, NULL);
     deep->scripted = lupinanon_script_into(&limits, output, deep->len, script, OUTPUT, &script_len, NULL);
     deep->made_again = lupinanon_generate_into(&limits, script, script_len, again, OUTPUT, &again_len, NULL);
     deep->is_same = again_len == deep->len && !memcmp(again, output, again_len);
@@ -105,6 +106,7 @@ static int has_room(struct Deep *deep, size_t len) {
     pthread_attr_destroy(&attributes);
     printf("threads: %zu bytes, %zu deep, in %zu bytes of stack\n", deep->len, deep->depth, size);
     if (deep->made || deep->checked != LUPINANON_WELL_FORMED || deep->len != len) return 0;
+    if (deep->validated != LUPINANON_VALID) return 0;
     return !deep->scripted && !deep->made_again && deep->is_same && deep->too_deep == LUPINANON_NO_SCRIPT;
 }
 

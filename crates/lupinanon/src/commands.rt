@@ -18,10 +18,16 @@ const AFTER_LIMITS: &str = "Status:
   2  bad arguments, or a failed write";
 
 const AFTER_CHECK: &str = "Status:
-  0  the component is well formed and, with --validate, valid
-  1  it is not: the rule that it breaks, or what a validator asks, and the offset, are on standard error
+  0  the component is well formed
+  1  it is not: the rule that it breaks, and the offset, are on standard error
   2  bad arguments, memory runs out, or a failed read or write
-  3  the bytes are not in the grammar: what is wrong, and the offset, are on standard error";
+  3  the bytes are not in the grammar: what is wrong, and the offset, are on standard error
+
+Status with --validate:
+  0  valid: each validator must accept it that has all features, and no lower bounds than wasmparser
+  1  invalid: no validator may accept it
+  3  outside, as no component of the grammar: a validator may accept or refuse it
+  4  bound, beyond one of wasmparser's own, or outside for another reason: the same";
 
 const AFTER_SHOW: &str = "Status:
   0  the component is printed
@@ -131,7 +137,7 @@ fn generate_command<'a>(alloc: Global) -> Result<Command<'a>, AllocError> {
 
 fn check_command<'a>(alloc: Global) -> Result<Command<'a>, AllocError> {
     let about = "Say whether a file is a well-formed component, and where it is not";
-    let validate = "Ask too that a validator accepts it: named types, sizes and counts";
+    let validate = "Say what it is to validators: valid, invalid, bound or outside";
     plain(alloc, "check", about, AFTER_CHECK)
         .arg(component(alloc))?
         .arg(switch(alloc, "validate", validate))

@@ -4,17 +4,20 @@ use crate::FAULT;
 use crate::places::{STANDARD_INPUT, Source, print_fault, source_of, status_of_print};
 use crate::show::Shown;
 use smith_read::read;
-use smith_verdict::{Validity, Verdict, check as check_bytes, validate};
+use smith_verdict::{Answer, Outside, Verdict, answer, check as check_bytes};
 use std::fmt;
 use std::io::{self, Read};
 use std::process::ExitCode;
 
 /// What bytes that are not a component end with, and a run that is out of memory; of `check`, a component that is not
-/// well formed, or does not validate if that is asked.
+/// well formed, or bytes that are invalid if that is asked.
 pub const REFUSED: u8 = 1;
 
 /// What `check` and `smaller` end with if the bytes are not in the grammar.
 pub const UNREAD: u8 = 3;
+
+// What `check` ends with if it is asked about validators, and one may accept or refuse the bytes, which may be read.
+const UNDECIDED: u8 = 4;
 
 fn read_whole(rt: &HostRuntime, source: &mut Source) -> io::Result<Vec<u8>> {
     let mut bytes = Vec::new(rt.alloc());
@@ -46,28 +49,55 @@ pub fn refuse<W: fmt::Display>(
     ExitCode::from(status)
 }
 
-fn report(rt: &HostRuntime, path: Option<&str>, validity: &Validity) -> Result<ExitCode, ExitCode> {
-    match validity {
-        Validity::Valid | Validity::Other(Verdict::WellFormed) => {
-            let path = path.unwrap_or(STANDARD_INPUT);
-            status_of_print(rt, println!(rt; "{path}: {validity}"))
-        }
-        Validity::Other(Verdict::Unread { .. }) => Err(refuse(rt, path, validity, UNREAD)),
-        _ => Err(refuse(rt, path, validity, REFUSED)),
+// The status of a component that is not well formed, or of bytes that are none.
+fn verdict_status(verdict: &Verdict) -> u8 {
+    match verdict {
+        Verdict::WellFormed => 0,
+        Verdict::IllFormed { .. } => REFUSED,
+        Verdict::Unread { .. } => UNREAD,
     }
 }
 
-/// Says whether the file is a well-formed component, and if that is asked, one that a validator accepts, and otherwise
-/// what is wrong with it, and where.
-pub fn check(rt: &HostRuntime, path: Option<&str>, validates: bool) -> Result<ExitCode, ExitCode> {
+fn answer_status(answer: &Answer) -> u8 {
+    match answer {
+        Answer::Valid => 0,
+        Answer::Invalid { .. } => REFUSED,
+        Answer::Outside {
+            why: Outside::Unread(_),
+            ..
+        } => UNREAD,
+        Answer::Bound { .. } | Answer::Outside { .. } => UNDECIDED,
+    }
+}
+
+// Prints what a file is, and returns the status, which is an error unless it is 0.
+fn report<W: fmt::Display>(
+    rt: &HostRuntime,
+    path: Option<&str>,
+    found: &W,
+    status: u8,
+) -> Result<ExitCode, ExitCode> {
+    if status != 0 {
+        return Err(refuse(rt, path, found, status));
+    }
+    let path = path.unwrap_or(STANDARD_INPUT);
+    status_of_print(rt, println!(rt; "{path}: {found}"))
+}
+
+/// Says whether the file is a well-formed component, and otherwise what is wrong with it, and where.
+pub fn check(rt: &HostRuntime, path: Option<&str>) -> Result<ExitCode, ExitCode> {
     let bytes = bytes_in(rt, path)?;
-    let judged = if validates {
-        validate(rt.alloc(), &bytes)
-    } else {
-        check_bytes(rt.alloc(), &bytes).map(Validity::Other)
-    };
-    match judged {
-        Ok(validity) => report(rt, path, &validity),
+    match check_bytes(rt.alloc(), &bytes) {
+        Ok(verdict) => report(rt, path, &verdict, verdict_status(&verdict)),
+        Err(_) => Err(refuse(rt, path, &"out of memory", FAULT)),
+    }
+}
+
+/// Says what the file is to validators of the standard.
+pub fn validate(rt: &HostRuntime, path: Option<&str>) -> Result<ExitCode, ExitCode> {
+    let bytes = bytes_in(rt, path)?;
+    match answer(rt.alloc(), &bytes) {
+        Ok(answer) => report(rt, path, &answer, answer_status(&answer)),
         Err(_) => Err(refuse(rt, path, &"out of memory", FAULT)),
     }
 }

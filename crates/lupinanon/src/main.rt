@@ -49,7 +49,8 @@ fn run(rt: &HostRuntime) -> Result<ExitCode, ExitCode> {
     match options::task_of(rt.alloc(), words.as_slice()) {
         Ok(Task::PrintLimits) => places::status_of_print(rt, print!(rt; "{}", DEFAULT_LIMITS)),
         Ok(Task::Generate(options)) => generating::generate(rt, &options),
-        Ok(Task::Check(path, validates)) => inspecting::check(rt, path, validates),
+        Ok(Task::Check(path, false)) => inspecting::check(rt, path),
+        Ok(Task::Check(path, true)) => inspecting::validate(rt, path),
         Ok(Task::Show(path)) => inspecting::show(rt, path),
         Ok(Task::Script(options)) => scripting::script(rt, &options),
         Ok(Task::Smaller(options, choice)) => reducing::reduce(rt, &options, choice),

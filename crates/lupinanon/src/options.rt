@@ -13,8 +13,8 @@ pub enum Task<'a> {
     PrintLimits,
     /// Make a component.
     Generate(Options<'a>),
-    /// Say whether a file is a well-formed component, and if that is asked, whether a validator accepts it; standard
-    /// input if it is absent.
+    /// Say whether a file is a well-formed component, or if that is asked, what it is to validators; standard input if
+    /// it is absent.
     Check(Option<&'a str>, bool),
     /// Print the component in a file.
     Show(Option<&'a str>),

@@ -10,6 +10,7 @@ int32_t lupinanon_proved_swarm_limits(void *limits, const uint8_t *input, size_t
 int32_t lupinanon_proved_generate_into(const void *limits, const uint8_t *input, size_t input_len, uint8_t *output,
                                        size_t output_len, size_t *bytes_len, size_t *left);
 int32_t lupinanon_proved_check(const uint8_t *bytes, size_t bytes_len, size_t *offset);
+int32_t lupinanon_proved_validate(const uint8_t *bytes, size_t bytes_len, size_t *rule, size_t *offset);
 int32_t lupinanon_proved_script_into(const void *limits, const uint8_t *bytes, size_t bytes_len, uint8_t *output,
                                      size_t output_len, size_t *script_len, size_t *offset);
 int32_t lupinanon_proved_smaller(const void *limits, const uint8_t *bytes, size_t bytes_len, size_t k, uint8_t *output,
@@ -167,6 +168,9 @@ const char *lupinanon_status_name(int32_t status) {
     case LUPINANON_UNREAD: return "unread";
     case LUPINANON_NO_SCRIPT: return "no script";
     case LUPINANON_NO_SMALLER: return "no smaller component";
+    case LUPINANON_INVALID: return "invalid";
+    case LUPINANON_BOUND: return "beyond a bound";
+    case LUPINANON_OUTSIDE: return "not judged";
     default: return "unknown status";
     }
 }
@@ -264,6 +268,20 @@ int32_t lupinanon_check(const uint8_t *bytes, size_t bytes_len, size_t *offset) 
         if (!is_there(read) || !is_apart(written, read)) return LUPINANON_BAD_ARGUMENT;
     }
     return lupinanon_proved_check(bytes ? bytes : &nothing, bytes_len, offset);
+}
+
+int32_t lupinanon_validate(const uint8_t *bytes, size_t bytes_len, size_t *rule, size_t *offset) {
+    uint8_t nothing = 0;
+    size_t no_rule, no_offset;
+    if (!rule) rule = &no_rule;
+    if (!offset) offset = &no_offset;
+    *rule = LUPINANON_NO_RULE;
+    *offset = LUPINANON_NO_OFFSET;
+    {
+        Memory written[] = {MEMORY_OF(rule), MEMORY_OF(offset)}, read = {bytes, bytes_len};
+        if (!may_pass(&read, 1, written, 2)) return LUPINANON_BAD_ARGUMENT;
+    }
+    return lupinanon_proved_validate(bytes ? bytes : &nothing, bytes_len, rule, offset);
 }
 
 int32_t lupinanon_script_into(const LupinanonLimits *limits, const uint8_t *bytes, size_t bytes_len, uint8_t *output,

@@ -1,8 +1,9 @@
 /* WebAssembly components from a fuzzer's bytes.
  *
- * Eleven functions are proved: the ones that lupinanon_default_limits, lupinanon_swarm_limits, lupinanon_generate_into,
- * lupinanon_check, lupinanon_script_into, lupinanon_smaller, lupinanon_next_smaller, lupinanon_without and
- * lupinanon_join call after a check of their arguments. That check, and all else, is the plain C of lupinanon.c.
+ * Twelve functions are proved: the ones that lupinanon_default_limits, lupinanon_swarm_limits, lupinanon_generate_into,
+ * lupinanon_check, lupinanon_validate, lupinanon_script_into, lupinanon_smaller, lupinanon_next_smaller,
+ * lupinanon_without and lupinanon_join call after a check of their arguments. That check, and all else, is the plain C
+ * beside this header.
  *
  * What the caller owes, and nothing checks:
  *  - A pointer that is not NULL points to what its type says, and a length says how much lies there. Limits are as many
@@ -101,6 +102,7 @@ typedef struct LupinanonLimits {
 enum LupinanonStatus {
     LUPINANON_ANSWERED = 0,            /* what was asked for is written */
     LUPINANON_WELL_FORMED = 0,         /* of lupinanon_check: the bytes are a component that is well formed */
+    LUPINANON_VALID = 0,               /* of lupinanon_validate: the bytes are a valid component */
     LUPINANON_INCONSISTENT_LIMITS = 1, /* a minimum passes its maximum, a maximum 32 bits, or the depth 1000 */
     LUPINANON_MINIMUM_NOT_MET = 2,     /* no more imports or functions of a minimum can be added */
     LUPINANON_MODULE_REFUSED = 3,      /* a core module is chosen, and min_memories passes max_memories */
@@ -117,22 +119,32 @@ enum LupinanonStatus {
     LUPINANON_UNREAD = 11,             /* the bytes are no component, or it nests too deep */
     LUPINANON_NO_SCRIPT = 12,          /* the bytes are a component that is well formed, but no input produces it
                                         * within the limits */
-    LUPINANON_NO_SMALLER = 13          /* there is no k-th smaller component, none from a step on, or no k-th item */
+    LUPINANON_NO_SMALLER = 13,         /* there is no k-th smaller component, none from a step on, or no k-th item */
+    LUPINANON_INVALID = 14,            /* no validator may accept the bytes */
+    LUPINANON_BOUND = 15,              /* the bytes are a well-formed component beyond a bound of a validator's own */
+    LUPINANON_OUTSIDE = 16             /* the bytes are not judged: a validator may accept or refuse them */
 };
 
 /* How many bytes of stack a call takes at most, with a fifth to spare: within limits of that max_nesting_depth, and at
- * 1000 also lupinanon_check and lupinanon_script_into of any bytes: theirs grows with how deep the bytes nest, whatever
- * the limits. At 1000, the greatest depth, that is 2 MiB. */
+ * 1000 also lupinanon_check, lupinanon_validate and lupinanon_script_into of any bytes: theirs grows with how deep the
+ * bytes nest, whatever the limits. At 1000, the greatest depth, that is 2 MiB. */
 #define LUPINANON_STACK(max_nesting_depth) (49152 + 2048 * (size_t)(max_nesting_depth))
 
-/* What lupinanon_check and lupinanon_script_into write if they know no offset. */
+/* What lupinanon_check, lupinanon_validate and lupinanon_script_into write if they know no offset. */
 #define LUPINANON_NO_OFFSET SIZE_MAX
+
+/* What lupinanon_validate writes if there is no rule. */
+#define LUPINANON_NO_RULE SIZE_MAX
 
 /* LUPINANON_VERSION of the library, which differs from this header's if the two do not belong together. */
 const char *lupinanon_version(void);
 
 /* A status in words, as "out of memory"; "unknown status" of any other number. Neither string is ever freed. */
 const char *lupinanon_status_name(int32_t status);
+
+/* What lupinanon_validate found by that number, in words, as "no type has that index"; "unknown rule" of any other
+ * number. Neither string is ever freed. */
+const char *lupinanon_rule_text(size_t rule);
 
 /* Writes the default limits, and their size: lupinanon_default_limits(&limits, sizeof limits). What the library has no
  * limit for is set to 0.
@@ -188,6 +200,23 @@ int32_t lupinanon_generate(const LupinanonLimits *limits, const uint8_t *input, 
  *
  * Bytes may be NULL if their length is 0, and `offset` if it is not needed. */
 int32_t lupinanon_check(const uint8_t *bytes, size_t bytes_len, size_t *offset);
+
+/* What bytes are to whoever tests a validator. docs/JUDGEMENT.md says more.
+ *
+ * LUPINANON_VALID: they are a component that a validator has to accept, if it has all features and no lower bounds than
+ * wasmparser.
+ * LUPINANON_INVALID: no validator may accept them. *rule says why, and *offset where: 0 to 99, a rule of well-formed
+ * components; 100 to 199, anything else of the standard, such as the length of a section.
+ * LUPINANON_BOUND: they are a well-formed component beyond a bound of wasmparser's own, 200 to 299.
+ * LUPINANON_OUTSIDE: nothing is known. 300 to 399 are rules of well-formed components that the standard may not have,
+ * 400 to 499 say why bytes are no component of the grammar, as with LUPINANON_UNREAD, and from 500 on why one is not
+ * judged.
+ * LUPINANON_OUT_OF_MEMORY, LUPINANON_BAD_ARGUMENT: the call failed. *rule is then LUPINANON_NO_RULE, and *offset
+ * LUPINANON_NO_OFFSET, as of a component that is valid. Otherwise *offset is at most `bytes_len`.
+ *
+ * A number keeps its meaning in all later versions, which may add others at the end of each group.
+ * Bytes may be NULL if their length is 0, and `rule` and `offset` if they are not needed. */
+int32_t lupinanon_validate(const uint8_t *bytes, size_t bytes_len, size_t *rule, size_t *offset);
 
 /* Writes the script of the component that bytes are to the front of the output: an input from which
  * lupinanon_generate_into produces these bytes, within the same limits, with nothing left. Each component

@@ -1,4 +1,5 @@
 pub mod Limits
 pub mod Makes
 pub mod Reduces
+pub mod Rules
 pub mod Scripts

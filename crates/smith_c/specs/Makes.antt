@@ -9,7 +9,7 @@ use Rattle.smith_tree.specs.Tree.{Tree}
 use Rattle.smith_c.specs.Limits.{limits_of}
 use Rattle.smith_c.specs.declared.limits.Limits.{Limits}
 use Rattle.smith_c.specs.declared.status.Status.{Status}
-use Rattle.smith_c.specs.declared.status.Status.TheVariants.{Answered, Refused, NoRoom, BadFlag, IllFormed, Unread, NoScript, NoSmaller}
+use Rattle.smith_c.specs.declared.status.Status.TheVariants.{Answered, Refused, NoRoom, BadFlag, IllFormed, Unread, NoScript, NoSmaller, Invalid, Bound, Outside}
 use Rattle.std.specs.Prelude.{ℤ, pos}
 use Rattle.smith_input.specs.declared.error.Error.TheVariants.{InconsistentLimits, MinimumNotMet, ModuleRefused, TooLong, OutOfMemory, PartsDisagree}
 
@@ -36,6 +36,9 @@ Stops limits input IllFormed = ⊥
 Stops limits input Unread = ⊥
 Stops limits input NoScript = ⊥
 Stops limits input NoSmaller = ⊥
+Stops limits input Invalid = ⊥
+Stops limits input Bound = ⊥
+Stops limits input Outside = ⊥
 
 -- What a call returns in C.
 
@@ -54,6 +57,9 @@ code_of IllFormed = pos 10
 code_of Unread = pos 11
 code_of NoScript = pos 12
 code_of NoSmaller = pos 13
+code_of Invalid = pos 14
+code_of Bound = pos 15
+code_of Outside = pos 16
 
 -- what is written if no offset is known: 2^64 - 1
 abbrev pub no_offset : ℕ

@@ -15,7 +15,7 @@ use Rattle.smith_reduce.specs.declared.error.ReduceError.TheVariants as refusal
 use Rattle.smith_c.specs.Limits.{limits_of}
 use Rattle.smith_c.specs.declared.limits.Limits.{Limits}
 use Rattle.smith_c.specs.declared.status.Status.{Status}
-use Rattle.smith_c.specs.declared.status.Status.TheVariants.{Answered, Refused, NoRoom, BadFlag, IllFormed, Unread, NoScript, NoSmaller}
+use Rattle.smith_c.specs.declared.status.Status.TheVariants.{Answered, Refused, NoRoom, BadFlag, IllFormed, Unread, NoScript, NoSmaller, Invalid, Bound, Outside}
 
 -- This is the k-th of the components that have the property and are smaller by a step than the component of the bytes; none
 -- if there is no k-th.
@@ -79,6 +79,9 @@ LacksWithin none limits bytes IllFormed = ⊥
 LacksWithin none limits bytes Unread = IsUnread bytes
 LacksWithin none limits bytes NoScript = ⊥
 LacksWithin none limits bytes NoSmaller = none
+LacksWithin none limits bytes Invalid = ⊥
+LacksWithin none limits bytes Bound = ⊥
+LacksWithin none limits bytes Outside = ⊥
 
 -- No smaller component is returned: there is no k-th.
 abbrev pub Unreduced : Limits → List ℕ → ℕ → Status → Type 0
@@ -99,6 +102,9 @@ Lacks none bytes IllFormed = ⊥
 Lacks none bytes Unread = IsUnread bytes
 Lacks none bytes NoScript = ⊥
 Lacks none bytes NoSmaller = none
+Lacks none bytes Invalid = ⊥
+Lacks none bytes Bound = ⊥
+Lacks none bytes Outside = ⊥
 
 -- No joined component is returned: it has no encoding, or the bytes of one are not read, or no memory is left.
 abbrev pub AreUnjoined : List ℕ → List ℕ → Status → Type 0
@@ -115,3 +121,6 @@ AreUnjoined first second IllFormed = ⊥
 AreUnjoined first second Unread = IsUnread first ⊎ IsUnread second
 AreUnjoined first second NoScript = ⊥
 AreUnjoined first second NoSmaller = ⊥
+AreUnjoined first second Invalid = ⊥
+AreUnjoined first second Bound = ⊥
+AreUnjoined first second Outside = ⊥

@@ -8,6 +8,8 @@ pub mod limits;
 pub mod make;
 mod put;
 pub mod reduce;
+pub mod rules;
 pub mod script;
 pub mod status;
 pub mod swarm;
+pub mod validate;

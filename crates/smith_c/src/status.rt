@@ -8,7 +8,7 @@ use smith_input::Error;
 /// How a call ended.
 #[derive(Drop)]
 pub enum Status {
-    /// What was asked for is in the output; or the bytes are a component that is well formed.
+    /// What was asked for is in the output; or the bytes are a component that is well formed, or valid.
     Answered,
     /// No component is made of the input, or there is not enough memory for what was asked for.
     Refused(Error),
@@ -24,13 +24,20 @@ pub enum Status {
     NoScript,
     /// There is no smaller component of that number, none from that step on, or no item of that number.
     NoSmaller,
+    /// No validator may accept the bytes.
+    Invalid,
+    /// The bytes are a well-formed component beyond a bound of a validator's own.
+    Bound,
+    /// A validator may accept the bytes or refuse them.
+    Outside,
 }
 
 impl Status {
-    /// Its number in C: 0 if the output has it or the bytes are well formed, 1 to 6 for the refusals in the order of
-    /// `Error`, 7 if there is no room, 8 for a byte that is not a flag, 10 for a component that is not well formed, 11
-    /// for bytes that are not a component, 12 if there is no script, and 13 if there is no smaller component. The
-    /// header has 9 for arguments that no call may have.
+    /// Its number in C: 0 if the output has it or the bytes are well formed or valid, 1 to 6 for the refusals in the
+    /// order of `Error`, 7 if there is no room, 8 for a byte that is not a flag, 10 for a component that is not well
+    /// formed, 11 for bytes that are not a component, 12 if there is no script, 13 if there is no smaller component, and
+    /// 14 to 16 for bytes that are invalid, beyond a bound, or not judged. The header has 9 for arguments that no call
+    /// may have.
     pub fn code(&self) -> i32
         ensures { result ≡ code_of self.now }
     {
@@ -48,6 +55,9 @@ impl Status {
             Status::Unread => 11,
             Status::NoScript => 12,
             Status::NoSmaller => 13,
+            Status::Invalid => 14,
+            Status::Bound => 15,
+            Status::Outside => 16,
         }
     }
 }

@@ -18,6 +18,7 @@
 
 extern crate alloc;
 
+mod answer;
 mod library;
 mod limits;
 mod raw_limits;
@@ -26,6 +27,7 @@ use alloc::vec::Vec;
 use core::fmt;
 use core::ops::Range;
 
+pub use answer::{Answer, Rule};
 pub use limits::Limits;
 
 impl Default for Limits {
@@ -99,7 +101,7 @@ pub enum Verdict {
     Unread { offset: usize },
 }
 
-/// Out of memory in a check, which then says nothing about the bytes.
+/// Out of memory in a check or a validation, which then says nothing about the bytes.
 #[derive(Clone, Copy, Debug, PartialEq, Eq)]
 pub struct OutOfMemory;
 
@@ -198,11 +200,11 @@ pub fn generate(limits: &Limits, input: &[u8]) -> Result<Generated, Refusal> {
         output.try_reserve_exact(room).map_err(|_| Refusal::OutOfMemory)?;
         output.resize(room, 0);
         match library::generate_into(limits, input, &mut output)? {
-            library::Answer::Written { len, left } => {
+            library::Outcome::Written { len, left } => {
                 output.truncate(len);
                 return Ok(Generated { bytes: output, left });
             }
-            library::Answer::NoRoom { len } => {
+            library::Outcome::NoRoom { len } => {
                 output.clear();
                 room = len;
             }
@@ -213,6 +215,12 @@ pub fn generate(limits: &Limits, input: &[u8]) -> Result<Generated, Refusal> {
 /// Returns what the bytes are: a component that is well formed, one that is not, or not a component.
 pub fn check(bytes: &[u8]) -> Result<Verdict, OutOfMemory> {
     library::check(bytes)
+}
+
+/// Returns what the bytes are to whoever tests a validator: a component that it has to accept, bytes that it may not
+/// accept, or neither.
+pub fn validate(bytes: &[u8]) -> Result<Answer, OutOfMemory> {
+    library::validate(bytes)
 }
 
 /// Returns the script of the component that the bytes are: an input from which `generate` produces these bytes within

@@ -1,7 +1,7 @@
 //! The static library's functions.
 
 use crate::raw_limits::RawLimits;
-use crate::{Limits, NoScript, OutOfMemory, Refusal, Unreduced, Verdict};
+use crate::{Answer, Limits, NoScript, OutOfMemory, Refusal, Rule, Unreduced, Verdict};
 use core::ffi::{c_char, CStr};
 use core::mem::{size_of, MaybeUninit};
 
@@ -24,6 +24,13 @@ extern "C" {
         left: *mut usize,
     ) -> i32;
     fn lupinanon_check(bytes: *const u8, bytes_len: usize, offset: *mut usize) -> i32;
+    fn lupinanon_validate(
+        bytes: *const u8,
+        bytes_len: usize,
+        rule: *mut usize,
+        offset: *mut usize,
+    ) -> i32;
+    fn lupinanon_rule_text(rule: usize) -> *const c_char;
     fn lupinanon_script_into(
         limits: *const RawLimits,
         bytes: *const u8,
@@ -104,7 +111,7 @@ pub fn swarm_limits(limits: &Limits, input: &[u8]) -> (Limits, usize) {
 }
 
 /// The result for an output of some size.
-pub enum Answer {
+pub enum Outcome {
     /// That many bytes are at its front, and that many of the input are left.
     Written { len: usize, left: usize },
     /// It needs that many bytes.
@@ -112,7 +119,7 @@ pub enum Answer {
 }
 
 /// Writes the component's bytes to the front of the output, if there is room.
-pub fn generate_into(limits: &Limits, input: &[u8], output: &mut [u8]) -> Result<Answer, Refusal> {
+pub fn generate_into(limits: &Limits, input: &[u8], output: &mut [u8]) -> Result<Outcome, Refusal> {
     let limits = RawLimits::of(limits);
     let (mut len, mut left) = (0, 0);
     // SAFETY: no reference is null, the lengths are the slices', and nothing written overlaps anything.
@@ -128,14 +135,14 @@ pub fn generate_into(limits: &Limits, input: &[u8], output: &mut [u8]) -> Result
         )
     };
     match status {
-        0 => Ok(Answer::Written { len, left }),
+        0 => Ok(Outcome::Written { len, left }),
         1 => Err(Refusal::InconsistentLimits),
         2 => Err(Refusal::MinimumNotMet),
         3 => Err(Refusal::ModuleRefused),
         4 => Err(Refusal::TooLong),
         5 => Err(Refusal::OutOfMemory),
         6 => Err(Refusal::PartsDisagree),
-        7 => Ok(Answer::NoRoom { len }),
+        7 => Ok(Outcome::NoRoom { len }),
         other => unexpected(other),
     }
 }
@@ -165,6 +172,30 @@ pub fn check(bytes: &[u8]) -> Result<Verdict, OutOfMemory> {
         11 => Ok(Verdict::Unread { offset }),
         other => unreachable!("the arguments are good, and {other} is no status of a check"),
     }
+}
+
+/// What the bytes are to validators.
+pub fn validate(bytes: &[u8]) -> Result<Answer, OutOfMemory> {
+    let (mut number, mut offset) = (0, 0);
+    // SAFETY: the length is the slice's, and what is written overlaps nothing.
+    let status =
+        unsafe { lupinanon_validate(bytes.as_ptr(), bytes.len(), &mut number, &mut offset) };
+    let rule = Rule { number };
+    match status {
+        0 => Ok(Answer::Valid),
+        5 => Err(OutOfMemory),
+        14 => Ok(Answer::Invalid { rule, offset }),
+        15 => Ok(Answer::Bound { rule, offset }),
+        16 => Ok(Answer::Outside { rule, offset }),
+        other => unreachable!("the arguments are good, and {other} is no status of a validation"),
+    }
+}
+
+/// A rule in words.
+pub fn rule_text(rule: usize) -> &'static str {
+    // SAFETY: the call returns a string of the library's own, which is never given back.
+    let text = unsafe { CStr::from_ptr(lupinanon_rule_text(rule)) };
+    text.to_str().expect("a rule is ASCII")
 }
 
 /// How long the script of the bytes is. It is written to the front of the output, if there is room.

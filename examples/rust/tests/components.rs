@@ -1,6 +1,6 @@
 use lupinanon::{
-    check, generate, join, library_version, next_smaller, reduce, script, smaller, swarm_limits, without, Limits, NoScript,
-    Refusal, Unreduced, Verdict,
+    check, generate, join, library_version, next_smaller, reduce, script, smaller, swarm_limits, validate, without, Answer,
+    Limits, NoScript, Refusal, Unreduced, Verdict,
 };
 
 #[test]
@@ -90,6 +90,23 @@ fn components_are_judged() {
     assert_eq!(check(&of_itself), Ok(Verdict::IllFormed { offset: Some(12) }));
     assert_eq!(check(b"\x00asm\x01\x00\x00\x00"), Ok(Verdict::Unread { offset: 0 }));
     assert_eq!(check(b""), Ok(Verdict::Unread { offset: 0 }));
+}
+
+#[test]
+fn bytes_are_answered() {
+    let preamble = b"\x00asm\x0d\x00\x01\x00";
+    let said = |section: &[u8]| validate(&[&preamble[..], section].concat()).unwrap().to_string();
+    assert_eq!(validate(preamble), Ok(Answer::Valid));
+    assert_eq!(said(b"\x07\x02\x01\x79"), "valid");
+    assert_eq!(said(b"\x07\x04\x02\x7f\x70\x01"), "invalid: no type has that index at offset 12");
+    assert_eq!(said(b"\x07\x82\x00\x01\x7f"), "outside: a number is padded, too great or negative at offset 9");
+    let tuples = [0x79, 0, 1].map(|of| [&b"\x6f\x64"[..], &[of; 100]].concat()).concat();
+    let too_large = "bound: the effective size of a type is 1000000 or more at offset 216";
+    assert_eq!(said(&[&b"\x07\xb3\x02\x03"[..], &tuples].concat()), too_large);
+    let Ok(Answer::Invalid { rule, offset }) = validate(b"") else {
+        panic!("no bytes are invalid");
+    };
+    assert_eq!((rule.number(), rule.text(), offset), (102, "a preamble is missing", 0));
 }
 
 #[test]
