@@ -20,7 +20,7 @@ use Rattle.smith_verdict.specs.declared.validity.Validity.TheVariants as validit
 use Rattle.smith_verdict.specs.declared.verdict.Verdict.{Verdict}
 use Rattle.smith_verdict.specs.declared.verdict.Verdict.TheVariants as verdict
 
-shallow : (config : Config) (t : Tree) → IsConsistent config → CanBeGenerated config t → scope_depth t ≤ most_depth
+pub shallow : (config : Config) (t : Tree) → IsConsistent config → CanBeGenerated config t → scope_depth t ≤ most_depth
 shallow config t fits can = omega (arith, scopes_within config t can.limits.maxima, fits.nesting)
 
 pub found_formed : (config : Config) (t : Tree) (b : List ℕ) (found : Verdict) → IsConsistent config → CanBeGenerated config t → Spells t b

@@ -32,6 +32,15 @@ pub fn generated_components_are_valid()
         → found ≡ Validity.Valid }
 {}
 
+/// If components must validate, the bytes of one that can be generated, such as `generate` returns, are answered to be
+/// valid.
+#[tactic(auto, using(crate::proofs::Generated::found_answered))]
+pub fn generated_components_are_answered_valid()
+    ensures { (config : Config) (tree : Tree) (bytes : List ℕ) (found : Answer) → config.must_validate ≡ true
+        → IsConsistent config → CanBeGenerated config tree → Spells tree bytes → IsAnswer bytes found
+        → found ≡ Answer.Valid }
+{}
+
 /// The bytes of a sound component are answered to be valid: no other answer holds of them, if scopes are at most
 /// `MOST_DEPTH` of `smith_read` deep.
 #[tactic(auto, using(crate::proofs::Answered::sound_law))]
