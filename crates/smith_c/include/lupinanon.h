@@ -2,8 +2,7 @@
  *
  * Twelve functions are proved: the ones that lupinanon_default_limits, lupinanon_swarm_limits, lupinanon_generate_into,
  * lupinanon_check, lupinanon_validate, lupinanon_script_into, lupinanon_smaller, lupinanon_next_smaller,
- * lupinanon_without and lupinanon_join call after a check of their arguments. That check, and all else, is the plain C
- * beside this header.
+ * lupinanon_without and lupinanon_join call after a check of their arguments. That check, and all else, is plain C.
  *
  * What the caller owes, and nothing checks:
  *  - A pointer that is not NULL points to what its type says, and a length says how much lies there. Limits are as many
