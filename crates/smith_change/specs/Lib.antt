@@ -1,0 +1,11 @@
+pub mod Alternatives
+pub mod Changes
+pub mod CoreTypes
+pub mod Members
+pub mod Modules
+pub mod Parts
+pub mod Refusals
+pub mod Rows
+pub mod Search
+pub mod Sections
+pub mod Types

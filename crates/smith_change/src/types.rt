@@ -1,0 +1,276 @@
+//! Types, and what types of components and instances declare.
+
+ghost use Rattle.std.specs.Prelude.{◌≡◌, ◌==◌, Bool, true, Option, Some, None, length, map, IfOk, IsSome, option_map, refl};
+ghost use Rattle.smith_syntax.specs.Entries.{Decl, Entry, in_order};
+ghost use Rattle.smith_syntax.specs.WellFormed.{decl_imports};
+ghost use Rattle.smith_read.specs.TypeNodes.{shown_decl_node, shown_type_node};
+ghost use Rattle.smith_change.specs.Rows as rows;
+ghost use Rattle.smith_change.specs.Search.{past, sought};
+ghost use Rattle.smith_change.specs.Types as types;
+
+use crate::alternatives::only;
+use crate::copies::{copy_declaration, copy_declarations, copy_type};
+use crate::core_types::change_outer;
+use crate::externs::change_extern;
+use crate::members::{change_defined, change_signature};
+use crate::rows::{Entry, Row, again_name, change_entry, named};
+use crate::search::{Change, Changed, Search};
+use smith_read::{DeclNode, TypeNode};
+use smith_syntax::ComponentTypeRef;
+use std::alloc::{AllocError, Global};
+
+/// Whose declarations they are.
+#[derive(Clone, Copy, PartialEq, Eq)]
+pub(crate) enum Owner {
+    Component,
+    Instance,
+}
+
+// Is none of these an import?
+fn import_nothing(nodes: &[DeclNode]) -> bool
+{
+    for node in nodes {
+        if let DeclNode::Import { .. } = node {
+            return false;
+        }
+    }
+    true
+}
+
+impl Entry for DeclNode {
+    ghost Shown = { Decl };
+
+    ghost shown = { shown_decl_node };
+
+    ghost places = { types.decl_places };
+
+    ghost changes = { types.decl_changed true };
+
+    ghost again = { types.decl_again };
+
+    ghost fresh = { λ n. None };
+
+    fn copied(&self, alloc: Global) -> Result<DeclNode, AllocError> {
+        copy_declaration(alloc, self)
+    }
+
+    #[tactic(auto, using(smith_read::proofs::ShownNodes::shown_nodes))]
+    fn renamed(&self, alloc: Global) -> Changed<DeclNode> {
+        match self {
+            DeclNode::Import { to, .. } => Ok(Some(DeclNode::Import {
+                name: again_name(alloc)?,
+                to: *to,
+            })),
+            DeclNode::Export { to, .. } => Ok(Some(DeclNode::Export {
+                name: again_name(alloc)?,
+                to: *to,
+            })),
+            DeclNode::Core(_)
+            | DeclNode::Type(_)
+            | DeclNode::TypeAlias { .. }
+            | DeclNode::CoreTypeAlias { .. } => Ok(None),
+        }
+    }
+
+    fn fresh(_alloc: Global, _number: usize) -> Changed<DeclNode> {
+        Ok(None)
+    }
+}
+
+impl Entry for TypeNode {
+    ghost Shown = { Entry };
+
+    ghost shown = { shown_type_node };
+
+    ghost places = { types.entry_places };
+
+    ghost changes = { types.entry_changed };
+
+    ghost again = { rows.unnamed };
+
+    ghost fresh = { λ n. None };
+
+    fn copied(&self, alloc: Global) -> Result<TypeNode, AllocError> {
+        copy_type(alloc, self)
+    }
+
+    fn renamed(&self, _alloc: Global) -> Changed<TypeNode> {
+        Ok(None)
+    }
+
+    fn fresh(_alloc: Global, _number: usize) -> Changed<TypeNode> {
+        Ok(None)
+    }
+}
+
+impl Row for TypeNode {
+    fn changed(&self, change: Change, search: &mut Search) -> Changed<TypeNode> {
+        change_type(change, search, self)
+    }
+}
+
+// The type of an instance with these declarations, in place of a component's.
+fn as_instance(change: Change, nodes: &[DeclNode]) -> Changed<TypeNode>
+{
+    if !import_nothing(nodes) {
+        return Ok(None);
+    }
+    let nodes = copy_declarations(change.alloc, nodes)?;
+    Ok(only(change.alternative, TypeNode::Instance(nodes)))
+}
+
+// The type of a component with these declarations, in place of an instance's.
+fn as_component(change: Change, nodes: &[DeclNode]) -> Changed<TypeNode>
+{
+    let nodes = copy_declarations(change.alloc, nodes)?;
+    Ok(only(change.alternative, TypeNode::Component(nodes)))
+}
+
+#[cycle(changing)]
+#[tactic(auto, using(smith_read::proofs::ShownNodes::shown_nodes))]
+pub(crate) fn change_type(
+    change: Change,
+    search: &mut Search,
+    node: &TypeNode,
+) -> Changed<TypeNode>
+    ensures ty { let entry = shown_type_node node.now in IfOk result (λ r. option_map shown_type_node r
+        ≡ sought (types.entry_places entry) search.old (λ k. types.entry_changed change.alternative k entry) entry) }
+    ensures moved { IfOk result (λ r. IsSome r
+        → search.new ≡ past (types.entry_places (shown_type_node node.now)) search.old) }
+{
+    match node {
+        TypeNode::Defined(ty) => Ok(change_defined(change, search, ty)?.map(TypeNode::Defined)),
+        TypeNode::Func(ty) => Ok(change_signature(change, search, ty)?.map(TypeNode::Func)),
+        TypeNode::Component(nodes) => {
+            if search.step() {
+                return as_instance(change, nodes);
+            }
+            let nodes = change_declarations(change, search, Owner::Component, nodes)?;
+            Ok(nodes.map(TypeNode::Component))
+        }
+        TypeNode::Instance(nodes) => {
+            if search.step() {
+                return as_component(change, nodes);
+            }
+            let nodes = change_declarations(change, search, Owner::Instance, nodes)?;
+            Ok(nodes.map(TypeNode::Instance))
+        }
+    }
+}
+
+// An outer alias of a core type in place of one of a type, or with another count or index.
+fn change_type_alias(
+    change: Change,
+    search: &mut Search,
+    count: u32,
+    index: u32,
+) -> Option<DeclNode>
+{
+    if search.step() {
+        return only(change.alternative, DeclNode::CoreTypeAlias { count, index });
+    }
+    let (count, index) = change_outer(change, search, count, index)?;
+    Some(DeclNode::TypeAlias { count, index })
+}
+
+// An outer alias of a type in place of one of a core type, or with another count or index.
+fn change_core_alias(
+    change: Change,
+    search: &mut Search,
+    count: u32,
+    index: u32,
+) -> Option<DeclNode>
+{
+    if search.step() {
+        return only(change.alternative, DeclNode::TypeAlias { count, index });
+    }
+    let (count, index) = change_outer(change, search, count, index)?;
+    Some(DeclNode::CoreTypeAlias { count, index })
+}
+
+// What only a component has.
+fn of_component(owner: Owner, alternative: usize, node: DeclNode) -> Option<DeclNode>
+{
+    if owner == Owner::Instance {
+        return None;
+    }
+    only(alternative, node)
+}
+
+fn change_import(
+    change: Change,
+    search: &mut Search,
+    owner: Owner,
+    name: &str,
+    to: ComponentTypeRef,
+) -> Changed<DeclNode>
+{
+    if search.step() {
+        let name = named(change.alloc, name)?;
+        let export = DeclNode::Export { name, to };
+        return Ok(of_component(owner, change.alternative, export));
+    }
+    let entry = change_extern(change, search, name, to)?;
+    Ok(entry.map(|(name, to)| DeclNode::Import { name, to }))
+}
+
+fn change_export(
+    change: Change,
+    search: &mut Search,
+    owner: Owner,
+    name: &str,
+    to: ComponentTypeRef,
+) -> Changed<DeclNode>
+{
+    if search.step() {
+        let name = named(change.alloc, name)?;
+        let import = DeclNode::Import { name, to };
+        return Ok(of_component(owner, change.alternative, import));
+    }
+    let entry = change_extern(change, search, name, to)?;
+    Ok(entry.map(|(name, to)| DeclNode::Export { name, to }))
+}
+
+#[cycle(changing)]
+#[tactic(auto, using(smith_read::proofs::ShownNodes::shown_nodes))]
+fn change_declaration(
+    change: Change,
+    search: &mut Search,
+    owner: Owner,
+    node: &DeclNode,
+) -> Changed<DeclNode>
+{
+    match node {
+        DeclNode::Core(ty) => Ok(ty.changed(change, search)?.map(DeclNode::Core)),
+        DeclNode::Type(ty) => Ok(change_type(change, search, ty)?.map(DeclNode::Type)),
+        DeclNode::TypeAlias { count, index } => {
+            Ok(change_type_alias(change, search, *count, *index))
+        }
+        DeclNode::CoreTypeAlias { count, index } => {
+            Ok(change_core_alias(change, search, *count, *index))
+        }
+        DeclNode::Import { name, to } => change_import(change, search, owner, name.as_str(), *to),
+        DeclNode::Export { name, to } => change_export(change, search, owner, name.as_str(), *to),
+    }
+}
+
+#[cycle(changing)]
+fn change_declarations(
+    change: Change,
+    search: &mut Search,
+    owner: Owner,
+    nodes: &[DeclNode],
+) -> Changed<Vec<DeclNode>>
+{
+    let mut done = Vec::new(change.alloc);
+    for (index, node) in nodes.iter().enumerate() {
+        if search.step() {
+            return change_entry(change, done, &nodes[index..]);
+        }
+        let Some(declaration) = change_declaration(change, search, owner, node)? else {
+            return Ok(None);
+        };
+        done.push(declaration)?;
+    }
+    Ok(Some(done))
+}
