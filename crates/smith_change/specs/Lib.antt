@@ -3,6 +3,7 @@ pub mod Changes
 pub mod CoreTypes
 pub mod Members
 pub mod Modules
+pub mod Owners
 pub mod Parts
 pub mod Refusals
 pub mod Rows

@@ -1,6 +1,6 @@
 //! Core types.
 
-ghost use Rattle.std.specs.Prelude.{◌≡◌, None, Option, Some, IfOk, IsSome, map, option_map};
+ghost use Rattle.std.specs.Prelude.{◌≡◌, ◌∷◌, ◌++◌, [], None, Option, Some, IfOk, IsSome, map, option_map};
 ghost use Rattle.smith_format.specs.Shown.{shown_func};
 ghost use Rattle.smith_format.specs.declared.types.ValType.{ValType};
 ghost use Rattle.smith_syntax.specs.Entries.{CoreEntry, ModuleDecl};
@@ -56,6 +56,8 @@ impl Row for ValType {
 
 // The results of a function type with one more, i32.
 fn one_more_result(change: Change, results: &[ValType]) -> Changed<Vec<ValType>>
+    ensures { IfOk result (λ r. option_map (λ v. v.items) r
+        ≡ table.only change.alternative (results.now ++ ValType.I32 ∷ [])) }
 {
     let mut results = Vec::from_slice(change.alloc, results)?;
     results.push(ValType::I32)?;
@@ -63,6 +65,9 @@ fn one_more_result(change: Change, results: &[ValType]) -> Changed<Vec<ValType>>
 }
 
 fn change_results(change: Change, search: &mut Search, results: &[ValType]) -> Changed<Vec<ValType>>
+    ensures results { IfOk result (λ r. option_map (λ v. v.items) r ≡ sought (core.results_places results.now) search.old
+        (λ k. core.results_changed change.alternative k results.now) results.now) }
+    ensures moved { IfOk result (λ r. IsSome r → search.new ≡ past (core.results_places results.now) search.old) }
 {
     if search.step() {
         return one_more_result(change, results);
@@ -96,6 +101,8 @@ pub(crate) fn copy_function(alloc: Global, ty: &FuncType) -> Result<FuncType, Al
 }
 
 fn change_func(change: Change, search: &mut Search, index: u32) -> Option<EntityType>
+    ensures ty { result ≡ sought (core.entity_places (EntityType.Func index)) search.old (λ k. core.entity_changed change.alternative k (EntityType.Func index)) (EntityType.Func index) }
+    ensures moved { IsSome result → search.new ≡ past (core.entity_places (EntityType.Func index)) search.old }
 {
     if search.step() {
         let func_type_idx = index;
@@ -109,6 +116,7 @@ fn change_func(change: Change, search: &mut Search, index: u32) -> Option<Entity
 }
 
 fn memory_of(ty: TableType) -> MemoryType
+    ensures { result ≡ table.memory_of ty }
 {
     MemoryType {
         minimum: ty.minimum,
@@ -119,6 +127,7 @@ fn memory_of(ty: TableType) -> MemoryType
 }
 
 fn table_of(ty: MemoryType) -> TableType
+    ensures { result ≡ table.table_of ty }
 {
     TableType {
         element_type: RefType::FuncRef,
@@ -129,6 +138,8 @@ fn table_of(ty: MemoryType) -> TableType
 }
 
 fn change_table(change: Change, search: &mut Search, ty: TableType) -> Option<EntityType>
+    ensures ty { result ≡ sought (core.entity_places (EntityType.Table ty)) search.old (λ k. core.entity_changed change.alternative k (EntityType.Table ty)) (EntityType.Table ty) }
+    ensures moved { IsSome result → search.new ≡ past (core.entity_places (EntityType.Table ty)) search.old }
 {
     if search.step() {
         return only(change.alternative, EntityType::Memory(memory_of(ty)));
@@ -142,6 +153,7 @@ fn change_table(change: Change, search: &mut Search, ty: TableType) -> Option<En
 
 // A table in place of a memory that is not shared.
 fn unshared(alternative: usize, ty: MemoryType) -> Option<EntityType>
+    ensures { result ≡ core.unshared alternative ty }
 {
     if ty.shared {
         return None;
@@ -150,6 +162,8 @@ fn unshared(alternative: usize, ty: MemoryType) -> Option<EntityType>
 }
 
 fn change_memory(change: Change, search: &mut Search, ty: MemoryType) -> Option<EntityType>
+    ensures ty { result ≡ sought (core.entity_places (EntityType.Memory ty)) search.old (λ k. core.entity_changed change.alternative k (EntityType.Memory ty)) (EntityType.Memory ty) }
+    ensures moved { IsSome result → search.new ≡ past (core.entity_places (EntityType.Memory ty)) search.old }
 {
     if search.step() {
         return unshared(change.alternative, ty);
@@ -159,6 +173,8 @@ fn change_memory(change: Change, search: &mut Search, ty: MemoryType) -> Option<
 }
 
 fn change_global(change: Change, search: &mut Search, ty: GlobalType) -> Option<EntityType>
+    ensures ty { result ≡ sought (core.entity_places (EntityType.Global ty)) search.old (λ k. core.entity_changed change.alternative k (EntityType.Global ty)) (EntityType.Global ty) }
+    ensures moved { IsSome result → search.new ≡ past (core.entity_places (EntityType.Global ty)) search.old }
 {
     if search.step() {
         let val_type = core_value_alternative(change.alternative, ty.val_type)?;
@@ -173,6 +189,8 @@ fn change_global(change: Change, search: &mut Search, ty: GlobalType) -> Option<
 }
 
 fn change_tag(change: Change, search: &mut Search, ty: TagType) -> Option<EntityType>
+    ensures ty { result ≡ sought (core.entity_places (EntityType.Tag ty)) search.old (λ k. core.entity_changed change.alternative k (EntityType.Tag ty)) (EntityType.Tag ty) }
+    ensures moved { IsSome result → search.new ≡ past (core.entity_places (EntityType.Tag ty)) search.old }
 {
     let index = ty.func_type_idx;
     if search.step() {

@@ -6,6 +6,7 @@ ghost use Rattle.smith_syntax.specs.Signature.{named};
 ghost use Rattle.smith_tree.specs.Tree.{Canon, ExportEntry};
 ghost use Rattle.smith_tree.specs.Shown.{shown_canon, shown_export};
 ghost use Rattle.smith_read.specs.PartNodes.{shown_import_node};
+ghost use Rattle.smith_change.specs.Alternatives.{index_alternative};
 ghost use Rattle.smith_change.specs.Parts as parts;
 ghost use Rattle.smith_change.specs.Rows as rows;
 ghost use Rattle.smith_change.specs.Search.{past, sought};
@@ -20,6 +21,8 @@ use smith_syntax::ComponentTypeRef;
 use std::alloc::{AllocError, Global};
 
 fn change_index(change: Change, search: &mut Search, index: u32) -> Option<u32>
+    ensures index { result ≡ sought 1 search.old (λ k. index_alternative change.alternative index) index }
+    ensures moved { search.new ≡ past 1 search.old }
 {
     search.token(index, index_alternative(change.alternative, index))
 }

@@ -2,7 +2,7 @@
 
 ghost use Rattle.std.specs.Prelude.{◌≡◌, ◌≤◌, ◌++◌, ℕ, map, IfOk, IsSome, option_map, string_bytes};
 ghost use Rattle.smith_syntax.specs.Shown.{shown_defined};
-ghost use Rattle.smith_syntax.specs.Entries.{enum_type, flags_type};
+ghost use Rattle.smith_syntax.specs.Entries.{enum_type, flags_type, list_type, option_type, result_type};
 ghost use Rattle.smith_change.specs.Members as members;
 ghost use Rattle.smith_change.specs.Rows as rows;
 ghost use Rattle.smith_change.specs.Search.{past, sought};
@@ -69,6 +69,9 @@ pub(crate) fn change_members<T: Row>(
 }
 
 fn change_list(change: Change, search: &mut Search, ty: &ListType) -> Option<DefinedType>
+    ensures ty { let shown = list_type ty.now.elem_ty in option_map shown_defined result ≡ sought (members.defined_places shown) search.old
+        (λ k. members.defined_changed change.alternative k shown) shown }
+    ensures moved { IsSome result → search.new ≡ past (members.defined_places (list_type ty.now.elem_ty)) search.old }
 {
     if search.step() {
         let inner_ty = ty.elem_ty;
@@ -82,6 +85,9 @@ fn change_list(change: Change, search: &mut Search, ty: &ListType) -> Option<Def
 }
 
 fn change_option(change: Change, search: &mut Search, ty: &OptionType) -> Option<DefinedType>
+    ensures ty { let shown = option_type ty.now.inner_ty in option_map shown_defined result ≡ sought (members.defined_places shown) search.old
+        (λ k. members.defined_changed change.alternative k shown) shown }
+    ensures moved { IsSome result → search.new ≡ past (members.defined_places (option_type ty.now.inner_ty)) search.old }
 {
     if search.step() {
         let elem_ty = ty.inner_ty;
@@ -104,6 +110,9 @@ fn enum_of(variants: Vec<String>) -> DefinedType
 }
 
 fn change_flags(change: Change, search: &mut Search, labels: &[String]) -> Changed<DefinedType>
+    ensures ty { let shown = flags_type (map string_bytes labels.now) in IfOk result (λ r. option_map shown_defined r ≡ sought (members.defined_places shown) search.old
+        (λ k. members.defined_changed change.alternative k shown) shown) }
+    ensures moved { IfOk result (λ r. IsSome r → search.new ≡ past (members.defined_places (flags_type (map string_bytes labels.now))) search.old) }
 {
     if search.step() {
         let labels = copied_all(change.alloc, labels)?;
@@ -113,6 +122,9 @@ fn change_flags(change: Change, search: &mut Search, labels: &[String]) -> Chang
 }
 
 fn change_enum(change: Change, search: &mut Search, labels: &[String]) -> Changed<DefinedType>
+    ensures ty { let shown = enum_type (map string_bytes labels.now) in IfOk result (λ r. option_map shown_defined r ≡ sought (members.defined_places shown) search.old
+        (λ k. members.defined_changed change.alternative k shown) shown) }
+    ensures moved { IfOk result (λ r. IsSome r → search.new ≡ past (members.defined_places (enum_type (map string_bytes labels.now))) search.old) }
 {
     if search.step() {
         let labels = copied_all(change.alloc, labels)?;
@@ -122,6 +134,9 @@ fn change_enum(change: Change, search: &mut Search, labels: &[String]) -> Change
 }
 
 fn change_result(change: Change, search: &mut Search, ty: &ResultType) -> Option<DefinedType>
+    ensures ty { let shown = result_type ty.now.ok_ty ty.now.err_ty in option_map shown_defined result ≡ sought (members.defined_places shown) search.old
+        (λ k. members.defined_changed change.alternative k shown) shown }
+    ensures moved { IsSome result → search.new ≡ past (members.defined_places (result_type ty.now.ok_ty ty.now.err_ty)) search.old }
 {
     let ok_ty = change_optional(change, search, ty.ok_ty);
     let err_ty = change_optional(change, search, ty.err_ty);

@@ -7,6 +7,7 @@ ghost use Rattle.smith_format.specs.Writing.{IsLengthOf, Puts};
 ghost use Rattle.smith_format.specs.declared.types.MemoryType.{MemoryType};
 ghost use Rattle.smith_core.specs.StandInText.{listed, stand_in_text};
 ghost use Rattle.smith_change.specs.CoreTypes as core;
+ghost use Rattle.smith_change.specs.Modules.{stand_in_at};
 ghost use Rattle.smith_change.specs.Parts as parts;
 ghost use Rattle.smith_change.specs.Rows as rows;
 ghost use Rattle.smith_change.specs.Search.{past, sought};
@@ -168,28 +169,34 @@ fn change_sections(
         .map(|(types, memories)| ModuleSections { types, memories }))
 }
 
-// The bytes of a module of those two sections.
-fn change_read(
-    change: Change,
-    search: &mut Search,
-    sections: &ModuleSections,
-) -> Changed<Vec<u8>>
+// The sections of the module that these bytes spell, if it has no others than these two.
+fn sections_of(alloc: Global, text: &[u8]) -> Changed<ModuleSections>
+    ensures { IfOk result (λ r. option_map shown_sections r ≡ stand_in_at text.now) }
 {
-    match change_sections(change, search, sections)? {
-        Some(sections) => module_text(change.alloc, &sections),
-        None => Ok(None),
+    match module_sections_of(alloc, text) {
+        Ok(sections) => Ok(Some(sections)),
+        Err(Unread::OutOfMemory) => Err(AllocError),
+        Err(Unread::Malformed { .. }) => Ok(None),
     }
 }
 
-/// The bytes of a core module.
+/// The bytes of a core module, which are copied unless what is sought is in it.
 pub(crate) fn change_module(change: Change, search: &mut Search, text: &[u8]) -> Changed<Vec<u8>>
     ensures text { IfOk result (λ r. option_map (λ v. v.items) r ≡ sought (parts.module_places text.now) search.old
         (λ k. parts.module_changed change.alternative k text.now) text.now) }
     ensures moved { IfOk result (λ r. IsSome r → search.new ≡ past (parts.module_places text.now) search.old) }
 {
-    match module_sections_of(change.alloc, text) {
-        Ok(sections) => change_read(change, search, &sections),
-        Err(Unread::OutOfMemory) => Err(AllocError),
-        Err(Unread::Malformed { .. }) => Ok(Some(Vec::from_slice(change.alloc, text)?)),
+    if let Search::Over = *search {
+        return Ok(Some(Vec::from_slice(change.alloc, text)?));
+    }
+    let Some(sections) = sections_of(change.alloc, text)? else {
+        return Ok(Some(Vec::from_slice(change.alloc, text)?));
+    };
+    let Some(sections) = change_sections(change, search, &sections)? else {
+        return Ok(None);
+    };
+    match *search {
+        Search::Ahead(_) => Ok(Some(Vec::from_slice(change.alloc, text)?)),
+        Search::Over => module_text(change.alloc, &sections),
     }
 }

@@ -35,7 +35,9 @@ fn place_count(alloc: Global, tree: &ComponentTree) -> Result<usize, AllocError>
         alloc,
         alternative: 0,
     };
-    let _copy = change_parts(change, &mut search, &tree.parts)?;
+    let Some(_copy) = change_parts(change, &mut search, &tree.parts)? else {
+        return Err(AllocError);
+    };
     match search {
         Search::Ahead(left) => Ok(usize::MAX - left),
         Search::Over => Err(AllocError),
@@ -80,6 +82,17 @@ fn spelled(alloc: Global, tree: &ComponentTree) -> Changed<Vec<u8>>
     }
 }
 
+// Are they the same bytes, or both none?
+fn is_same(first: &Option<Vec<u8>>, second: &Option<Vec<u8>>) -> bool
+    ensures { result ≡ spec.same_piece (option_map (λ v. v.items) first.now) (option_map (λ v. v.items) second.now) }
+{
+    match (first, second) {
+        (None, None) => true,
+        (Some(first), Some(second)) => first.as_slice() == second.as_slice(),
+        _ => false,
+    }
+}
+
 /// The component with one token or one list of entries changed; none if that change leads to nothing.
 pub fn changed(alloc: Global, tree: &ComponentTree, number: usize) -> Changed<ComponentTree>
     ensures { IfOk result (λ r. option_map shown_tree r ≡ spec.changed number (shown_tree tree.now)) }
@@ -87,7 +100,8 @@ pub fn changed(alloc: Global, tree: &ComponentTree, number: usize) -> Changed<Co
     let Some(other) = change_place(alloc, tree, number)? else {
         return Ok(None);
     };
-    if spelled(alloc, &other)? == spelled(alloc, tree)? {
+    let text = spelled(alloc, tree)?;
+    if is_same(&text, &spelled(alloc, &other)?) {
         return Ok(None);
     }
     Ok(Some(other))

@@ -1,9 +1,12 @@
 //! Types, and what types of components and instances declare.
 
 ghost use Rattle.std.specs.Prelude.{◌≡◌, ◌==◌, Bool, true, Option, Some, None, length, map, IfOk, IsSome, option_map, refl};
-ghost use Rattle.smith_syntax.specs.Entries.{Decl, Entry, in_order};
+ghost use Rattle.smith_syntax.specs.Entries.{Decl, Entry, component_type, core_type_alias, export_decl, import_decl};
+ghost use Rattle.smith_syntax.specs.Entries.{in_order, instance_type, type_alias};
 ghost use Rattle.smith_syntax.specs.WellFormed.{decl_imports};
 ghost use Rattle.smith_read.specs.TypeNodes.{shown_decl_node, shown_type_node};
+ghost use Rattle.smith_change.specs.Alternatives as table;
+ghost use Rattle.smith_change.specs.Owners.{may_import};
 ghost use Rattle.smith_change.specs.Rows as rows;
 ghost use Rattle.smith_change.specs.Search.{past, sought};
 ghost use Rattle.smith_change.specs.Types as types;
@@ -28,6 +31,7 @@ pub(crate) enum Owner {
 
 // Is none of these an import?
 fn import_nothing(nodes: &[DeclNode]) -> bool
+    ensures { result ≡ (length (decl_imports (in_order (map shown_decl_node nodes.now))) == 0) }
 {
     for node in nodes {
         if let DeclNode::Import { .. } = node {
@@ -111,6 +115,8 @@ impl Row for TypeNode {
 
 // The type of an instance with these declarations, in place of a component's.
 fn as_instance(change: Change, nodes: &[DeclNode]) -> Changed<TypeNode>
+    ensures { let decls = in_order (map shown_decl_node nodes.now) in IfOk result (λ r. option_map shown_type_node r
+        ≡ types.without_imports decls (table.only change.alternative (instance_type decls))) }
 {
     if !import_nothing(nodes) {
         return Ok(None);
@@ -121,6 +127,8 @@ fn as_instance(change: Change, nodes: &[DeclNode]) -> Changed<TypeNode>
 
 // The type of a component with these declarations, in place of an instance's.
 fn as_component(change: Change, nodes: &[DeclNode]) -> Changed<TypeNode>
+    ensures { let decls = in_order (map shown_decl_node nodes.now) in IfOk result (λ r. option_map shown_type_node r
+        ≡ table.only change.alternative (component_type decls)) }
 {
     let nodes = copy_declarations(change.alloc, nodes)?;
     Ok(only(change.alternative, TypeNode::Component(nodes)))
@@ -165,6 +173,9 @@ fn change_type_alias(
     count: u32,
     index: u32,
 ) -> Option<DeclNode>
+    ensures declaration { let decl = type_alias count index tt in (importing : Bool) → option_map shown_decl_node result
+        ≡ sought 3 search.old (λ k. types.decl_changed importing change.alternative k decl) decl }
+    ensures moved { IsSome result → search.new ≡ past 3 search.old }
 {
     if search.step() {
         return only(change.alternative, DeclNode::CoreTypeAlias { count, index });
@@ -180,6 +191,9 @@ fn change_core_alias(
     count: u32,
     index: u32,
 ) -> Option<DeclNode>
+    ensures declaration { let decl = core_type_alias count index tt in (importing : Bool) → option_map shown_decl_node result
+        ≡ sought 3 search.old (λ k. types.decl_changed importing change.alternative k decl) decl }
+    ensures moved { IsSome result → search.new ≡ past 3 search.old }
 {
     if search.step() {
         return only(change.alternative, DeclNode::TypeAlias { count, index });
@@ -190,6 +204,8 @@ fn change_core_alias(
 
 // What only a component has.
 fn of_component(owner: Owner, alternative: usize, node: DeclNode) -> Option<DeclNode>
+    ensures { option_map shown_decl_node result
+        ≡ types.importing_alone (may_import owner) (table.only alternative (shown_decl_node node)) }
 {
     if owner == Owner::Instance {
         return None;
@@ -204,6 +220,9 @@ fn change_import(
     name: &str,
     to: ComponentTypeRef,
 ) -> Changed<DeclNode>
+    ensures declaration { let decl = import_decl name.now tt to in IfOk result (λ r. option_map shown_decl_node r
+        ≡ sought 4 search.old (λ k. types.decl_changed (may_import owner) change.alternative k decl) decl) }
+    ensures moved { IfOk result (λ r. IsSome r → search.new ≡ past 4 search.old) }
 {
     if search.step() {
         let name = named(change.alloc, name)?;
@@ -221,6 +240,9 @@ fn change_export(
     name: &str,
     to: ComponentTypeRef,
 ) -> Changed<DeclNode>
+    ensures declaration { let decl = export_decl name.now tt to in IfOk result (λ r. option_map shown_decl_node r
+        ≡ sought 4 search.old (λ k. types.decl_changed (may_import owner) change.alternative k decl) decl) }
+    ensures moved { IfOk result (λ r. IsSome r → search.new ≡ past 4 search.old) }
 {
     if search.step() {
         let name = named(change.alloc, name)?;
@@ -239,6 +261,9 @@ fn change_declaration(
     owner: Owner,
     node: &DeclNode,
 ) -> Changed<DeclNode>
+    ensures declaration { let decl = shown_decl_node node.now in IfOk result (λ r. option_map shown_decl_node r
+        ≡ sought (types.decl_places decl) search.old (λ k. types.decl_changed (may_import owner) change.alternative k decl) decl) }
+    ensures moved { IfOk result (λ r. IsSome r → search.new ≡ past (types.decl_places (shown_decl_node node.now)) search.old) }
 {
     match node {
         DeclNode::Core(ty) => Ok(ty.changed(change, search)?.map(DeclNode::Core)),
@@ -261,6 +286,12 @@ fn change_declarations(
     owner: Owner,
     nodes: &[DeclNode],
 ) -> Changed<Vec<DeclNode>>
+    ensures declarations { let decls = in_order (map shown_decl_node nodes.now) in
+        IfOk result (λ r. option_map (λ v. in_order (map shown_decl_node v.items)) r
+        ≡ sought (types.decls_places decls) search.old
+        (λ k. types.decls_changed (may_import owner) change.alternative k decls) decls) }
+    ensures moved { IfOk result (λ r. IsSome r
+        → search.new ≡ past (types.decls_places (in_order (map shown_decl_node nodes.now))) search.old) }
 {
     let mut done = Vec::new(change.alloc);
     for (index, node) in nodes.iter().enumerate() {
