@@ -1,6 +1,7 @@
 pub mod Alternatives
 pub mod Changes
 pub mod CoreTypes
+pub mod Differs
 pub mod Members
 pub mod Modules
 pub mod Owners
@@ -9,4 +10,5 @@ pub mod Refusals
 pub mod Rows
 pub mod Search
 pub mod Sections
+pub mod Tokens
 pub mod Types
