@@ -2,7 +2,7 @@
 use Rattle.std.proofs.Common.{◌≡◌, ℕ, suc, ◌+◌, ◌-◌, ◌<◌, ◌≤◌, Bool, true, false, Option, Some, None, ap, sym, refl, ◌∙◌, arith, nat_lt, ⊎_elim, rules}
 use Rattle.std.proofs.lemmas.Bool.{cases_lt}
 use Rattle.std.proofs.lemmas.Bool.Decides.{nat_tests}
-use Rattle.std.specs.Prelude.{if◌then◌else◌}
+use Rattle.std.specs.Prelude.{IfOk, Result, Ok, Err, if◌then◌else◌}
 use Rattle.std.specs.Option.{IsSome, option_map, option_zip}
 use Rattle.smith_change.specs.Rows.{first_or, in_turn}
 use Rattle.smith_change.specs.Search.{among, is_here, past, sought}
@@ -115,10 +115,10 @@ module _ {A B C : Type 0} (cons : A → B → C) (n m : ℕ) (f : ℕ → Option
   sought_both Over = refl
 
 -- What is found of the two, seen otherwise.
-module _ {X Y Z A B C : Type 0} (f1 : X → A) (f2 : Y → B) (make : X × Y → Z) (h : Z → C) (cons : A → B → C)
-    (same : (x : X) (y : Y) → h (make (x, y)) ≡ cons (f1 x) (f2 y)) (n m : ℕ) (f : ℕ → Option A) (g : ℕ → Option B) (a : A) (b : B) (s t : Search) where
+module _ {X Y A B C : Type 0} (f1 : X → A) (f2 : Y → B) (h : X × Y → C) (cons : A → B → C) (same : (x : X) (y : Y) → h (x, y) ≡ cons (f1 x) (f2 y))
+    (n m : ℕ) (f : ℕ → Option A) (g : ℕ → Option B) (a : A) (b : B) (s t : Search) where
   pub found_both : (p : Option X) (q : Option Y) → option_map f1 p ≡ sought n s f a → (IsSome p → t ≡ past n s) → option_map f2 q ≡ sought m t g b
-      → option_map h (option_map make (option_zip p q)) ≡ sought (n + m) s (both cons n m f g a b) (cons a b)
+      → option_map h (option_zip p q) ≡ sought (n + m) s (both cons n m f g a b) (cons a b)
   found_both None q is on more = sym (sought_both cons n m f g a b s ∙ sym (ap (one_by_one cons n m f g a b s) is))
   found_both (Some x) None is on more =
       sym (sought_both cons n m f g a b s ∙ sym (ap (one_by_one cons n m f g a b s) is)
@@ -128,11 +128,16 @@ module _ {X Y Z A B C : Type 0} (f1 : X → A) (f2 : Y → B) (make : X × Y →
       ∙ sym (sought_both cons n m f g a b s ∙ sym (ap (one_by_one cons n m f g a b s) is)
       ∙ ap (λ u. option_map (cons (f1 x)) (sought m u g b)) (sym (on refl)) ∙ sym (ap (option_map (cons (f1 x))) more))
 
-pub moved_both : {X Y Z : Type 0} (make : X × Y → Z) (n m : ℕ) (s t u : Search) (p : Option X) (q : Option Y) → (IsSome p → t ≡ past n s)
-    → (IsSome q → u ≡ past m t) → IsSome (option_map make (option_zip p q)) → u ≡ past (n + m) s
-moved_both make n m s t u None q on more is = absurd cc
-moved_both make n m s t u (Some x) None on more is = absurd cc
-moved_both make n m s t u (Some x) (Some y) on more is = more refl ∙ ap (past m) (on refl) ∙ past_past m n s
+pub moved_both : {X Y : Type 0} (n m : ℕ) (s t u : Search) (p : Option X) (q : Option Y) → (IsSome p → t ≡ past n s)
+    → (IsSome q → u ≡ past m t) → IsSome (option_zip p q) → u ≡ past (n + m) s
+moved_both n m s t u None q on more is = absurd cc
+moved_both n m s t u (Some x) None on more is = absurd cc
+moved_both n m s t u (Some x) (Some y) on more is = more refl ∙ ap (past m) (on refl) ∙ past_past m n s
+
+-- of what is there, one thing follows from another
+pub ok_then : {A E : Type 0} (P Q : A → Type 0) (r : Result A E) → ((x : A) → P x → Q x) → IfOk r P → IfOk r Q
+ok_then P Q (Ok x) f h = f x h
+ok_then P Q (Err e) f h = h
 
 -- A place of its own, and then the places inside.
 module _ {A : Type 0} (n : ℕ) (own : Option A) (later : ℕ → Option A) (x : A) where
@@ -152,3 +157,13 @@ sought_map h n s f x = by (among n s)
     by : (o : Option ℕ) → by_number o (λ j. option_map h (f j)) (h x) ≡ option_map h (by_number o f x)
     by None = refl
     by (Some k) = refl
+
+-- inside, seen otherwise
+pub later_mapped : {A B : Type 0} (h : A → B) (n : ℕ) (own : Option B) (f : ℕ → Option A) (x : A) (s t : Search) (found : Option A)
+    → is_here s ≡ false → t ≡ past 1 s → found ≡ sought n t f x
+    → option_map h found ≡ sought (1 + n) s (first_or own (λ j. option_map h (f j))) (h x)
+later_mapped h n own f x s t found is on e =
+    ap (option_map h) e ∙ sym (sought_map h n t f x) ∙ ap (λ u. sought n u (λ j. option_map h (f j)) (h x)) on
+    ∙ sym (sought_later n own (λ j. option_map h (f j)) (h x) s is)
+
+pub ruleset seeking = (sought_later, sought_here, sought_map, past_past)

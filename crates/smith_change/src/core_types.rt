@@ -87,9 +87,10 @@ pub(crate) fn change_function(
 {
     let params = change_row(change, search, &ty.params)?;
     let results = change_results(change, search, &ty.results)?;
-    Ok(params
-        .zip(results)
-        .map(|(params, results)| FuncType { params, results }))
+    let Some((params, results)) = params.zip(results) else {
+        return Ok(None);
+    };
+    Ok(Some(FuncType { params, results }))
 }
 
 pub(crate) fn copy_function(alloc: Global, ty: &FuncType) -> Result<FuncType, AllocError>

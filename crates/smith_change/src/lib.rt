@@ -14,6 +14,7 @@ mod rows;
 mod search;
 mod sections;
 mod steps;
+mod texts;
 mod types;
 mod values;
 

@@ -28,7 +28,9 @@ fn filled<T: Entry>(alloc: Global, most: usize, items: &[T]) -> Result<Vec<T>, A
 {
     let mut all = copied_all(alloc, items)?;
     for number in 0..most.saturating_sub(items.len()) {
-        let new = T::fresh(alloc, number)?.ok_or(AllocError)?;
+        let Some(new) = T::fresh(alloc, number)? else {
+            return Err(AllocError);
+        };
         all.push(new)?;
     }
     Ok(all)
@@ -140,9 +142,8 @@ fn change_result(change: Change, search: &mut Search, ty: &ResultType) -> Option
 {
     let ok_ty = change_optional(change, search, ty.ok_ty);
     let err_ty = change_optional(change, search, ty.err_ty);
-    ok_ty
-        .zip(err_ty)
-        .map(|(ok_ty, err_ty)| DefinedType::Result(ResultType { ok_ty, err_ty }))
+    let (ok_ty, err_ty) = ok_ty.zip(err_ty)?;
+    Some(DefinedType::Result(ResultType { ok_ty, err_ty }))
 }
 
 /// A type of values.
@@ -194,10 +195,8 @@ pub(crate) fn change_signature(
 {
     let params = change_members(change, search, MOST_PARAMS, &ty.params)?;
     let result = change_optional(change, search, ty.result);
-    Ok(params
-        .zip(result)
-        .map(|(params, found)| FuncType {
-            params,
-            result: found,
-        }))
+    let Some((params, result)) = params.zip(result) else {
+        return Ok(None);
+    };
+    Ok(Some(FuncType { params, result }))
 }

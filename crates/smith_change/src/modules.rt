@@ -1,11 +1,8 @@
 //! Core modules of the two sections that are generated.
 
 ghost use Rattle.std.specs.Prelude.{◌≡◌, None, Option, Some, IfOk, IsSome, map, option_map};
-ghost use Rattle.smith_format.specs.CoreTypes.{Function, core_function};
-ghost use Rattle.smith_format.specs.Entities.{memory_type};
-ghost use Rattle.smith_format.specs.Writing.{IsLengthOf, Puts};
+ghost use Rattle.smith_format.specs.CoreTypes.{Function};
 ghost use Rattle.smith_format.specs.declared.types.MemoryType.{MemoryType};
-ghost use Rattle.smith_core.specs.StandInText.{listed, stand_in_text};
 ghost use Rattle.smith_change.specs.CoreTypes as core;
 ghost use Rattle.smith_change.specs.Modules.{stand_in_at};
 ghost use Rattle.smith_change.specs.Parts as parts;
@@ -18,9 +15,7 @@ use crate::core_types::{change_function, copy_function};
 use crate::rows::{Entry, Row, change_row};
 use crate::search::{Change, Changed, Search};
 use crate::sections::{FunctionNode, MemoryNode, ModuleSections, module_sections_of};
-use smith_core::CORE_PREAMBLE;
-use smith_format::{CoreFormat, Spelled, begin_section, end_section, put_many, write_bytes};
-use smith_input::Error;
+use crate::texts::module_text;
 use smith_read::Unread;
 use std::alloc::{AllocError, Global};
 
@@ -91,66 +86,6 @@ impl Row for MemoryNode {
     }
 }
 
-impl Spelled<CoreFormat> for FunctionNode {
-    ghost piece = { λ f. core_function (shown_function f) };
-
-    fn put(&self, out: &mut Vec<u8>) -> Result<(), Error> {
-        self.ty.put(out)
-    }
-
-    fn spelled_len(&self) -> Option<u32> {
-        self.ty.spelled_len()
-    }
-}
-
-impl Spelled<CoreFormat> for MemoryNode {
-    ghost piece = { λ m. memory_type (shown_memory m) };
-
-    fn put(&self, out: &mut Vec<u8>) -> Result<(), Error> {
-        self.ty.put(out)
-    }
-
-    fn spelled_len(&self) -> Option<u32> {
-        self.ty.spelled_len()
-    }
-}
-
-// A section of a list, if the list has an entry.
-fn put_listed<T: Spelled<CoreFormat>>(
-    out: &mut Vec<u8>,
-    id: u8,
-    items: &[T],
-) -> Result<(), Error>
-    ensures { Puts result out.old out.new (listed id T.piece items.now) }
-{
-    if items.is_empty() {
-        return Ok(());
-    }
-    let start = begin_section(out, id)?;
-    put_many(out, items)?;
-    end_section(out, start)
-}
-
-fn put_module(out: &mut Vec<u8>, sections: &ModuleSections) -> Result<(), Error>
-    ensures { Puts result out.old out.new (stand_in_text (shown_sections sections.now)) }
-{
-    write_bytes(out, &CORE_PREAMBLE)?;
-    put_listed(out, 1, &sections.types)?;
-    put_listed(out, 5, &sections.memories)
-}
-
-// The bytes of a module, if it has an encoding.
-fn module_text(alloc: Global, sections: &ModuleSections) -> Changed<Vec<u8>>
-    ensures { IfOk result (λ r. option_map (λ v. v.items) r ≡ stand_in_text (shown_sections sections.now)) }
-{
-    let mut out = Vec::new(alloc);
-    match put_module(&mut out, sections) {
-        Ok(()) => Ok(Some(out)),
-        Err(Error::TooLong) => Ok(None),
-        Err(_) => Err(AllocError),
-    }
-}
-
 fn change_sections(
     change: Change,
     search: &mut Search,
@@ -164,9 +99,10 @@ fn change_sections(
 {
     let types = change_row(change, search, &sections.types)?;
     let memories = change_row(change, search, &sections.memories)?;
-    Ok(types
-        .zip(memories)
-        .map(|(types, memories)| ModuleSections { types, memories }))
+    let Some((types, memories)) = types.zip(memories) else {
+        return Ok(None);
+    };
+    Ok(Some(ModuleSections { types, memories }))
 }
 
 // The sections of the module that these bytes spell, if it has no others than these two.

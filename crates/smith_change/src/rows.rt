@@ -65,11 +65,11 @@ pub(crate) fn copied_after<T: Entry>(
 ) -> Result<Vec<T>, AllocError>
     ensures { IfOk result (λ v. map T.shown v.items ≡ map T.shown done.items ++ map T.shown entries.now) }
 {
-    let mut done = done;
+    let mut all = done;
     for entry in entries {
-        done.push(entry.copied(alloc)?)?;
+        all.push(entry.copied(alloc)?)?;
     }
-    Ok(done)
+    Ok(all)
 }
 
 /// Copies of the entries.

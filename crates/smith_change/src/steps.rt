@@ -130,6 +130,7 @@ fn led_to(
 }
 
 // The first change from that number on that leads to something.
+#[tactic(auto, using(crate::proofs::Passing::passing))]
 fn next_of(
     alloc: Global,
     tree: &ComponentTree,

@@ -30,6 +30,7 @@ pub(crate) enum Owner {
 }
 
 // Is none of these an import?
+#[tactic(auto, using(smith_read::proofs::ShownNodes::shown_nodes, crate::proofs::Declared::imports))]
 fn import_nothing(nodes: &[DeclNode]) -> bool
     ensures { result ≡ (length (decl_imports (in_order (map shown_decl_node nodes.now))) == 0) }
 {

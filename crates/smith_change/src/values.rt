@@ -34,9 +34,13 @@ pub(crate) fn change_value(
     ensures value { result ≡ sought 1 search.old (λ k. table.value_alternative change.alternative ty) ty }
     ensures moved { search.new ≡ past 1 search.old }
 {
-    search.token(ty, value_alternative(change.alternative, ty))
+    if search.step() {
+        return value_alternative(change.alternative, ty);
+    }
+    Some(ty)
 }
 
+#[tactic(auto, using(crate::proofs::Seeking::seeking))]
 pub(crate) fn change_optional(
     change: Change,
     search: &mut Search,
