@@ -1,6 +1,7 @@
 -- Members filled up, one by one.
-use Rattle.std.proofs.Common.{◌≡◌, ℕ, suc, ◌+◌, ◌-◌, ◌<◌, Option, Some, ap, sym, refl, ◌∙◌, arith, append_assoc, List, [], ◌∷◌, ◌++◌, map}
+use Rattle.std.proofs.Common.{◌≡◌, ℕ, suc, ◌+◌, ◌-◌, ◌<◌, Option, Some, None, ap, sym, refl, ◌∙◌, arith, append_assoc, List, [], ◌∷◌, ◌++◌, map}
 use Rattle.std.proofs.lemmas.List.{map-append}
+use Rattle.smith_format.specs.Piece.{Piece, ◌⊕◌}
 use Rattle.smith_change.specs.Rows.{new_members}
 
 some_same : {A : Type 0} (x y : A) → Some x ≡ Some y → x ≡ y
@@ -14,3 +15,9 @@ fill_step shown new all all2 x i end whole lt is more h =
     let rest : List _ = new_members new (i + 1) (end - (i + 1)) in
     rw (more, map-append shown all (x ∷ []), some_same (shown x) (new i) is, append_assoc (map shown all) (new i ∷ []) rest)
     (sym (ap (λ n. map shown all ++ new_members new i n) left) ∙ h)
+
+-- a piece after nothing
+pub nothing_before : (p : Piece) → (Some []) ⊕ p ≡ p
+unfolding ◌⊕◌
+nothing_before None = refl
+nothing_before (Some b) = refl

@@ -1,7 +1,8 @@
 -- Entries in a row, one after another.
 use Rattle.std.proofs.Common.{◌≡◌, ℕ, ◌+◌, ◌<◌, ◌≤◌, true, false, Option, Some, None, ap, sym, refl, ◌∙◌, arith, rules}
 use Rattle.std.proofs.Common.{List, [], ◌∷◌, ◌++◌, drop, get_or, map, length}
-use Rattle.std.proofs.lemmas.List.{map-append}
+use Rattle.std.proofs.lemmas.List.{map-append, take_rest}
+use Rattle.std.specs.Prelude.{slice_range}
 use Rattle.std.specs.Option.{IsSome, option_map}
 use Rattle.smith_input.proofs.Rests.{drop_past, rest_at}
 use Rattle.smith_change.specs.Rows.{first_or}
@@ -16,6 +17,9 @@ map_drop f xs i x h e = ap (map f) (rest_at xs i x h e)
 
 map_dropped : {A B : Type 0} (f : A → B) (xs : List A) (i : ℕ) → length xs ≤ i → map f (drop i xs) ≡ []
 map_dropped f xs i h = ap (map f) (drop_past xs i h)
+
+range_end : {A : Type 0} (xs : List A) (i : ℕ) → slice_range xs i (length xs) ≡ drop i xs
+range_end xs i = take_rest xs i
 
 map_map : {A B C : Type 0} (f : B → C) (g : A → B) (o : Option A) → option_map f (option_map g o) ≡ option_map (λ x. f (g x)) o
 map_map f g None = refl
@@ -129,7 +133,8 @@ module _ {X A C : Type 0} (r : InRow X A C) where
         sym (ap (option_map (prepend r.cons (map r.shown done))) (next t is on ∙ sym (ap (and_rest t (r.shown x) left) found))) ∙ h
 
     pub seek_here : {V : Type 0} (view : V → List X) (done : List X) (found : Option V) (whole : Option C) → is_here s ≡ true
-        → option_map (λ v. map r.shown (view v)) found ≡ option_map (λ ys. map r.shown done ++ ys) (r.edited (map r.shown (drop i xs)))
+        → option_map (λ v. map r.shown (view v)) found
+        ≡ option_map (λ ys. map r.shown done ++ ys) (r.edited (map r.shown (slice_range xs i (length xs))))
         → after_these (map r.shown done) s (map r.shown (drop i xs)) ≡ whole → option_map (λ v. r.gather (map r.shown (view v))) found ≡ whole
     seek_here view done found whole is by h =
         let others : List A = map r.shown (drop (i + 1) xs) in
@@ -137,7 +142,8 @@ module _ {X A C : Type 0} (r : InRow X A C) where
         let now : seek s (r.gather (map r.shown (drop i xs))) ≡ option_map r.gather e =
         ap (seek s) split ∙ seek_own s (r.shown x) left is ∙ r.own_is (r.shown x) others in
         let told : option_map (λ v. map r.shown (view v)) found ≡ option_map (λ ys. map r.shown done ++ ys) e =
-        by ∙ ap (λ ys. option_map (λ zs. map r.shown done ++ zs) (r.edited ys)) (map_drop r.shown xs i x lt at) in
+        by ∙ ap (λ ys. option_map (λ zs. map r.shown done ++ zs) (r.edited (map r.shown ys))) (range_end xs i)
+        ∙ ap (λ ys. option_map (λ zs. map r.shown done ++ zs) (r.edited ys)) (map_drop r.shown xs i x lt at) in
         sym (map_map r.gather (λ v. map r.shown (view v)) found) ∙ ap (option_map r.gather) told
         ∙ map_map r.gather (λ ys. map r.shown done ++ ys) e
         ∙ map_with (λ ys. r.gather (map r.shown done ++ ys)) (λ ys. prepend r.cons (map r.shown done) (r.gather ys)) e (gather_append (map r.shown done))

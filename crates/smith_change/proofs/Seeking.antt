@@ -2,7 +2,7 @@
 use Rattle.std.proofs.Common.{◌≡◌, ℕ, suc, ◌+◌, ◌-◌, ◌<◌, ◌≤◌, Bool, true, false, Option, Some, None, ap, sym, refl, ◌∙◌, arith, nat_lt, ⊎_elim, rules}
 use Rattle.std.proofs.lemmas.Bool.{cases_lt}
 use Rattle.std.proofs.lemmas.Bool.Decides.{nat_tests}
-use Rattle.std.specs.Prelude.{IfOk, Result, Ok, Err, if◌then◌else◌}
+use Rattle.std.specs.Prelude.{IfOk, IsSomeAnd, MatchOption, Result, Ok, Err, if◌then◌else◌}
 use Rattle.std.specs.Option.{IsSome, option_map, option_zip}
 use Rattle.smith_change.specs.Rows.{first_or, in_turn}
 use Rattle.smith_change.specs.Search.{among, is_here, past, sought}
@@ -165,5 +165,20 @@ pub later_mapped : {A B : Type 0} (h : A → B) (n : ℕ) (own : Option B) (f : 
 later_mapped h n own f x s t found is on e =
     ap (option_map h) e ∙ sym (sought_map h n t f x) ∙ ap (λ u. sought n u (λ j. option_map h (f j)) (h x)) on
     ∙ sym (sought_later n own (λ j. option_map h (f j)) (h x) s is)
+
+-- What a function made of what is found, seen otherwise.
+module _ {V R L D : Type 0} (seen : R → D) (h : L → D) (view : V → L) (post : V → R → Type 0) (is : (v : V) (r : R) → post v r → seen r ≡ h (view v)) where
+  made_of : (p : Option V) (r : Option R) → MatchOption p (r ≡ None) (λ v. IsSomeAnd r (post v)) → option_map seen r ≡ option_map h (option_map view p)
+  made_of None r cases = ap (option_map seen) cases
+  made_of (Some v) None cases = absurd cases
+  made_of (Some v) (Some r) cases = ap Some (is v r cases)
+
+  module _ (n : ℕ) (f : ℕ → Option L) (x : L) (s : Search) (p : Option V) (r : Option R) (cases : MatchOption p (r ≡ None) (λ v. IsSomeAnd r (post v))) where
+    pub found_made : option_map view p ≡ sought n s f x → option_map seen r ≡ sought n s (λ j. option_map h (f j)) (h x)
+    found_made found = made_of p r cases ∙ ap (option_map h) found ∙ sym (sought_map h n s f x)
+
+    pub found_later : (own : Option D) (t : Search) → is_here t ≡ false → s ≡ past 1 t → option_map view p ≡ sought n s f x
+        → option_map seen r ≡ sought (1 + n) t (first_or own (λ j. option_map h (f j))) (h x)
+    found_later own t not_here on found = made_of p r cases ∙ later_mapped h n own f x t s (option_map view p) not_here on found
 
 pub ruleset seeking = (sought_later, sought_here, sought_map, past_past)

@@ -174,8 +174,8 @@ fn change_type_alias(
     count: u32,
     index: u32,
 ) -> Option<DeclNode>
-    ensures declaration { let decl = type_alias count index tt in (importing : Bool) → option_map shown_decl_node result
-        ≡ sought 3 search.old (λ k. types.decl_changed importing change.alternative k decl) decl }
+    ensures declaration { let decl = type_alias count index tt in option_map shown_decl_node result
+        ≡ sought 3 search.old (λ k. types.decl_changed true change.alternative k decl) decl }
     ensures moved { IsSome result → search.new ≡ past 3 search.old }
 {
     if search.step() {
@@ -192,8 +192,8 @@ fn change_core_alias(
     count: u32,
     index: u32,
 ) -> Option<DeclNode>
-    ensures declaration { let decl = core_type_alias count index tt in (importing : Bool) → option_map shown_decl_node result
-        ≡ sought 3 search.old (λ k. types.decl_changed importing change.alternative k decl) decl }
+    ensures declaration { let decl = core_type_alias count index tt in option_map shown_decl_node result
+        ≡ sought 3 search.old (λ k. types.decl_changed true change.alternative k decl) decl }
     ensures moved { IsSome result → search.new ≡ past 3 search.old }
 {
     if search.step() {

@@ -7,12 +7,6 @@ use Rattle.smith_change.proofs.RowsOf.{decl_row}
 use Rattle.smith_change.proofs.Seeking.{ok_then}
 use Rattle.smith_change.proofs.types.+changing.Goals as goal
 
-pub change_declaration-returns-in-TypeAlias-clause-declaration : goal.change_declaration-returns-in-TypeAlias-clause-declaration
-change_declaration-returns-in-TypeAlias-clause-declaration t c = c.change_type_alias.ensures.declaration (may_import c.args.owner)
-
-pub change_declaration-returns-in-CoreTypeAlias-clause-declaration : goal.change_declaration-returns-in-CoreTypeAlias-clause-declaration
-change_declaration-returns-in-CoreTypeAlias-clause-declaration t c = c.change_core_alias.ensures.declaration (may_import c.args.owner)
-
 pub change_declarations-returns-then-step-clause-declarations : goal.change_declarations-returns-then-step-clause-declarations
 change_declarations-returns-then-step-clause-declarations t c =
     let row = decl_row (may_import c.args.owner) c.args.change.alternative in

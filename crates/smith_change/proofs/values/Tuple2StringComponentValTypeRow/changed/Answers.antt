@@ -1,4 +1,4 @@
-use Rattle.std.proofs.Common.{ap, refl, sym, string_bytes, ◌∙◌}
+use Rattle.std.proofs.Common.{Option, ap, refl, sym, string_bytes, ◌∙◌}
 use Rattle.std.specs.Option.{option_map}
 use Rattle.smith_syntax.specs.Signature.{named}
 use Rattle.smith_change.specs.Alternatives.{name_alternative, value_alternative}
@@ -11,6 +11,9 @@ returns-clause-entry c =
     let a = c.args.change.alternative in
     let n = string_bytes c.args.self.now.0 in
     let ty = c.args.self.now.1 in
+    let told = c.in_ok-name.ensures {u = tt} in
+    let name = rw c.as_str.ensures.value at told.name in
     ap (option_map named) c.zip.ensures
     ∙ found_both string_bytes (λ v. v) named (λ n v. (n, v)) (λ n v. refl) 1 1 (λ j. name_alternative a n) (λ j. value_alternative a ty) n ty
-    c.args.search.now c.change_name.new.search c.in_ok-name.name c.change_value.result ? ? ?
+    c.args.search.now c.change_name.new.search c.in_ok-name.name c.change_value.result name (λ is. (c.in_ok-name.ensures {u = tt}).moved)
+    (sym (same_option c.change_value.result) ∙ c.change_value.ensures.value)
