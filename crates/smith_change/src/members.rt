@@ -195,8 +195,8 @@ pub(crate) fn change_signature(
 {
     let params = change_members(change, search, MOST_PARAMS, &ty.params)?;
     let result = change_optional(change, search, ty.result);
-    let Some((params, result)) = params.zip(result) else {
-        return Ok(None);
-    };
-    Ok(Some(FuncType { params, result }))
+    match params.zip(result) {
+        Some((params, result)) => Ok(Some(FuncType { params, result })),
+        None => Ok(None),
+    }
 }
