@@ -1,7 +1,6 @@
 -- The changes of a component: in each, one token or one list of entries is another.
 use Rattle.std.specs.Prelude.{◌≡◌, ℕ, ◌*◌, ◌/◌, ◌%◌, ◌≤◌, ◌<◌, Bool, true, false, List, Option, Some, None, bytes_eq, if◌then◌else◌}
 use Rattle.smith_format.specs.Piece.{Piece}
-
 use Rattle.smith_tree.specs.Grammar.{Spells, component_text}
 use Rattle.smith_tree.specs.Tree.{Tree}
 use Rattle.smith_change.specs.Parts.{places, sections_changed}

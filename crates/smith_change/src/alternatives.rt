@@ -169,10 +169,7 @@ pub(crate) fn with_index(to: ComponentTypeRef, index: u32) -> ComponentTypeRef
     }
 }
 
-pub(crate) fn sort_alternative(
-    alternative: usize,
-    to: ComponentTypeRef,
-) -> Option<ComponentTypeRef>
+pub(crate) fn sort_alternative(alternative: usize, to: ComponentTypeRef) -> Option<ComponentTypeRef>
     ensures { result ≡ table.sort_alternative alternative to }
 {
     let index = ref_index(to);

@@ -27,11 +27,7 @@ fn change_index(change: Change, search: &mut Search, index: u32) -> Option<u32>
     search.token(index, index_alternative(change.alternative, index))
 }
 
-fn change_ref(
-    change: Change,
-    search: &mut Search,
-    to: ComponentTypeRef,
-) -> Option<ComponentTypeRef>
+fn change_ref(change: Change, search: &mut Search, to: ComponentTypeRef) -> Option<ComponentTypeRef>
     ensures to { result ≡ sought 2 search.old (λ k. types.ref_changed change.alternative k to) to }
     ensures moved { IsSome result → search.new ≡ past 2 search.old }
 {
@@ -188,8 +184,9 @@ impl Row for Export {
     fn changed(&self, change: Change, search: &mut Search) -> Changed<Export> {
         let name = change_name(change, search, self.name.as_str())?;
         let func_index = change_index(change, search, self.func_index);
-        Ok(name
-            .zip(func_index)
-            .map(|(name, func_index)| Export { name, func_index }))
+        Ok(
+            name.zip(func_index)
+                .map(|(name, func_index)| Export { name, func_index }),
+        )
     }
 }

@@ -2,7 +2,6 @@
 #![tactic(auto)]
 
 mod alternatives;
-
 mod copies;
 mod core_types;
 mod error;
@@ -18,6 +17,6 @@ mod texts;
 mod types;
 mod values;
 
-pub use steps::{Step, change_count, changed, changes, next_changed};
 pub use error::ChangeError;
 pub use smith_read::Reason;
+pub use steps::{Step, change_count, changed, changes, next_changed};

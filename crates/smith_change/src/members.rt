@@ -2,7 +2,9 @@
 
 ghost use Rattle.std.specs.Prelude.{◌≡◌, ◌≤◌, ◌++◌, ℕ, map, IfOk, IsSome, option_map, string_bytes};
 ghost use Rattle.smith_syntax.specs.Shown.{shown_defined};
-ghost use Rattle.smith_syntax.specs.Entries.{enum_type, flags_type, list_type, option_type, result_type};
+ghost use Rattle.smith_syntax.specs.Entries.{enum_type, flags_type, list_type, option_type, record_type};
+ghost use Rattle.smith_syntax.specs.Entries.{result_type, tuple_type, variant_type};
+ghost use Rattle.smith_syntax.specs.Signature.{named};
 ghost use Rattle.smith_change.specs.Members as members;
 ghost use Rattle.smith_change.specs.Rows as rows;
 ghost use Rattle.smith_change.specs.Search.{past, sought};
@@ -18,7 +20,9 @@ use smith_syntax::{
 use std::alloc::{AllocError, Global};
 
 const MOST_MEMBERS: usize = 100;
+
 const MOST_FLAGS: usize = 32;
+
 const MOST_PARAMS: usize = 16;
 
 // Copies of the members, and new ones up to so many.
@@ -99,6 +103,24 @@ fn change_option(change: Change, search: &mut Search, ty: &OptionType) -> Option
     inner_ty.map(|inner_ty| DefinedType::Option(OptionType { inner_ty }))
 }
 
+fn record_of(fields: Vec<(String, ComponentValType)>) -> DefinedType
+    ensures { shown_defined result ≡ record_type (map named fields.items) }
+{
+    DefinedType::Record(RecordType { fields })
+}
+
+fn variant_of(cases: Vec<(String, Option<ComponentValType>)>) -> DefinedType
+    ensures { shown_defined result ≡ variant_type (map named cases.items) }
+{
+    DefinedType::Variant(VariantType { cases })
+}
+
+fn tuple_of(fields: Vec<ComponentValType>) -> DefinedType
+    ensures { shown_defined result ≡ tuple_type fields.items }
+{
+    DefinedType::Tuple(TupleType { fields })
+}
+
 fn flags_of(fields: Vec<String>) -> DefinedType
     ensures { shown_defined result ≡ flags_type (map string_bytes fields.items) }
 {
@@ -165,15 +187,15 @@ pub(crate) fn change_defined(
         }
         DefinedType::Record(ty) => {
             let fields = change_members(change, search, MOST_MEMBERS, &ty.fields)?;
-            Ok(fields.map(|fields| DefinedType::Record(RecordType { fields })))
+            Ok(fields.map(record_of))
         }
         DefinedType::Variant(ty) => {
             let cases = change_members(change, search, MOST_MEMBERS, &ty.cases)?;
-            Ok(cases.map(|cases| DefinedType::Variant(VariantType { cases })))
+            Ok(cases.map(variant_of))
         }
         DefinedType::Tuple(ty) => {
             let fields = change_members(change, search, MOST_MEMBERS, &ty.fields)?;
-            Ok(fields.map(|fields| DefinedType::Tuple(TupleType { fields })))
+            Ok(fields.map(tuple_of))
         }
         DefinedType::List(ty) => Ok(change_list(change, search, ty)),
         DefinedType::Flags(ty) => change_flags(change, search, &ty.fields),

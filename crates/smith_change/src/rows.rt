@@ -112,11 +112,7 @@ fn followed_after<T: Entry>(alloc: Global, done: Vec<T>, entries: &[T]) -> Chang
 
 /// These, and then the entries with the first of them left out, doubled, exchanged with the next, or doubled with
 /// another name.
-pub(crate) fn change_entry<T: Entry>(
-    change: Change,
-    done: Vec<T>,
-    entries: &[T],
-) -> Changed<Vec<T>>
+pub(crate) fn change_entry<T: Entry>(change: Change, done: Vec<T>, entries: &[T]) -> Changed<Vec<T>>
     ensures { IfOk result (λ r. option_map (λ v. map T.shown v.items) r ≡ option_map (λ ys. map T.shown done.items ++ ys)
         (rows.entry_alternative T.again change.alternative (map T.shown entries.now))) }
 {

@@ -108,12 +108,7 @@ pub fn changed(alloc: Global, tree: &ComponentTree, number: usize) -> Changed<Co
 }
 
 // The bytes to which a change of the component with these bytes leads.
-fn led_to(
-    alloc: Global,
-    tree: &ComponentTree,
-    bytes: &[u8],
-    number: usize,
-) -> Changed<Vec<u8>>
+fn led_to(alloc: Global, tree: &ComponentTree, bytes: &[u8], number: usize) -> Changed<Vec<u8>>
     requires { Spells (shown_tree tree.now) bytes.now }
     ensures { IfOk result (λ r. spec.IsLead (shown_tree tree.now) number (option_map (λ b. b.items) r)) }
 {
@@ -165,11 +160,7 @@ pub fn change_count(alloc: Global, bytes: &[u8]) -> Result<usize, ChangeError>
 /// bytes. There is none if no change from there on leads to one.
 ///
 /// Each change from that number up to the one that is returned takes time in proportion to the bytes.
-pub fn next_changed(
-    alloc: Global,
-    bytes: &[u8],
-    from: usize,
-) -> Result<Option<Step>, ChangeError>
+pub fn next_changed(alloc: Global, bytes: &[u8], from: usize) -> Result<Option<Step>, ChangeError>
     ensures answered { IfOk result (λ r. (t : Tree) × Spells t bytes.now
         × spec.IsNext t from (option_map (λ s. (s.number, s.bytes.items)) r)) }
     ensures refuses { IfErr result (IsRefusal bytes.now) }

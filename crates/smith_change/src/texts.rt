@@ -40,11 +40,7 @@ impl Spelled<CoreFormat> for MemoryNode {
 }
 
 // A section of a list, if the list has an entry.
-fn put_listed<T: Spelled<CoreFormat>>(
-    out: &mut Vec<u8>,
-    id: u8,
-    items: &[T],
-) -> Result<(), Error>
+fn put_listed<T: Spelled<CoreFormat>>(out: &mut Vec<u8>, id: u8, items: &[T]) -> Result<(), Error>
     ensures { Puts result out.old out.new (listed id T.piece items.now) }
 {
     if items.is_empty() {

@@ -137,11 +137,7 @@ fn as_component(change: Change, nodes: &[DeclNode]) -> Changed<TypeNode>
 
 #[cycle(changing)]
 #[tactic(auto, using(smith_read::proofs::ShownNodes::shown_nodes))]
-pub(crate) fn change_type(
-    change: Change,
-    search: &mut Search,
-    node: &TypeNode,
-) -> Changed<TypeNode>
+pub(crate) fn change_type(change: Change, search: &mut Search, node: &TypeNode) -> Changed<TypeNode>
     ensures ty { let entry = shown_type_node node.now in IfOk result (λ r. option_map shown_type_node r
         ≡ sought (types.entry_places entry) search.old (λ k. types.entry_changed change.alternative k entry) entry) }
     ensures moved { IfOk result (λ r. IsSome r

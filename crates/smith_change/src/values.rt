@@ -159,11 +159,7 @@ impl Entry for (String, ComponentValType) {
 }
 
 impl Row for (String, ComponentValType) {
-    fn changed(
-        &self,
-        change: Change,
-        search: &mut Search,
-    ) -> Changed<(String, ComponentValType)> {
+    fn changed(&self, change: Change, search: &mut Search) -> Changed<(String, ComponentValType)> {
         let name = change_name(change, search, self.0.as_str())?;
         Ok(name.zip(change_value(change, search, self.1)))
     }

@@ -37,7 +37,7 @@ returns-in_ok-fields-in-Record-clause-ty c =
     (λ k. fields_changed most_members a k (map named xs)) (map named xs))
     c.deref.ensures.value (told.entries new_field (λ n. refl)) in
     subst (λ t. Found t c.map-in-Record.result s a) (sym c.in-Record.is)
-    (found_made shown_defined record_type (λ v. map named v.items) _ (λ v r e. ap shown_defined e) (fields_places fs)
+    (found_made shown_defined record_type (λ v. map named v.items) _ (λ v r e. e) (fields_places fs)
     (λ j. fields_changed most_members a j fs) fs s c.in_ok-fields-in-Record.fields c.map-in-Record.result c.map-in-Record.ensures.cases found)
 
 pub returns-in_ok-cases-in-Variant-clause-ty : goal.returns-in_ok-cases-in-Variant-clause-ty
@@ -51,7 +51,7 @@ returns-in_ok-cases-in-Variant-clause-ty c =
     (λ k. cases_changed most_members a k (map named xs)) (map named xs))
     c.deref-in-Variant.ensures.value (told.entries new_case (λ n. refl)) in
     subst (λ t. Found t c.map-in-Variant.result s a) (sym c.in-Variant.is)
-    (found_made shown_defined variant_type (λ v. map named v.items) _ (λ v r e. ap shown_defined e) (cases_places cs)
+    (found_made shown_defined variant_type (λ v. map named v.items) _ (λ v r e. e) (cases_places cs)
     (λ j. cases_changed most_members a j cs) cs s c.in_ok-cases-in-Variant.cases c.map-in-Variant.result c.map-in-Variant.ensures.cases found)
 
 pub returns-in_ok-fields-in-Tuple-clause-ty : goal.returns-in_ok-fields-in-Tuple-clause-ty
@@ -65,7 +65,7 @@ returns-in_ok-fields-in-Tuple-clause-ty c =
     (λ xs. option_map (λ v. map (λ x. x) v.items) c.in_ok-fields-in-Tuple.fields ≡ sought (values_places xs) s (λ k. values_changed most_members a k xs) xs)
     (map-id _ ∙ c.deref-in-Tuple.ensures.value) mapped in
     subst (λ t. Found t c.map-in-Tuple.result s a) (sym c.in-Tuple.is)
-    (found_made shown_defined tuple_type (λ v. map (λ x. x) v.items) _ (λ v r e. ap shown_defined e ∙ ap tuple_type (sym (map-id v.items)))
+    (found_made shown_defined tuple_type (λ v. map (λ x. x) v.items) _ (λ v r e. e ∙ ap tuple_type (sym (map-id v.items)))
     (values_places vs) (λ j. values_changed most_members a j vs) vs s c.in_ok-fields-in-Tuple.fields c.map-in-Tuple.result
     c.map-in-Tuple.ensures.cases found)
 

@@ -9,7 +9,7 @@ use Rattle.smith_change.proofs.steps.next_of.Goals as goal
 pub loop-number-preserved : goal.loop-number-preserved
 loop-number-preserved c =
     one_more (shown_tree c.args.tree.now) c.args.from c.loop-number.number c.loop-number.invariant
-    (subst (λ r. IsLead (shown_tree c.args.tree.now) c.loop-number.number (option_map (λ b. b.items) r)) c.in_default.is c.in_ok-led_to.ensures)
+    (subst (λ r. IsLead (shown_tree c.args.tree.now) c.loop-number.number (option_map (λ b. b.items) r)) c.in_default.is (c.in_ok-bytes.ensures {u = tt}))
 
 pub returns : goal.returns
 returns c =
