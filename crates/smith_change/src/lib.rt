@@ -6,6 +6,7 @@ mod copies;
 mod core_types;
 mod error;
 mod externs;
+pub mod laws;
 mod members;
 mod modules;
 mod parts;

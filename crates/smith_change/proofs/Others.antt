@@ -1,0 +1,32 @@
+-- What a change leads to is another component.
+use Rattle.std.proofs.Common.{◌≡◌, ℕ, ◌/◌, ◌%◌, Bool, true, false, Option, Some, None, ap, sym, refl, ◌∙◌, rules}
+use Rattle.std.specs.Prelude.{if◌then◌else◌}
+use Rattle.smith_format.specs.Piece.{Piece}
+use Rattle.smith_tree.specs.Grammar.{component_text}
+use Rattle.smith_tree.specs.Tree.{Tree}
+use Rattle.smith_change.specs.Changes.{changed, if_other, same_piece}
+use Rattle.smith_change.specs.Parts.{sections_changed}
+
+pub same_itself : (p : Piece) → same_piece p p ≡ true
+same_itself None = refl
+same_itself (Some b) = search rules
+
+-- the component with one place changed, and that it is another
+pub other_is : (t r : Tree) (o : Option Tree) → if_other t o ≡ Some r → (o ≡ Some r) × (same_piece (component_text t) (component_text r) ≡ false)
+other_is t r None e = absurd cc
+other_is t r (Some u) e = go (same_piece (component_text t) (component_text u)) refl e
+  where
+    go : (b : Bool) → same_piece (component_text t) (component_text u) ≡ b → (if b then None else Some u) ≡ Some r
+        → (Some u ≡ Some r) × (same_piece (component_text t) (component_text r) ≡ false)
+    go true is e = absurd cc
+    go false is e = (e, (let same : u ≡ r = cc in ap (λ v. same_piece (component_text t) (component_text v)) (sym same) ∙ is))
+
+pub place_changed : (k : ℕ) (t r : Tree) → changed k t ≡ Some r → sections_changed (k % 16) (k / 16) t ≡ Some r
+place_changed k t r e = (other_is t r (sections_changed (k % 16) (k / 16) t) e).0
+
+pub leads_to_other : (k : ℕ) (t r : Tree) → changed k t ≡ Some r → ¬ (t ≡ r)
+leads_to_other k t r e same =
+    let differs = (other_is t r (sections_changed (k % 16) (k / 16) t) e).1 in
+    let alike : same_piece (component_text t) (component_text r) ≡ true =
+    ap (λ v. same_piece (component_text t) (component_text v)) (sym same) ∙ same_itself (component_text t) in
+    absurd cc
