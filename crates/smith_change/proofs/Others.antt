@@ -1,11 +1,15 @@
 -- What a change leads to is another component.
-use Rattle.std.proofs.Common.{◌≡◌, ℕ, ◌/◌, ◌%◌, Bool, true, false, Option, Some, None, ap, sym, refl, ◌∙◌, rules}
+use Rattle.std.proofs.Common.{◌≡◌, ℕ, ◌/◌, ◌%◌, Bool, true, false, Option, Some, None, ap, sym, refl, ◌∙◌, rules, ◌⊎◌, inl, inr, append_assoc}
 use Rattle.std.specs.Prelude.{if◌then◌else◌}
 use Rattle.smith_format.specs.Piece.{Piece}
 use Rattle.smith_tree.specs.Grammar.{component_text}
 use Rattle.smith_tree.specs.Tree.{Tree}
 use Rattle.smith_change.specs.Changes.{changed, if_other, same_piece}
+use Rattle.smith_change.specs.Differs.{DiffersInOneList, DiffersInOneToken, entries_tokens}
 use Rattle.smith_change.specs.Parts.{sections_changed}
+use Rattle.smith_change.specs.Tokens.{tokens}
+use Rattle.smith_change.proofs.Differing.{Differ}
+use Rattle.smith_change.proofs.DifferingTrees.{component_differs}
 
 pub same_itself : (p : Piece) → same_piece p p ≡ true
 same_itself None = refl
@@ -30,3 +34,18 @@ leads_to_other k t r e same =
     let alike : same_piece (component_text t) (component_text r) ≡ true =
     ap (λ v. same_piece (component_text t) (component_text v)) (sym same) ∙ same_itself (component_text t) in
     absurd cc
+
+-- where they differ
+pub one_or_list : (k : ℕ) (t r : Tree) → changed k t ≡ Some r → DiffersInOneToken t r ⊎ DiffersInOneList t r
+one_or_list k t r e = go (component_differs (k % 16) (k / 16) t r (place_changed k t r e))
+  where
+    go : Differ (tokens t) (tokens r) (t ≡ r) → DiffersInOneToken t r ⊎ DiffersInOneList t r
+    go (inl d) = inl (record {
+      before = d.before; old = d.old; new = d.new; after = d.after; was = d.of_old; is = d.of_new; differs = λ s. leads_to_other k t r e (d.same s);
+    })
+    go (inr d) = inr (record {
+      before = d.before; old = d.old; new = d.new; after = d.after;
+      was = d.of_old ∙ sym (append_assoc d.before (entries_tokens d.old) d.after);
+      is = d.of_new ∙ sym (append_assoc d.before (entries_tokens d.new) d.after);
+      edited = d.edited; differs = leads_to_other k t r e;
+    })
