@@ -1,9 +1,8 @@
 -- Declarations in order, of which one may be an import.
-use Rattle.std.proofs.Common.{◌≡◌, ℕ, suc, ◌+◌, ◌<◌, ◌≤◌, Bool, true, false, ap, sym, refl, ◌∙◌}
-use Rattle.std.proofs.Common.{List, [], ◌∷◌, ◌++◌, drop, get_or, map, length}
-use Rattle.std.specs.Prelude.{◌==◌}
+use Rattle.std.proofs.Common.{◌≡◌, ℕ, ◌+◌, ◌<◌, ◌≤◌, ap}
+use Rattle.std.proofs.Common.{List, [], ◌++◌, drop, get_or, map, length}
 use Rattle.smith_input.proofs.Rests.{drop_past, rest_at}
-use Rattle.smith_syntax.specs.Entries.{Decl, in_order, import_decl}
+use Rattle.smith_syntax.specs.Entries.{in_order}
 use Rattle.smith_syntax.specs.WellFormed.{decl_imports, import_of}
 use Rattle.smith_read.specs.TypeNodes.{shown_decl_node}
 use Rattle.smith_read.specs.declared.type_nodes.DeclNode.{DeclNode}

@@ -1,13 +1,13 @@
 -- Lists of tokens that differ in one token, or by one edit of one list.
-use Rattle.std.proofs.Common.{◌≡◌, ℕ, suc, ◌+◌, ◌-◌, Bool, true, false, Option, Some, None, ap, sym, refl, ◌∙◌, arith, ⊎_elim, nat_lt, append_assoc}
+use Rattle.std.proofs.Common.{◌≡◌, ℕ, suc, ◌-◌, Bool, true, false, Option, Some, None, ap, sym, refl, ◌∙◌, ⊎_elim, nat_lt, append_assoc}
 use Rattle.std.proofs.Common.{List, [], ◌∷◌, ◌++◌, map, length}
 use Rattle.std.proofs.lemmas.List.{map-append, length-map, append-nil}
 use Rattle.std.proofs.Common.{◌⊎◌, inl, inr}
 use Rattle.std.specs.Prelude.{if◌then◌else◌, ◌==◌}
 use Rattle.std.specs.List.{flat_map}
 use Rattle.std.specs.Option.{option_map}
-use Rattle.smith_change.specs.Differs.{IsEdit, added, emptied, entries_tokens, exchanged, extended, left_out}
-use Rattle.smith_change.specs.Rows.{entry_alternative, exchanged as first_exchanged, first_or, followed, in_turn, row_changed, row_places}
+use Rattle.smith_change.specs.Differs.{IsEdit, added, entries_tokens, exchanged, left_out}
+use Rattle.smith_change.specs.Rows.{entry_alternative, exchanged as first_exchanged, first_or, followed, in_turn, row_changed}
 use Rattle.smith_change.specs.Tokens.{Token, count, list_tokens}
 
 -- One token is another. If that is the same token after all, something is so.
@@ -45,13 +45,19 @@ module _ {was is : List Token} {P : Type 0} where
   -- after these
   pub behind : (front : List Token) → Differ was is P → Differ (front ++ was) (front ++ is) P
   behind front (inl d) = inl (record {
-    before = front ++ d.before; old = d.old; new = d.new; after = d.after;
+    before = front ++ d.before;
+    old = d.old;
+    new = d.new;
+    after = d.after;
     of_old = ap (λ ts. front ++ ts) d.of_old ∙ sym (append_assoc front d.before (d.old ∷ d.after));
     of_new = ap (λ ts. front ++ ts) d.of_new ∙ sym (append_assoc front d.before (d.new ∷ d.after));
     same = d.same;
   })
   behind front (inr d) = inr (record {
-    before = front ++ d.before; old = d.old; new = d.new; after = d.after;
+    before = front ++ d.before;
+    old = d.old;
+    new = d.new;
+    after = d.after;
     of_old = ap (λ ts. front ++ ts) d.of_old ∙ sym (append_assoc front d.before (entries_tokens d.old ++ d.after));
     of_new = ap (λ ts. front ++ ts) d.of_new ∙ sym (append_assoc front d.before (entries_tokens d.new ++ d.after));
     edited = d.edited;
@@ -60,13 +66,19 @@ module _ {was is : List Token} {P : Type 0} where
   -- before these
   pub ahead : (back : List Token) → Differ was is P → Differ (was ++ back) (is ++ back) P
   ahead back (inl d) = inl (record {
-    before = d.before; old = d.old; new = d.new; after = d.after ++ back;
+    before = d.before;
+    old = d.old;
+    new = d.new;
+    after = d.after ++ back;
     of_old = ap (λ ts. ts ++ back) d.of_old ∙ append_assoc d.before (d.old ∷ d.after) back;
     of_new = ap (λ ts. ts ++ back) d.of_new ∙ append_assoc d.before (d.new ∷ d.after) back;
     same = d.same;
   })
   ahead back (inr d) = inr (record {
-    before = d.before; old = d.old; new = d.new; after = d.after ++ back;
+    before = d.before;
+    old = d.old;
+    new = d.new;
+    after = d.after ++ back;
     of_old = ap (λ ts. ts ++ back) d.of_old ∙ append_assoc d.before (entries_tokens d.old ++ d.after) back
         ∙ ap (λ ts. d.before ++ ts) (append_assoc (entries_tokens d.old) d.after back);
     of_new = ap (λ ts. ts ++ back) d.of_new ∙ append_assoc d.before (entries_tokens d.new ++ d.after) back
@@ -205,7 +217,13 @@ module _ {A : Type 0} (tokens : A → List Token) where
 
   pub as_list : {P : Type 0} (xs ys : List A) → IsEdit (map tokens xs) (map tokens ys) → Differ (list_tokens tokens xs) (list_tokens tokens ys) P
   as_list xs ys d = inr (record {
-    before = []; old = map tokens xs; new = map tokens ys; after = []; of_old = listed xs; of_new = listed ys; edited = d;
+    before = [];
+    old = map tokens xs;
+    new = map tokens ys;
+    after = [];
+    of_old = listed xs;
+    of_new = listed ys;
+    edited = d;
   })
 
   -- what a list of them is

@@ -1,12 +1,11 @@
 -- What one change makes of core module types and of what they import and export.
-use Rattle.std.proofs.Common.{◌≡◌, ℕ, not, Bool, true, false, Option, Some, None, ap, arith, sym, refl, ◌∙◌, ⊎_elim, ◌⊎◌}
-use Rattle.std.proofs.Common.{List, [], ◌∷◌, ◌++◌}
+use Rattle.std.proofs.Common.{◌≡◌, ℕ, not, Bool, true, false, Option, Some, None, ap, arith, sym, refl, ⊎_elim}
+use Rattle.std.proofs.Common.{[], ◌∷◌}
 use Rattle.std.specs.Prelude.{if◌then◌else◌, ◌==◌}
 use Rattle.std.specs.Option.{option_map}
 use Rattle.smith_format.specs.declared.types.EntityType.{EntityType}
 use Rattle.smith_format.specs.declared.types.EntityType.TheVariants.{Func, Table, Memory, Global, Tag}
 use Rattle.smith_format.specs.declared.types.MemoryType.{MemoryType}
-use Rattle.smith_format.specs.declared.types.RefType.{RefType}
 use Rattle.smith_format.specs.declared.types.TableType.{TableType}
 use Rattle.smith_syntax.specs.Entries.{CoreEntry, ModuleDecl, aliases, core_func, core_module, declares, exports, imports}
 use Rattle.smith_change.specs.Alternatives.{bounds_alternative, core_value_alternative, element_alternative, index_alternative, memory_alternative, memory_of}
@@ -14,9 +13,10 @@ use Rattle.smith_change.specs.Alternatives.{only, other_element, table_alternati
 use Rattle.smith_change.specs.CoreTypes.{core_changed, entity_changed, function_changed, module_decl_again, module_decl_changed, module_decl_places}
 use Rattle.smith_change.specs.CoreTypes.{module_decls_changed, outer_changed, unshared}
 use Rattle.smith_change.specs.Rows.{first_or}
-use Rattle.smith_change.specs.Tokens.{Token, code, core_tokens, core_value, entity_tokens, function_tokens, index, limits, list_tokens, module_decl_tokens, mutable}
+use Rattle.smith_change.specs.Tokens.{code, core_tokens, core_value, entity_tokens, index, limits}
+use Rattle.smith_change.specs.Tokens.{module_decl_tokens, mutable}
 use Rattle.smith_change.specs.Tokens.{name, table_of}
-use Rattle.smith_change.proofs.Differing.{Differ, ahead, behind, by_first, by_turn, if_cases, list_differs, map_cases, one_token, only_is, row_differs, so}
+use Rattle.smith_change.proofs.Differing.{Differ, behind, by_first, if_cases, list_differs, map_cases, one_token, only_is, row_differs, so}
 use Rattle.smith_change.proofs.DifferingTypes.{code_same, core_value_same, function_differs, index_same, mutable_same, table_same}
 
 -- limits that are the same have the same bounds
@@ -35,7 +35,6 @@ tables_differ t u element =
     rw element
     (one_token (table_of t.element_type ∷ []) [] (limits false t.table64 t.minimum t.maximum) (limits false u.table64 u.minimum u.maximum)
     (λ s. let same = limits_same false false t.table64 u.table64 t.minimum u.minimum t.maximum u.maximum s in
-    
     λ i. Table (record { element_type = t.element_type; table64 = same.1 i; minimum = same.2 i; maximum = same.3 i })))
 
 element_kept : (a : ℕ) (t u : TableType) → table_alternative a t ≡ Some u → u.element_type ≡ t.element_type

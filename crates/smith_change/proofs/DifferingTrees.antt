@@ -1,28 +1,33 @@
 -- What one change makes of types, of declarations, and of the sections of components.
-use Rattle.std.proofs.Common.{◌≡◌, ℕ, suc, ◌+◌, ◌/◌, ◌%◌, Bool, true, false, Option, Some, None, ap, arith, sym, refl, ◌∙◌, ⊎_elim, ◌⊎◌, inl, inr}
-use Rattle.std.proofs.Common.{List, [], ◌∷◌, ◌++◌, map, length, append_assoc}
+use Rattle.std.proofs.Common.{◌≡◌, ℕ, suc, ◌+◌, Bool, true, false, Option, Some, None, ap, arith, sym, refl, ◌∙◌, ⊎_elim, ◌⊎◌, inl, inr}
+use Rattle.std.proofs.Common.{List, [], ◌∷◌, ◌++◌, length}
 use Rattle.std.specs.Prelude.{if◌then◌else◌, ◌==◌}
 use Rattle.std.specs.List.{flat_map}
 use Rattle.std.specs.Option.{option_map}
-use Rattle.smith_syntax.specs.Entries.{Decl, Decls, Entry, ImportEntry, component_type, decl_count, defined, function, in_order, instance_type, no_decls, then_decls}
+use Rattle.smith_syntax.specs.Entries.{Decl, Decls, Entry, ImportEntry, component_type, decl_count, defined, function, in_order, instance_type}
+use Rattle.smith_syntax.specs.Entries.{no_decls, then_decls}
 use Rattle.smith_syntax.specs.Entries.{core_type_alias, core_type_decl, export_decl, import_decl, type_alias, type_decl}
 use Rattle.smith_syntax.specs.WellFormed.{decl_imports}
 use Rattle.smith_syntax.specs.declared.deftype.ComponentTypeRef.{ComponentTypeRef}
 use Rattle.smith_syntax.specs.declared.deftype.ComponentTypeRef.TheVariants as to
-use Rattle.smith_tree.specs.Tree.{Canon, ExportEntry, Part, Tree, canons, component, core_module, core_types, custom, ends, exports, first, imports, lift, lower}
+use Rattle.smith_tree.specs.Tree.{Canon, ExportEntry, Part, Tree, canons, component, core_module, core_types, custom, ends, exports, first, imports}
+use Rattle.smith_tree.specs.Tree.{lift, lower}
 use Rattle.smith_tree.specs.Tree.{parts_of, tree_of, types}
 use Rattle.smith_change.specs.Alternatives.{index_alternative, name_alternative, only, ref_index, sort_alternative, with_index}
 use Rattle.smith_change.specs.CoreTypes.{core_changed, core_places, outer_changed}
 use Rattle.smith_change.specs.Members.{defined_changed, signature_changed}
-use Rattle.smith_change.specs.Parts.{canon_changed, canon_places, canons_changed, core_types_changed, export_again, export_changed, export_places, exports_changed}
+use Rattle.smith_change.specs.Parts.{canon_changed, canon_places, canons_changed, core_types_changed, export_again, export_changed, export_places}
+use Rattle.smith_change.specs.Parts.{exports_changed}
 use Rattle.smith_change.specs.Parts.{import_again, import_changed, import_places, imports_changed, module_changed, part_changed, part_places, sections_changed}
 use Rattle.smith_change.specs.Parts.{types_changed}
-use Rattle.smith_change.specs.Rows.{entry_alternative, first_or, in_turn, unnamed}
+use Rattle.smith_change.specs.Rows.{entry_alternative, in_turn, unnamed}
 use Rattle.smith_change.specs.Tokens.{Token, canon_tokens, code, core_tokens, count, decl_tokens, decls_tokens, entry_tokens, export_tokens, extern_tokens}
 use Rattle.smith_change.specs.Tokens.{import_tokens, index, list_tokens, name, part_tokens, raw, sections_tokens, sort_code, tokens}
-use Rattle.smith_change.specs.Types.{decl_again, decl_changed, decl_list, decl_places, decls_changed, entry_changed, entry_places, extern_changed, importing_alone}
+use Rattle.smith_change.specs.Types.{decl_again, decl_changed, decl_list, decl_places, decls_changed, entry_changed, entry_places, extern_changed}
+use Rattle.smith_change.specs.Types.{importing_alone}
 use Rattle.smith_change.specs.Types.{ref_changed, without_imports}
-use Rattle.smith_change.proofs.Differing.{Differ, EntryEdit, ahead, as_list, behind, by_first, by_turn, edit_behind, edit_mapped, entry_edited, if_cases, list_differs}
+use Rattle.smith_change.proofs.Differing.{Differ, EntryEdit, ahead, as_list, behind, by_first, by_turn, edit_behind, edit_mapped, entry_edited}
+use Rattle.smith_change.proofs.Differing.{if_cases, list_differs}
 use Rattle.smith_change.proofs.Differing.{map_cases, one_token, only_is, row_differs, so}
 use Rattle.smith_change.proofs.DifferingCores.{core_differs, outer_differs}
 use Rattle.smith_change.proofs.DifferingTypes.{code_same, defined_differs, index_same, name_same, signature_differs}
@@ -189,7 +194,8 @@ mutual
   decls_differ b a k no_decls es e = absurd cc
   decls_differ b a k (then_decls d ds) es e =
       by_first (option_map in_order (entry_alternative decl_again a (d ∷ decl_list ds)))
-      (in_turn (decl_places d) (λ j. option_map (λ x. then_decls x ds) (decl_changed b a j d)) (λ j. option_map (λ xs. then_decls d xs) (decls_changed b a j ds)))
+      (in_turn (decl_places d) (λ j. option_map (λ x. then_decls x ds) (decl_changed b a j d))
+      (λ j. option_map (λ xs. then_decls d xs) (decls_changed b a j ds)))
       k es e
       (λ own. let m = map_cases in_order (entry_alternative decl_again a (d ∷ decl_list ds)) es own in
       rw (sym m.2) (inr (rw (decl_list_back m.0) (entry_edited decl_again a (d ∷ decl_list ds) m.0 m.1))))
@@ -222,7 +228,8 @@ import_differs a k x y e =
 
 export_differs : (a k : ℕ) (x y : ExportEntry) → export_changed a k x ≡ Some y → Differ (export_tokens x) (export_tokens y) (x ≡ y)
 export_differs a k x y e =
-    by_first (option_map (λ n. record x { name = n }) (name_alternative a x.name)) (λ j. option_map (λ i. record x { func = i }) (index_alternative a x.func)) k y e
+    by_first (option_map (λ n. record x { name = n }) (name_alternative a x.name))
+    (λ j. option_map (λ i. record x { func = i }) (index_alternative a x.func)) k y e
     (λ own. let m = map_cases (λ n. record x { name = n }) (name_alternative a x.name) y own in
     rw (sym m.2) (one_token [] (index x.func ∷ []) (name x.name) (name m.0) (λ s. ap (λ n. record x { name = n }) (name_same x.name m.0 s))))
     (λ j h. let m = map_cases (λ i. record x { func = i }) (index_alternative a x.func) y h in

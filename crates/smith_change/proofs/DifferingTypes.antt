@@ -1,36 +1,32 @@
 -- What one change makes of types of values and of functions, and of core types.
-use Rattle.std.proofs.Common.{◌≡◌, ℕ, ◌+◌, ◌-◌, arith, length, not, Bool, true, false, Option, Some, None, ap, sym, refl, ◌∙◌, ⊎_elim, ◌⊎◌, inl, inr}
+use Rattle.std.proofs.Common.{◌≡◌, ℕ, ◌+◌, ◌-◌, arith, length, Bool, Option, Some, None, ap, sym, refl, ◌∙◌, ⊎_elim}
 use Rattle.std.proofs.Common.{List, [], ◌∷◌, ◌++◌, map}
 use Rattle.std.proofs.lemmas.List.{map-append}
 use Rattle.std.specs.Prelude.{if◌then◌else◌, ◌==◌}
 use Rattle.std.specs.Option.{option_map}
 use Rattle.smith_format.specs.CoreTypes.{Function}
-use Rattle.smith_format.specs.declared.types.EntityType.{EntityType}
-use Rattle.smith_format.specs.declared.types.EntityType.TheVariants.{Func, Table, Memory, Global, Tag}
 use Rattle.smith_format.specs.declared.types.RefType.{RefType}
-use Rattle.smith_format.specs.declared.types.TableType.{TableType}
 use Rattle.smith_format.specs.declared.types.ValType.{ValType}
 use Rattle.smith_format.specs.declared.types.ValType.TheVariants.{I32}
-use Rattle.smith_syntax.specs.Entries.{Case, CoreEntry, DefValType, Field, ModuleDecl, Signature, aliases, core_func, core_module, declares, exports, imports}
+use Rattle.smith_syntax.specs.Entries.{Case, DefValType, Field, Signature}
 use Rattle.smith_syntax.specs.Entries.{primitive_type, record_type, variant_type, list_type, tuple_type, flags_type, enum_type, option_type, result_type}
 use Rattle.smith_syntax.specs.Grammar.{primvaltype}
 use Rattle.smith_syntax.specs.declared.types.ComponentValType.{ComponentValType}
 use Rattle.smith_syntax.specs.declared.types.PrimitiveValType.{PrimitiveValType}
 use Rattle.smith_syntax.specs.declared.types.PrimitiveValType.TheVariants as prim
-use Rattle.smith_change.specs.Alternatives.{bounds_alternative, core_value_alternative, element_alternative, index_alternative, memory_alternative, memory_of}
-use Rattle.smith_change.specs.Alternatives.{name_alternative, only, other_element, presence_alternative, primitive_alternative, table_alternative, table_of as as_table}
+use Rattle.smith_change.specs.Alternatives.{name_alternative, only}
 use Rattle.smith_change.specs.Alternatives.{value_alternative}
-use Rattle.smith_change.specs.CoreTypes.{core_changed, core_value_changed, core_value_places, core_values_changed, core_values_places, entity_changed}
-use Rattle.smith_change.specs.CoreTypes.{function_changed, module_decl_again, module_decl_changed, module_decl_places, outer_changed, results_changed, unshared}
+use Rattle.smith_change.specs.CoreTypes.{core_value_changed, core_value_places, core_values_changed, core_values_places}
+use Rattle.smith_change.specs.CoreTypes.{function_changed, results_changed}
 use Rattle.smith_change.specs.Differs.{IsEdit, emptied, extended}
 use Rattle.smith_change.specs.Members.{case_again, case_changed, case_places, cases_changed, defined_changed, field_again, field_changed, field_places}
 use Rattle.smith_change.specs.Members.{fields_changed, fields_places, label_again, label_changed, label_places, labels_changed, members_changed, most_flags}
 use Rattle.smith_change.specs.Members.{most_members, most_params, new_case, new_field, new_value, optional_changed, optional_places, signature_changed}
 use Rattle.smith_change.specs.Members.{value_changed, value_places, values_changed}
 use Rattle.smith_change.specs.Rows.{filled, members_alternative, new_members, new_name, row_changed, unnamed}
-use Rattle.smith_change.specs.Tokens.{Token, code, core_value, index, limits, mutable, name, optional, table_of, value}
-use Rattle.smith_change.specs.Tokens.{case_tokens, core_tokens, core_value_tokens, defined_tokens, entity_tokens, field_tokens, function_tokens, label_tokens}
-use Rattle.smith_change.specs.Tokens.{list_tokens, module_decl_tokens, signature_tokens, value_tokens}
+use Rattle.smith_change.specs.Tokens.{Token, code, core_value, index, mutable, name, optional, table_of, value}
+use Rattle.smith_change.specs.Tokens.{case_tokens, core_value_tokens, defined_tokens, field_tokens, function_tokens, label_tokens}
+use Rattle.smith_change.specs.Tokens.{list_tokens, signature_tokens, value_tokens}
 use Rattle.smith_change.proofs.Differing.{Differ, ahead, as_list, behind, by_first, by_turn, if_cases, list_differs, map_cases, one_token, only_is, row_differs}
 use Rattle.smith_change.proofs.Differing.{so}
 
@@ -104,8 +100,8 @@ module _ {A : Type 0} (tokens : A → List Token) (size : A → ℕ) (changed : 
       → Differ (list_tokens tokens xs) (list_tokens tokens ys) (xs ≡ ys)
   members_differ bound k xs ys e =
       by_first (members_alternative bound new a xs) (λ j. row_changed size changed again a j xs) k ys e
-    (λ own. as_list tokens xs ys (members_edited bound xs ys own))
-    (λ j h. list_differs tokens xs ys (row_differs tokens size changed again a each j xs ys h))
+      (λ own. as_list tokens xs ys (members_edited bound xs ys own))
+      (λ j h. list_differs tokens xs ys (row_differs tokens size changed again a each j xs ys h))
 
 fields_differ : (bound a k : ℕ) (xs ys : List Field) → fields_changed bound a k xs ≡ Some ys
     → Differ (list_tokens field_tokens xs) (list_tokens field_tokens ys) (xs ≡ ys)
@@ -149,8 +145,8 @@ primitives_differ p q =
 pub defined_differs : (a k : ℕ) (t y : DefValType) → defined_changed a k t ≡ Some y → Differ (defined_tokens t) (defined_tokens y) (t ≡ y)
 defined_differs a k (primitive_type p) y e =
     ⊎_elim (λ e1. let is : primitive_type prim.String ≡ y = cc in rw (sym is) (primitives_differ p prim.String))
-      (λ e2. let is : primitive_type prim.U32 ≡ y = only_is (a == 1) (primitive_type prim.U32) y e2 in rw (sym is) (primitives_differ p prim.U32))
-      (if_cases (a == 0) (Some (primitive_type prim.String)) (if a == 1 then Some (primitive_type prim.U32) else None) y e)
+    (λ e2. let is : primitive_type prim.U32 ≡ y = only_is (a == 1) (primitive_type prim.U32) y e2 in rw (sym is) (primitives_differ p prim.U32))
+    (if_cases (a == 0) (Some (primitive_type prim.String)) (if a == 1 then Some (primitive_type prim.U32) else None) y e)
 defined_differs a k (record_type fs) y e =
     let m = map_cases record_type (fields_changed most_members a k fs) y e in
     rw (sym m.2) (behind (code 0x72 ∷ []) (so (λ s. ap record_type s) (fields_differ most_members a k fs m.0 m.1)))

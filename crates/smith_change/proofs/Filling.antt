@@ -1,5 +1,5 @@
 -- Members filled up, one by one.
-use Rattle.std.proofs.Common.{◌≡◌, ℕ, suc, ◌+◌, ◌-◌, ◌<◌, Option, Some, None, ap, sym, refl, ◌∙◌, arith, append_assoc, List, [], ◌∷◌, ◌++◌, map}
+use Rattle.std.proofs.Common.{◌≡◌, ℕ, suc, ◌+◌, ◌-◌, ◌<◌, Some, None, ap, sym, refl, ◌∙◌, arith, append_assoc, List, [], ◌∷◌, ◌++◌, map}
 use Rattle.std.proofs.lemmas.List.{map-append}
 use Rattle.smith_format.specs.Piece.{Piece, ◌⊕◌}
 use Rattle.smith_change.specs.Rows.{new_members}

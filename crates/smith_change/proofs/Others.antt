@@ -1,8 +1,11 @@
 -- What a change leads to is another component.
 use Rattle.std.proofs.Common.{◌≡◌, ℕ, ◌/◌, ◌%◌, Bool, true, false, Option, Some, None, ap, sym, refl, ◌∙◌, rules, ◌⊎◌, inl, inr, append_assoc}
+use Rattle.std.proofs.Common.{List}
 use Rattle.std.specs.Prelude.{if◌then◌else◌}
 use Rattle.smith_format.specs.Piece.{Piece}
-use Rattle.smith_tree.specs.Grammar.{component_text}
+use Rattle.smith_tree.specs.Grammar.{Spells, component_text}
+use Rattle.smith_tree.specs.TooLong.{TreeTooLong}
+use Rattle.smith_tree.proofs.TooLong.{component_none}
 use Rattle.smith_tree.specs.Tree.{Tree}
 use Rattle.smith_change.specs.Changes.{changed, if_other, same_piece}
 use Rattle.smith_change.specs.Differs.{DiffersInOneList, DiffersInOneToken, entries_tokens}
@@ -41,11 +44,32 @@ one_or_list k t r e = go (component_differs (k % 16) (k / 16) t r (place_changed
   where
     go : Differ (tokens t) (tokens r) (t ≡ r) → DiffersInOneToken t r ⊎ DiffersInOneList t r
     go (inl d) = inl (record {
-      before = d.before; old = d.old; new = d.new; after = d.after; was = d.of_old; is = d.of_new; differs = λ s. leads_to_other k t r e (d.same s);
+      before = d.before;
+      old = d.old;
+      new = d.new;
+      after = d.after;
+      was = d.of_old;
+      is = d.of_new;
+      differs = λ s. leads_to_other k t r e (d.same s);
     })
     go (inr d) = inr (record {
-      before = d.before; old = d.old; new = d.new; after = d.after;
+      before = d.before;
+      old = d.old;
+      new = d.new;
+      after = d.after;
       was = d.of_old ∙ sym (append_assoc d.before (entries_tokens d.old) d.after);
       is = d.of_new ∙ sym (append_assoc d.before (entries_tokens d.new) d.after);
-      edited = d.edited; differs = leads_to_other k t r e;
+      edited = d.edited;
+      differs = leads_to_other k t r e;
     })
+
+-- A component has an encoding, or is too long for one.
+pub spelled_or_long : (r : Tree) → ((c : List ℕ) × Spells r c) ⊎ TreeTooLong r
+spelled_or_long r = go (component_text r) refl
+  where
+    go : (p : Piece) → component_text r ≡ p → ((c : List ℕ) × Spells r c) ⊎ TreeTooLong r
+    go None e = inr ((component_none r).0 e)
+    go (Some c) e = inl (c, e)
+
+pub spelled_or_too_long : (k : ℕ) (t r : Tree) (b : List ℕ) → changed k t ≡ Some r → Spells t b → ((c : List ℕ) × Spells r c) ⊎ TreeTooLong r
+spelled_or_too_long k t r b e spells = spelled_or_long r

@@ -1,5 +1,5 @@
 -- What is found of a type of functions.
-use Rattle.std.proofs.Common.{◌≡◌, ℕ, ◌+◌, List, Option, refl, sym, ◌∙◌}
+use Rattle.std.proofs.Common.{◌≡◌, ℕ, List, Option, refl, sym, ◌∙◌}
 use Rattle.std.specs.Option.{IsSome, option_map, option_zip}
 use Rattle.smith_syntax.specs.Entries.{Field, Signature}
 use Rattle.smith_syntax.specs.declared.types.ComponentValType.{ComponentValType}

@@ -1,5 +1,5 @@
 -- The alternatives of one token, by their numbers. What they are depends on the token alone. Of numbers that are not listed here there is no alternative.
-use Rattle.std.specs.Prelude.{ℕ, ◌+◌, ◌-◌, Bool, false, not, List, [], ◌++◌, Option, Some, None, codes, nat_lt, ◌==◌, if◌then◌else◌}
+use Rattle.std.specs.Prelude.{ℕ, ◌+◌, ◌-◌, false, not, List, [], ◌++◌, Option, Some, None, codes, nat_lt, ◌==◌, if◌then◌else◌}
 use Rattle.std.specs.Option.{option_map}
 use Rattle.smith_format.specs.declared.types.MemoryType.{MemoryType}
 use Rattle.smith_format.specs.declared.types.RefType.{RefType}

@@ -1,13 +1,10 @@
 -- Core types, one place of which is changed (core specification, Binary Format, Types; Binary.md, core:type).
-use Rattle.std.specs.Prelude.{ℕ, ◌+◌, not, List, [], ◌∷◌, ◌++◌, Bool, false, Option, Some, None, if◌then◌else◌}
+use Rattle.std.specs.Prelude.{ℕ, ◌+◌, not, List, [], ◌∷◌, ◌++◌, Option, Some, None, if◌then◌else◌}
 use Rattle.std.specs.Option.{option_map}
 use Rattle.smith_format.specs.CoreTypes.{Function}
 use Rattle.smith_format.specs.declared.types.EntityType.{EntityType}
 use Rattle.smith_format.specs.declared.types.EntityType.TheVariants.{Func, Table, Memory, Global, Tag}
-use Rattle.smith_format.specs.declared.types.GlobalType.{GlobalType}
 use Rattle.smith_format.specs.declared.types.MemoryType.{MemoryType}
-use Rattle.smith_format.specs.declared.types.TableType.{TableType}
-use Rattle.smith_format.specs.declared.types.TagType.{TagType}
 use Rattle.smith_format.specs.declared.types.ValType.{ValType}
 use Rattle.smith_format.specs.declared.types.ValType.TheVariants.{I32}
 use Rattle.smith_syntax.specs.Entries.{CoreEntry, ModuleDecl, aliases, core_func, core_module, declares, exports, imports}

@@ -1,5 +1,5 @@
 -- Components that differ in one token, or by one edit of one list.
-use Rattle.std.specs.Prelude.{◌≡◌, ◌≢◌, ℕ, List, [], ◌∷◌, ◌++◌}
+use Rattle.std.specs.Prelude.{◌≡◌, ◌≢◌, List, [], ◌∷◌, ◌++◌}
 use Rattle.smith_tree.specs.Tree.{Tree}
 use Rattle.smith_change.specs.Tokens.{Token, list_tokens, tokens}
 

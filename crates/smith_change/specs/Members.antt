@@ -1,5 +1,5 @@
 -- Types of values and of functions, one place of which is changed (Binary.md, defvaltype, functype).
-use Rattle.std.specs.Prelude.{ℕ, zero, ◌+◌, List, Option, Some, None}
+use Rattle.std.specs.Prelude.{ℕ, ◌+◌, List, Option, Some, None}
 use Rattle.std.specs.Option.{option_map}
 use Rattle.smith_syntax.specs.Entries.{Case, DefValType, Field, Signature}
 use Rattle.smith_syntax.specs.Entries.{primitive_type, record_type, variant_type, list_type, tuple_type, flags_type, enum_type, option_type, result_type}

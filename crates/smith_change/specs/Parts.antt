@@ -1,6 +1,6 @@
 -- The sections of components, one place of which is changed (Binary.md, component definitions). Custom sections have no places inside, and a core
 -- module has some only if it has the two sections that are generated, and no others.
-use Rattle.std.specs.Prelude.{ℕ, ◌+◌, List, [], ◌∷◌, Option, Some, None}
+use Rattle.std.specs.Prelude.{ℕ, ◌+◌, List, ◌∷◌, Option, Some, None}
 use Rattle.std.specs.Option.{option_map}
 use Rattle.smith_format.specs.CoreTypes.{Function}
 use Rattle.smith_format.specs.declared.types.MemoryType.{MemoryType}

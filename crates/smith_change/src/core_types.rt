@@ -65,7 +65,8 @@ fn one_more_result(change: Change, results: &[ValType]) -> Changed<Vec<ValType>>
 }
 
 fn change_results(change: Change, search: &mut Search, results: &[ValType]) -> Changed<Vec<ValType>>
-    ensures results { IfOk result (λ r. option_map (λ v. v.items) r ≡ sought (core.results_places results.now) search.old
+    ensures results { IfOk result (λ r. option_map (λ v. v.items) r
+        ≡ sought (core.results_places results.now) search.old
         (λ k. core.results_changed change.alternative k results.now) results.now) }
     ensures moved { IfOk result (λ r. IsSome r → search.new ≡ past (core.results_places results.now) search.old) }
 {
@@ -102,7 +103,8 @@ pub(crate) fn copy_function(alloc: Global, ty: &FuncType) -> Result<FuncType, Al
 }
 
 fn change_func(change: Change, search: &mut Search, index: u32) -> Option<EntityType>
-    ensures ty { result ≡ sought (core.entity_places (EntityType.Func index)) search.old (λ k. core.entity_changed change.alternative k (EntityType.Func index)) (EntityType.Func index) }
+    ensures ty { let entity = EntityType.Func index in result
+        ≡ sought (core.entity_places entity) search.old (λ k. core.entity_changed change.alternative k entity) entity }
     ensures moved { IsSome result → search.new ≡ past (core.entity_places (EntityType.Func index)) search.old }
 {
     if search.step() {
@@ -139,7 +141,8 @@ fn table_of(ty: MemoryType) -> TableType
 }
 
 fn change_table(change: Change, search: &mut Search, ty: TableType) -> Option<EntityType>
-    ensures ty { result ≡ sought (core.entity_places (EntityType.Table ty)) search.old (λ k. core.entity_changed change.alternative k (EntityType.Table ty)) (EntityType.Table ty) }
+    ensures ty { let entity = EntityType.Table ty in result
+        ≡ sought (core.entity_places entity) search.old (λ k. core.entity_changed change.alternative k entity) entity }
     ensures moved { IsSome result → search.new ≡ past (core.entity_places (EntityType.Table ty)) search.old }
 {
     if search.step() {
@@ -163,7 +166,8 @@ fn unshared(alternative: usize, ty: MemoryType) -> Option<EntityType>
 }
 
 fn change_memory(change: Change, search: &mut Search, ty: MemoryType) -> Option<EntityType>
-    ensures ty { result ≡ sought (core.entity_places (EntityType.Memory ty)) search.old (λ k. core.entity_changed change.alternative k (EntityType.Memory ty)) (EntityType.Memory ty) }
+    ensures ty { let entity = EntityType.Memory ty in result
+        ≡ sought (core.entity_places entity) search.old (λ k. core.entity_changed change.alternative k entity) entity }
     ensures moved { IsSome result → search.new ≡ past (core.entity_places (EntityType.Memory ty)) search.old }
 {
     if search.step() {
@@ -174,7 +178,8 @@ fn change_memory(change: Change, search: &mut Search, ty: MemoryType) -> Option<
 }
 
 fn change_global(change: Change, search: &mut Search, ty: GlobalType) -> Option<EntityType>
-    ensures ty { result ≡ sought (core.entity_places (EntityType.Global ty)) search.old (λ k. core.entity_changed change.alternative k (EntityType.Global ty)) (EntityType.Global ty) }
+    ensures ty { let entity = EntityType.Global ty in result
+        ≡ sought (core.entity_places entity) search.old (λ k. core.entity_changed change.alternative k entity) entity }
     ensures moved { IsSome result → search.new ≡ past (core.entity_places (EntityType.Global ty)) search.old }
 {
     if search.step() {
@@ -190,7 +195,8 @@ fn change_global(change: Change, search: &mut Search, ty: GlobalType) -> Option<
 }
 
 fn change_tag(change: Change, search: &mut Search, ty: TagType) -> Option<EntityType>
-    ensures ty { result ≡ sought (core.entity_places (EntityType.Tag ty)) search.old (λ k. core.entity_changed change.alternative k (EntityType.Tag ty)) (EntityType.Tag ty) }
+    ensures ty { let entity = EntityType.Tag ty in result
+        ≡ sought (core.entity_places entity) search.old (λ k. core.entity_changed change.alternative k entity) entity }
     ensures moved { IsSome result → search.new ≡ past (core.entity_places (EntityType.Tag ty)) search.old }
 {
     let index = ty.func_type_idx;
@@ -270,11 +276,15 @@ impl Entry for ModuleNode {
     fn renamed(&self, alloc: Global) -> Changed<ModuleNode> {
         match self {
             ModuleNode::Func(_) | ModuleNode::OuterAlias { .. } => Ok(None),
-            ModuleNode::Import { module, entity, .. } => Ok(Some(ModuleNode::Import {
-                module: named(alloc, module.as_str())?,
-                name: again_name(alloc)?,
-                entity: *entity,
-            })),
+            ModuleNode::Import { module, entity, .. } => {
+                let first = named(alloc, module.as_str())?;
+                let second = again_name(alloc)?;
+                Ok(Some(ModuleNode::Import {
+                    module: first,
+                    name: second,
+                    entity: *entity,
+                }))
+            }
             ModuleNode::Export { entity, .. } => Ok(Some(ModuleNode::Export {
                 name: again_name(alloc)?,
                 entity: *entity,

@@ -63,7 +63,8 @@ pub(crate) fn change_members<T: Row>(
 ) -> Changed<Vec<T>>
     requires { bound ≤ 100 }
     ensures entries { let all = map T.shown items.now in (new : ℕ → T.Shown) → rows.AreNew T.fresh new
-        → IfOk result (λ r. option_map (λ v. map T.shown v.items) r ≡ sought (members.members_places T.places all) search.old
+        → IfOk result (λ r. option_map (λ v. map T.shown v.items) r
+        ≡ sought (members.members_places T.places all) search.old
         (λ k. members.members_changed T.places T.changes T.again new bound change.alternative k all) all) }
     ensures moved { IfOk result (λ r. IsSome r
         → search.new ≡ past (members.members_places T.places (map T.shown items.now)) search.old) }
@@ -75,7 +76,8 @@ pub(crate) fn change_members<T: Row>(
 }
 
 fn change_list(change: Change, search: &mut Search, ty: &ListType) -> Option<DefinedType>
-    ensures ty { let shown = list_type ty.now.elem_ty in option_map shown_defined result ≡ sought (members.defined_places shown) search.old
+    ensures ty { let shown = list_type ty.now.elem_ty in option_map shown_defined result
+        ≡ sought (members.defined_places shown) search.old
         (λ k. members.defined_changed change.alternative k shown) shown }
     ensures moved { IsSome result → search.new ≡ past (members.defined_places (list_type ty.now.elem_ty)) search.old }
 {
@@ -91,9 +93,11 @@ fn change_list(change: Change, search: &mut Search, ty: &ListType) -> Option<Def
 }
 
 fn change_option(change: Change, search: &mut Search, ty: &OptionType) -> Option<DefinedType>
-    ensures ty { let shown = option_type ty.now.inner_ty in option_map shown_defined result ≡ sought (members.defined_places shown) search.old
+    ensures ty { let shown = option_type ty.now.inner_ty in option_map shown_defined result
+        ≡ sought (members.defined_places shown) search.old
         (λ k. members.defined_changed change.alternative k shown) shown }
-    ensures moved { IsSome result → search.new ≡ past (members.defined_places (option_type ty.now.inner_ty)) search.old }
+    ensures moved { IsSome result
+        → search.new ≡ past (members.defined_places (option_type ty.now.inner_ty)) search.old }
 {
     if search.step() {
         let elem_ty = ty.inner_ty;
@@ -134,9 +138,11 @@ fn enum_of(variants: Vec<String>) -> DefinedType
 }
 
 fn change_flags(change: Change, search: &mut Search, labels: &[String]) -> Changed<DefinedType>
-    ensures ty { let shown = flags_type (map string_bytes labels.now) in IfOk result (λ r. option_map shown_defined r ≡ sought (members.defined_places shown) search.old
+    ensures ty { let shown = flags_type (map string_bytes labels.now) in IfOk result (λ r. option_map shown_defined r
+        ≡ sought (members.defined_places shown) search.old
         (λ k. members.defined_changed change.alternative k shown) shown) }
-    ensures moved { IfOk result (λ r. IsSome r → search.new ≡ past (members.defined_places (flags_type (map string_bytes labels.now))) search.old) }
+    ensures moved { IfOk result (λ r. IsSome r
+        → search.new ≡ past (members.defined_places (flags_type (map string_bytes labels.now))) search.old) }
 {
     if search.step() {
         let labels = copied_all(change.alloc, labels)?;
@@ -146,9 +152,11 @@ fn change_flags(change: Change, search: &mut Search, labels: &[String]) -> Chang
 }
 
 fn change_enum(change: Change, search: &mut Search, labels: &[String]) -> Changed<DefinedType>
-    ensures ty { let shown = enum_type (map string_bytes labels.now) in IfOk result (λ r. option_map shown_defined r ≡ sought (members.defined_places shown) search.old
+    ensures ty { let shown = enum_type (map string_bytes labels.now) in IfOk result (λ r. option_map shown_defined r
+        ≡ sought (members.defined_places shown) search.old
         (λ k. members.defined_changed change.alternative k shown) shown) }
-    ensures moved { IfOk result (λ r. IsSome r → search.new ≡ past (members.defined_places (enum_type (map string_bytes labels.now))) search.old) }
+    ensures moved { IfOk result (λ r. IsSome r
+        → search.new ≡ past (members.defined_places (enum_type (map string_bytes labels.now))) search.old) }
 {
     if search.step() {
         let labels = copied_all(change.alloc, labels)?;
@@ -158,9 +166,11 @@ fn change_enum(change: Change, search: &mut Search, labels: &[String]) -> Change
 }
 
 fn change_result(change: Change, search: &mut Search, ty: &ResultType) -> Option<DefinedType>
-    ensures ty { let shown = result_type ty.now.ok_ty ty.now.err_ty in option_map shown_defined result ≡ sought (members.defined_places shown) search.old
+    ensures ty { let shown = result_type ty.now.ok_ty ty.now.err_ty in option_map shown_defined result
+        ≡ sought (members.defined_places shown) search.old
         (λ k. members.defined_changed change.alternative k shown) shown }
-    ensures moved { IsSome result → search.new ≡ past (members.defined_places (result_type ty.now.ok_ty ty.now.err_ty)) search.old }
+    ensures moved { IsSome result
+        → search.new ≡ past (members.defined_places (result_type ty.now.ok_ty ty.now.err_ty)) search.old }
 {
     let ok_ty = change_optional(change, search, ty.ok_ty);
     let err_ty = change_optional(change, search, ty.err_ty);

@@ -38,9 +38,11 @@ pub(crate) trait Entry: Drop {
 pub(crate) trait Row: Entry {
     /// A copy, with the place that is sought changed.
     fn changed(&self, change: Change, search: &mut Search) -> Changed<Self>
-        ensures entry { IfOk result (λ r. option_map Self.shown r ≡ sought (Self.places (Self.shown self.now)) search.old
+        ensures entry { IfOk result (λ r. option_map Self.shown r
+            ≡ sought (Self.places (Self.shown self.now)) search.old
             (λ k. Self.changes change.alternative k (Self.shown self.now)) (Self.shown self.now)) }
-        ensures moved { IfOk result (λ r. IsSome r → search.new ≡ past (Self.places (Self.shown self.now)) search.old) };
+        ensures moved { IfOk result (λ r. IsSome r
+            → search.new ≡ past (Self.places (Self.shown self.now)) search.old) };
 }
 
 /// A name in memory of its own.
@@ -96,7 +98,8 @@ fn exchanged_after<T: Entry>(alloc: Global, done: Vec<T>, entries: &[T]) -> Chan
 // These, and then the first entry, one like it with another name, and the rest.
 fn followed_after<T: Entry>(alloc: Global, done: Vec<T>, entries: &[T]) -> Changed<Vec<T>>
     ensures { IfOk result (λ r. option_map (λ v. map T.shown v.items) r
-        ≡ option_map (λ ys. map T.shown done.items ++ ys) (rows.entry_alternative T.again 3 (map T.shown entries.now))) }
+        ≡ option_map (λ ys. map T.shown done.items ++ ys)
+        (rows.entry_alternative T.again 3 (map T.shown entries.now))) }
 {
     if entries.is_empty() {
         return Ok(None);
@@ -113,7 +116,8 @@ fn followed_after<T: Entry>(alloc: Global, done: Vec<T>, entries: &[T]) -> Chang
 /// These, and then the entries with the first of them left out, doubled, exchanged with the next, or doubled with
 /// another name.
 pub(crate) fn change_entry<T: Entry>(change: Change, done: Vec<T>, entries: &[T]) -> Changed<Vec<T>>
-    ensures { IfOk result (λ r. option_map (λ v. map T.shown v.items) r ≡ option_map (λ ys. map T.shown done.items ++ ys)
+    ensures { IfOk result (λ r. option_map (λ v. map T.shown v.items) r
+        ≡ option_map (λ ys. map T.shown done.items ++ ys)
         (rows.entry_alternative T.again change.alternative (map T.shown entries.now))) }
 {
     if entries.is_empty() {

@@ -1,6 +1,6 @@
 //! Types, and what types of components and instances declare.
 
-ghost use Rattle.std.specs.Prelude.{◌≡◌, ◌==◌, Bool, true, Option, Some, None, length, map, IfOk, IsSome, option_map, refl};
+ghost use Rattle.std.specs.Prelude.{◌≡◌, ◌==◌, true, None, length, map, IfOk, IsSome, option_map};
 ghost use Rattle.smith_syntax.specs.Entries.{Decl, Entry, component_type, core_type_alias, export_decl, import_decl};
 ghost use Rattle.smith_syntax.specs.Entries.{in_order, instance_type, type_alias};
 ghost use Rattle.smith_syntax.specs.WellFormed.{decl_imports};
@@ -259,8 +259,10 @@ fn change_declaration(
     node: &DeclNode,
 ) -> Changed<DeclNode>
     ensures declaration { let decl = shown_decl_node node.now in IfOk result (λ r. option_map shown_decl_node r
-        ≡ sought (types.decl_places decl) search.old (λ k. types.decl_changed (may_import owner) change.alternative k decl) decl) }
-    ensures moved { IfOk result (λ r. IsSome r → search.new ≡ past (types.decl_places (shown_decl_node node.now)) search.old) }
+        ≡ sought (types.decl_places decl) search.old
+        (λ k. types.decl_changed (may_import owner) change.alternative k decl) decl) }
+    ensures moved { IfOk result (λ r. IsSome r
+        → search.new ≡ past (types.decl_places (shown_decl_node node.now)) search.old) }
 {
     match node {
         DeclNode::Core(ty) => Ok(ty.changed(change, search)?.map(DeclNode::Core)),

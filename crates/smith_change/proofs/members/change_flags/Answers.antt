@@ -2,7 +2,7 @@ use Rattle.std.proofs.Common.{map, refl, sym, string_bytes, ◌∙◌}
 use Rattle.smith_syntax.specs.Entries.{enum_type, flags_type}
 use Rattle.smith_syntax.specs.Shown.{shown_defined}
 use Rattle.smith_change.specs.Alternatives.{only}
-use Rattle.smith_change.specs.Members.{labels_changed, labels_places, most_flags, most_members}
+use Rattle.smith_change.specs.Members.{labels_changed, labels_places, most_flags}
 use Rattle.smith_change.specs.Rows.{new_name}
 use Rattle.smith_change.proofs.Seeking.{found_later}
 use Rattle.smith_change.proofs.members.change_flags.Goals as goal

@@ -1,6 +1,6 @@
-use Rattle.std.proofs.Common.{Option, Some, None, ap, sym, ◌∙◌, ◌≡◌, refl, subst}
-use Rattle.std.specs.Option.{IsSome, option_map, option_zip}
-use Rattle.smith_syntax.specs.Entries.{DefValType, result_type}
+use Rattle.std.proofs.Common.{ap, sym, ◌∙◌, refl, subst}
+use Rattle.std.specs.Option.{IsSome, option_map}
+use Rattle.smith_syntax.specs.Entries.{result_type}
 use Rattle.smith_change.specs.Members.{optional_changed, optional_places}
 use Rattle.smith_change.proofs.RowsOf.{same_option}
 use Rattle.smith_change.proofs.Seeking.{found_both, moved_both}

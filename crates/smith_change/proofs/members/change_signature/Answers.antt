@@ -1,4 +1,4 @@
-use Rattle.std.proofs.Common.{◌≡◌, Option, ap, map, refl, rules, subst, sym, ◌∙◌}
+use Rattle.std.proofs.Common.{◌≡◌, ap, map, refl, rules, subst, sym, ◌∙◌}
 use Rattle.std.specs.Option.{IsSome, option_map}
 use Rattle.smith_syntax.specs.Signature.{named}
 use Rattle.smith_change.specs.Members.{fields_changed, fields_places, most_params, new_field, optional_changed, optional_places}

@@ -11,5 +11,6 @@ invariant-loop-index g l =
     let all = map g.T.Entry.shown l.entries in
     record {
       entries : after_these row (map g.T.Entry.shown l.done.items) l.search (map g.T.Entry.shown (drop l.index l.entries)) ≡ seek row l.initial.search all;
-      moved : past (row_places g.T.Entry.places (map g.T.Entry.shown (drop l.index l.entries))) l.search ≡ past (row_places g.T.Entry.places all) l.initial.search;
+      moved : past (row_places g.T.Entry.places (map g.T.Entry.shown (drop l.index l.entries))) l.search
+          ≡ past (row_places g.T.Entry.places all) l.initial.search;
     }

@@ -11,5 +11,6 @@ use Rattle.smith_change.proofs.steps.change_place.Goals as goal
 pub returns-in-Ahead : goal.returns-in-Ahead
 returns-in-Ahead c =
     let moved = (c.in_ok-parts.ensures {u = tt}).moved (subst IsSome (sym c.in-Some.is) refl) in
-    let on = subst (λ ps. c.change_parts.new.search ≡ past (places (tree_of (map shown_part_node ps))) (Ahead (c.args.number / 16))) c.deref.ensures.value moved in
+    let on = subst (λ ps. c.change_parts.new.search ≡ past (places (tree_of (map shown_part_node ps))) (Ahead (c.args.number / 16)))
+    c.deref.ensures.value moved in
     never_reached (c.args.number % 16) (c.args.number / 16) c.in-Ahead.field-0 (shown_tree c.args.tree.now) c.change_parts.new.search on c.in-Ahead.is

@@ -2,7 +2,7 @@ use Rattle.std.proofs.Common.{ap, map, refl, subst, sym, ◌∙◌}
 use Rattle.std.specs.Option.{IsSome, option_map}
 use Rattle.smith_read.specs.TypeNodes.{shown_decl_node}
 use Rattle.smith_change.specs.Owners.{may_import}
-use Rattle.smith_change.proofs.InRow.{moved_step, seek, seek_end, seek_here, seek_step}
+use Rattle.smith_change.proofs.InRow.{moved_step, seek_end, seek_here, seek_step}
 use Rattle.smith_change.proofs.RowsOf.{decl_row}
 use Rattle.smith_change.proofs.Seeking.{ok_then}
 use Rattle.smith_change.proofs.types.+changing.Goals as goal

@@ -1,4 +1,4 @@
-use Rattle.std.proofs.Common.{◌≡◌, Option, ap, refl, subst, sym, string_bytes, ◌∙◌}
+use Rattle.std.proofs.Common.{◌≡◌, ap, refl, subst, sym, string_bytes, ◌∙◌}
 use Rattle.std.specs.Option.{option_map}
 use Rattle.smith_syntax.specs.Signature.{named}
 use Rattle.smith_change.specs.Alternatives.{name_alternative, value_alternative}
