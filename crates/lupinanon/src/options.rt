@@ -22,6 +22,8 @@ pub enum Task<'a> {
     Script(Options<'a>),
     /// Write a component that is smaller than the one in a file.
     Smaller(Options<'a>, Choice),
+    /// Write the component in a file with one token or one list changed.
+    Change(Change<'a>),
     /// Write inputs into a folder.
     Corpus {
         folder: &'a str,
@@ -65,6 +67,25 @@ pub enum Choice {
     Numbered(usize),
     /// The first one that is wanted from this step on. The number of its step is printed.
     From(usize),
+}
+
+/// A change of the component in a file. A file that is absent is standard input or output.
+#[derive(Clone, Copy)]
+pub struct Change<'a> {
+    pub input: Option<&'a str>,
+    pub output: Option<&'a str>,
+    pub which: Which,
+}
+
+/// Which change is made. Changes are counted from 0.
+#[derive(Clone, Copy)]
+pub enum Which {
+    /// The one with this number.
+    Numbered(usize),
+    /// The first one from this number on that leads to something.
+    From(usize),
+    /// None: those that lead to something are listed.
+    All,
 }
 
 /// Random inputs.
@@ -136,6 +157,24 @@ fn choice_of(matches: &ArgMatches<'_>) -> Choice {
     }
 }
 
+fn which_of(matches: &ArgMatches<'_>) -> Which {
+    if matches.get_flag("list") {
+        return Which::All;
+    }
+    match choice_of(matches) {
+        Choice::Numbered(number) => Which::Numbered(number),
+        Choice::From(number) => Which::From(number),
+    }
+}
+
+fn change_of<'a>(matches: &ArgMatches<'a>) -> Change<'a> {
+    Change {
+        input: file(matches, "input"),
+        output: file(matches, "output"),
+        which: which_of(matches),
+    }
+}
+
 fn origin_of<'a>(matches: &ArgMatches<'a>) -> Origin<'a> {
     match matches.get_str("from") {
         Some(folder) => Origin::Folder(folder),
@@ -161,6 +200,7 @@ pub fn task_of<'a, S: AsStr>(alloc: Global, words: &'a [S]) -> Result<Task<'a>, 
         "show" => Task::Show(file(found, "input")),
         "script" => Task::Script(options_of(alloc, found)?),
         "smaller" => Task::Smaller(options_of(alloc, found)?, choice_of(found)),
+        "change" => Task::Change(change_of(found)),
         "corpus" => Task::Corpus {
             folder: found.get_str("output").unwrap_or("."),
             origin: origin_of(found),
