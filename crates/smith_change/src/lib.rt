@@ -8,6 +8,7 @@ mod error;
 mod externs;
 pub mod laws;
 mod members;
+mod miswritten;
 mod modules;
 mod parts;
 mod places;
@@ -21,6 +22,7 @@ mod values;
 mod wording;
 
 pub use error::ChangeError;
+pub use miswritten::{Misstep, Miswriting, miswritten_count, next_miswritten};
 pub use places::{Place, places};
 pub use smith_read::Reason;
 pub use steps::{ALTERNATIVES, Step, change_count, changed, changed_bytes, changes, next_changed};
