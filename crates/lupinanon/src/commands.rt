@@ -234,8 +234,13 @@ fn corpus_command<'a>(alloc: Global) -> Result<Command<'a>, AllocError> {
         .conflicts_with("seed")?
         .conflicts_with("swarm")?
         .conflicts_with("components")?;
+    let broken = "Write near misses *.wasm of the components of the inputs, which then validate, and what each is *.json";
+    let broken = switch(alloc, "broken", broken)
+        .conflicts_with("from")?
+        .conflicts_with("components")?;
     let files = with_draw(alloc, plain(alloc, "corpus", about, AFTER_CORPUS))?
         .arg(from)?
+        .arg(broken)?
         .arg(output(alloc, to).required(true))?;
     with_limits(alloc, files)
 }

@@ -1,6 +1,7 @@
 //! Turns a fuzzer's bytes into a WebAssembly component, from a file to a file, and back; shows the components in files.
 #![tactic(auto)]
 
+mod breaking;
 mod changing;
 mod commands;
 mod corpus;

@@ -105,6 +105,8 @@ pub struct Draw {
 #[derive(Clone, Copy)]
 pub enum Origin<'a> {
     Random(Draw),
+    /// They are near misses of the components of these inputs.
+    Broken(Draw),
     /// They are the scripts of the components in this folder.
     Folder(&'a str),
 }
@@ -175,17 +177,24 @@ fn change_of<'a>(matches: &ArgMatches<'a>) -> Change<'a> {
     }
 }
 
-fn origin_of<'a>(matches: &ArgMatches<'a>) -> Origin<'a> {
-    match matches.get_str("from") {
-        Some(folder) => Origin::Folder(folder),
-        None => Origin::Random(Draw {
-            count: matches.get_one::<usize>("count").unwrap_or(0),
-            len: matches.get_one::<usize>("bytes").unwrap_or(1024),
-            seed: matches.get_one::<u64>("seed").unwrap_or(0),
-            is_swarm: matches.get_flag("swarm"),
-            with_components: matches.get_flag("components"),
-        }),
+fn draw_of(matches: &ArgMatches<'_>) -> Draw {
+    Draw {
+        count: matches.get_one::<usize>("count").unwrap_or(0),
+        len: matches.get_one::<usize>("bytes").unwrap_or(1024),
+        seed: matches.get_one::<u64>("seed").unwrap_or(0),
+        is_swarm: matches.get_flag("swarm"),
+        with_components: matches.get_flag("components"),
     }
+}
+
+fn origin_of<'a>(matches: &ArgMatches<'a>) -> Origin<'a> {
+    if let Some(folder) = matches.get_str("from") {
+        return Origin::Folder(folder);
+    }
+    if matches.get_flag("broken") {
+        return Origin::Broken(draw_of(matches));
+    }
+    Origin::Random(draw_of(matches))
 }
 
 /// What the words ask for. The first is the program's name.
