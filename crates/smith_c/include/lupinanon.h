@@ -1,6 +1,6 @@
 /* WebAssembly components from a fuzzer's bytes.
  *
- * Sixteen functions are proved: the ones that lupinanon_default_limits, lupinanon_swarm_limits, lupinanon_generate_into,
+ * Sixteen functions are proved: those that lupinanon_default_limits, lupinanon_swarm_limits, lupinanon_generate_into,
  * lupinanon_check, lupinanon_validate, lupinanon_script_into, lupinanon_smaller, lupinanon_next_smaller,
  * lupinanon_without, lupinanon_join, lupinanon_change_count, lupinanon_changed, lupinanon_next_changed and
  * lupinanon_next_miswritten call after a check of their arguments. That check, and all else, is plain C.
@@ -309,12 +309,12 @@ int32_t lupinanon_join(const uint8_t *first, size_t first_len, const uint8_t *se
 int32_t lupinanon_change_count(const uint8_t *bytes, size_t bytes_len, size_t *count);
 
 /* Writes the component of the bytes after the change of that number to the front of the output. In it one token, or one
- * list of entries, is another: an entry left out or doubled, an index that is one less or more, another name, sort or
- * type. Nothing is renumbered, so that it is mostly not valid. Sixteen changes belong to each place, in the order of the
- * bytes; not all of them lead to something.
+ * list of entries, is another: an entry is left out or doubled, an index is one less or more, a name, a sort or a type
+ * is another. Nothing is renumbered, so that it is often not valid. Sixteen changes belong to each place, in the order
+ * of the bytes; not all of them lead to something.
  *
- * LUPINANON_ANSWERED: *changed_len bytes are written. What they are to validators, lupinanon_validate says: its status is
- * written to *answer, with its *rule and *offset.
+ * LUPINANON_ANSWERED: *changed_len bytes are written. What lupinanon_validate returns of them is written to *answer,
+ * with its *rule and *offset.
  * LUPINANON_NO_ROOM: *changed_len is how long the component is, and otherwise it is 0. Nothing is written to the output.
  * LUPINANON_NO_CHANGE: the change leads to nothing.
  * LUPINANON_UNREAD: as of lupinanon_check.
@@ -329,7 +329,7 @@ int32_t lupinanon_changed(const uint8_t *bytes, size_t bytes_len, size_t number,
  * front of the output, and the number of the change to *number.
  *
  * LUPINANON_ANSWERED: *changed_len bytes are written, and *number.
- * LUPINANON_NO_ROOM: *changed_len is how long the component is, and *number is written; nothing is written to the output.
+ * LUPINANON_NO_ROOM: *changed_len is how long the component is, and *number is written; nothing else is.
  * Otherwise *changed_len is 0, and *number is as it was.
  * LUPINANON_NO_CHANGE: no change from *number on leads to something.
  * LUPINANON_UNREAD: as of lupinanon_check.
@@ -338,11 +338,11 @@ int32_t lupinanon_changed(const uint8_t *bytes, size_t bytes_len, size_t number,
 int32_t lupinanon_next_changed(const uint8_t *bytes, size_t bytes_len, size_t *number, uint8_t *output,
                                size_t output_len, size_t *changed_len);
 
-/* Finds the first candidate, from *number on, that no reader of the standard takes for a component, as
- * lupinanon_validate knows: it is LUPINANON_INVALID, or LUPINANON_OUTSIDE if it is a core module. Writes it to the front
- * of the output, and its number to *number. The candidates are, in this order: the bytes cut off after each number of
- * bytes, from 0 to bytes_len - 1; those with a section whose length is one more or one less, whose id is 13, or whose
- * count is 4,294,967,295; and those with a byte of the preamble changed. The bytes need be no component.
+/* Finds the first candidate, from *number on, that no reader of the standard takes for a component: for
+ * lupinanon_validate it is LUPINANON_INVALID, or LUPINANON_OUTSIDE if it is a core module. Writes it to the front of the
+ * output, and its number to *number. The candidates are, in this order: the bytes cut off after each number of bytes,
+ * from 0 to bytes_len - 1; those with a section whose length is one more or one less, whose id is 13, or whose count is
+ * 4,294,967,295; and those with a byte of the preamble changed. The bytes need not be a component.
  *
  * LUPINANON_ANSWERED, LUPINANON_NO_ROOM, LUPINANON_NO_CHANGE: as of lupinanon_next_changed.
  *

@@ -210,8 +210,8 @@ fn with_preamble(alloc: Global, bytes: &[u8], at: usize) -> Changed<Vec<u8>> {
     Ok(Some(replaced(alloc, bytes, at, at + 1, &[*byte ^ 1])?))
 }
 
-// The candidate of that number, and what is written wrongly in it: cut after each number of bytes, then the four of each
-// section, and then a byte of the preamble.
+// The candidate of that number, and what is written wrongly in it: cut after each number of bytes, then the four of
+// each section, and then a byte of the preamble.
 fn candidate(
     alloc: Global,
     bytes: &[u8],
@@ -257,13 +257,13 @@ pub fn miswritten_count(alloc: Global, bytes: &[u8]) -> Result<usize, AllocError
 }
 
 /// The first candidate from that number on that no reader of the standard takes for a component, whatever its grammar:
-/// it does not have the frames of one, as `framed` of `smith_verdict` says, and is not the given bytes. There is none if
-/// there is no such candidate from there on. What the given bytes are does not matter.
+/// it does not have the frames of one, as `framed` of `smith_verdict` says, and is not the given bytes. There is none
+/// if there is no such candidate from there on. The given bytes need not be a component.
 ///
 /// The candidates are, in this order: cut after each number of bytes; for each section at each depth, a length that is
-/// one more and one less, the id 13 and, if it is a list, the count 4,294,967,295; and each byte of the preamble with its
-/// lowest bit turned. The lengths around a section stay as they are. Each candidate from that number up to the one that is
-/// returned takes time in proportion to the bytes.
+/// one more and one less, the id 13 and, if it is a list, the count 4,294,967,295; and each byte of the preamble with
+/// its lowest bit turned. The lengths around a section stay as they are. Each candidate from that number up to the one
+/// that is returned takes time in proportion to the bytes.
 pub fn next_miswritten(
     alloc: Global,
     bytes: &[u8],

@@ -335,7 +335,7 @@ pub struct Changed {
 /// Returns the component after the change of that number, in which one token, or one list of entries, is another. There
 /// is none if that change leads to nothing.
 ///
-/// Nothing is renumbered, so that it is mostly not valid. Sixteen changes belong to each place, in the order of the bytes.
+/// Nothing is renumbered, so that it is often not valid. Sixteen changes belong to each place, in the order of the bytes.
 pub fn changed(bytes: &[u8], number: usize) -> Result<Option<Changed>, Unreduced> {
     let mut found = None;
     let written = written(bytes.len(), |output| {
