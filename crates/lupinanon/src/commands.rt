@@ -234,7 +234,7 @@ fn corpus_command<'a>(alloc: Global) -> Result<Command<'a>, AllocError> {
         .conflicts_with("seed")?
         .conflicts_with("swarm")?
         .conflicts_with("components")?;
-    let broken = "Write near misses of components that validate, and what each of them is";
+    let broken = "Write near misses of components that validate, and what each of them is. --bytes is 256 then";
     let broken = switch(alloc, "broken", broken)
         .conflicts_with("from")?
         .conflicts_with("components")?;

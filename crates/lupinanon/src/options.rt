@@ -177,10 +177,11 @@ fn change_of<'a>(matches: &ArgMatches<'a>) -> Change<'a> {
     }
 }
 
-fn draw_of(matches: &ArgMatches<'_>) -> Draw {
+// Random inputs, of that many bytes if no argument says how many.
+fn draw_of(matches: &ArgMatches<'_>, len: usize) -> Draw {
     Draw {
         count: matches.get_one::<usize>("count").unwrap_or(0),
-        len: matches.get_one::<usize>("bytes").unwrap_or(1024),
+        len: matches.get_one::<usize>("bytes").unwrap_or(len),
         seed: matches.get_one::<u64>("seed").unwrap_or(0),
         is_swarm: matches.get_flag("swarm"),
         with_components: matches.get_flag("components"),
@@ -192,9 +193,9 @@ fn origin_of<'a>(matches: &ArgMatches<'a>) -> Origin<'a> {
         return Origin::Folder(folder);
     }
     if matches.get_flag("broken") {
-        return Origin::Broken(draw_of(matches));
+        return Origin::Broken(draw_of(matches, 256));
     }
-    Origin::Random(draw_of(matches))
+    Origin::Random(draw_of(matches, 1024))
 }
 
 /// What the words ask for. The first is the program's name.

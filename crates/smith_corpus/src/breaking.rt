@@ -15,7 +15,7 @@ use std::alloc::{AllocError, Global};
 use std::fmt;
 
 /// How many changes of a component are looked at.
-const TRIES: u32 = 12;
+const TRIES: u32 = 24;
 
 /// Places have at most so many alternatives now.
 const MOST_ALTERNATIVES: usize = 7;
