@@ -40,7 +40,10 @@ fn put_answer<W: fmt::Write, T: fmt::Display + Drop>(
     what: T,
     offset: Option<usize>,
 ) -> fmt::Result {
-    write!(f, "\"answer\": \"{word}\", \"rule\": \"{what}\", \"offset\": ")?;
+    write!(
+        f,
+        "\"answer\": \"{word}\", \"rule\": \"{what}\", \"offset\": "
+    )?;
     match offset {
         Some(offset) => write!(f, "{offset}"),
         None => f.write_str("null"),
@@ -51,13 +54,17 @@ impl fmt::Display for Line<'_> {
     fn fmt<W: fmt::Write>(&self, f: &mut fmt::Formatter<W>) -> fmt::Result {
         f.write_str("{")?;
         match &self.found.answer {
-            Answer::Valid => f.write_str("\"answer\": \"valid\", \"rule\": null, \"offset\": null")?,
+            Answer::Valid => f.write_str(
+                "\"answer\": \"valid\", \"rule\": null, \"offset\": null",
+            )?,
             Answer::Invalid { rule, offset } => put_answer(f, "invalid", *rule, *offset)?,
             Answer::Bound { demand, offset } => put_answer(f, "bound", *demand, *offset)?,
             Answer::Outside { why, offset } => put_answer(f, "outside", *why, *offset)?,
         }
         let NearMiss {
-            difference, number, ..
+            difference,
+            number,
+            ..
         } = self.found;
         let input = self.input;
         write!(
@@ -113,7 +120,12 @@ fn next_of(
     let found = if number % MISWRITTEN == MISWRITTEN - 1 {
         miswritten(rt.alloc(), &mut source.changes, component)
     } else {
-        near_miss(rt.alloc(), &mut source.changes, &mut source.taken, component)
+        near_miss(
+            rt.alloc(),
+            &mut source.changes,
+            &mut source.taken,
+            component,
+        )
     };
     match found {
         Ok(found) => Ok(found),
@@ -151,11 +163,19 @@ fn write_found(
     found: &NearMiss,
     input: usize,
 ) -> Result<(), ExitCode> {
-    write_new(rt, &path_in(rt, folder, number, COMPONENT_ENDING)?, &found.bytes)?;
+    write_new(
+        rt,
+        &path_in(rt, folder, number, COMPONENT_ENDING)?,
+        &found.bytes,
+    )?;
     let Ok(line) = format!(in rt.alloc(); "{}", Line { found, input }) else {
         return Err(out_of_memory(rt));
     };
-    write_new(rt, &path_in(rt, folder, number, ANSWER_ENDING)?, line.as_bytes())
+    write_new(
+        rt,
+        &path_in(rt, folder, number, ANSWER_ENDING)?,
+        line.as_bytes(),
+    )
 }
 
 /// Writes near misses of components that validate, and says how many of them have each answer.

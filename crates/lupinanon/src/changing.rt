@@ -119,11 +119,7 @@ fn print_step(
 }
 
 // Prints a line for each change that leads to something.
-fn print_changes(
-    rt: &HostRuntime,
-    path: Option<&str>,
-    bytes: &[u8],
-) -> Result<ExitCode, ExitCode> {
+fn print_changes(rt: &HostRuntime, path: Option<&str>, bytes: &[u8]) -> Result<ExitCode, ExitCode> {
     let places = places_of(rt, path, bytes)?;
     let mut from: usize = 0;
     while let Some(step) = found(rt, path, next_changed(rt.alloc(), bytes, from))? {

@@ -191,7 +191,8 @@ fn change_command<'a>(alloc: Global) -> Result<Command<'a>, AllocError> {
     let about = "Write the component with one token or one list of entries changed";
     let which = "The number of the change, from 0";
     let from = "The first change from that number on that leads to something";
-    let list = "List the changes that lead to something: the number, what is changed, and what that is";
+    let list =
+        "List the changes that lead to something: the number, what is changed, and what that is";
     let which = number(alloc, "number", "K", which).short('k');
     let from = number(alloc, "from", "K", from).conflicts_with("number")?;
     let list = switch(alloc, "list", list)
@@ -234,7 +235,8 @@ fn corpus_command<'a>(alloc: Global) -> Result<Command<'a>, AllocError> {
         .conflicts_with("seed")?
         .conflicts_with("swarm")?
         .conflicts_with("components")?;
-    let broken = "Write near misses of components that validate, and what each of them is. --bytes is 256 then";
+    let broken =
+        "Write near misses of components that validate, and what each of them is. --bytes is 256 then";
     let broken = switch(alloc, "broken", broken)
         .conflicts_with("from")?
         .conflicts_with("components")?;
