@@ -7,6 +7,7 @@ pub mod Miswritten
 pub mod Modules
 pub mod Owners
 pub mod Parts
+pub mod Placing
 pub mod Refusals
 pub mod Rows
 pub mod Search

@@ -1,10 +1,21 @@
 //! The places of a component, in the order of its bytes, each by its sort.
 
-ghost use Rattle.std.specs.Prelude.{◌≡◌, vec_len, IfOk};
-ghost use Rattle.smith_read.specs.PartNodes.{shown_tree};
+ghost use Rattle.std.specs.Prelude.{◌≡◌, ◌+◌, map, string_bytes, vec_len, IfOk};
+ghost use Rattle.smith_format.specs.Shown.{shown_func};
+ghost use Rattle.smith_syntax.specs.Entries.{in_order};
+ghost use Rattle.smith_syntax.specs.Shown.{shown_defined};
+ghost use Rattle.smith_tree.specs.Tree.{tree_of};
+ghost use Rattle.smith_read.specs.PartNodes.{shown_part_node, shown_tree};
+ghost use Rattle.smith_read.specs.TypeNodes.{shown_decl_node, shown_type_node};
+ghost use Rattle.smith_change.specs.CoreTypes as core;
+ghost use Rattle.smith_change.specs.Members as members;
 ghost use Rattle.smith_change.specs.Parts as parts;
+ghost use Rattle.smith_change.specs.Placing.{Adds};
+ghost use Rattle.smith_change.specs.Rows as rows;
+ghost use Rattle.smith_change.specs.Types as types;
 
 use crate::modules::sections_of;
+use crate::rows::Entry;
 use crate::sections::{FunctionNode, MemoryNode};
 use smith_format::{EntityType, FuncType as CoreFuncType, ValType};
 use smith_read::{
@@ -50,18 +61,23 @@ pub enum Place {
 
 type Placed = Result<(), AllocError>;
 
-// What has places.
-trait Places {
+// An entry that has places inside.
+trait Places: Entry {
     // Puts those inside it.
-    fn put(&self, out: &mut Vec<Place>) -> Placed;
+    fn put(&self, out: &mut Vec<Place>) -> Placed
+        ensures { IfOk result (λ _. Adds out.old out.new (Self.places (Self.shown self.now))) };
 }
 
-fn put_place(out: &mut Vec<Place>, place: Place) -> Placed {
+fn put_place(out: &mut Vec<Place>, place: Place) -> Placed
+    ensures { IfOk result (λ _. Adds out.old out.new 1) }
+{
     out.push(place)?;
     Ok(())
 }
 
-fn put_row<T: Places>(out: &mut Vec<Place>, entries: &[T]) -> Placed {
+fn put_row<T: Places>(out: &mut Vec<Place>, entries: &[T]) -> Placed
+    ensures { IfOk result (λ _. Adds out.old out.new (rows.row_places T.places (map T.shown entries.now))) }
+{
     for entry in entries {
         put_place(out, Place::Entry)?;
         entry.put(out)?;
@@ -69,12 +85,16 @@ fn put_row<T: Places>(out: &mut Vec<Place>, entries: &[T]) -> Placed {
     Ok(())
 }
 
-fn put_members<T: Places>(out: &mut Vec<Place>, members: &[T]) -> Placed {
+fn put_members<T: Places>(out: &mut Vec<Place>, items: &[T]) -> Placed
+    ensures { IfOk result (λ _. Adds out.old out.new (members.members_places T.places (map T.shown items.now))) }
+{
     put_place(out, Place::Members)?;
-    put_row(out, members)
+    put_row(out, items)
 }
 
-fn put_optional(out: &mut Vec<Place>, ty: Option<ComponentValType>) -> Placed {
+fn put_optional(out: &mut Vec<Place>, ty: Option<ComponentValType>) -> Placed
+    ensures { IfOk result (λ _. Adds out.old out.new (members.optional_places ty)) }
+{
     put_place(out, Place::Presence)?;
     if ty.is_some() {
         put_place(out, Place::ValueType)?;
@@ -108,41 +128,49 @@ impl Places for (String, Option<ComponentValType>) {
     }
 }
 
-fn put_labels(out: &mut Vec<Place>, labels: &[String]) -> Placed {
+fn put_labels(out: &mut Vec<Place>, labels: &[String]) -> Placed
+    ensures { IfOk result (λ _. Adds out.old out.new (1 + members.labels_places (map string_bytes labels.now))) }
+{
     put_place(out, Place::Code)?;
     put_members(out, labels)
 }
 
-fn put_inner(out: &mut Vec<Place>) -> Placed {
+// Those of a list or an option.
+fn put_inner(out: &mut Vec<Place>) -> Placed
+    ensures { IfOk result (λ _. Adds out.old out.new 2) }
+{
     put_place(out, Place::Code)?;
     put_place(out, Place::ValueType)
 }
 
-fn put_result(out: &mut Vec<Place>, ty: &ResultType) -> Placed {
+fn put_result(out: &mut Vec<Place>, ty: &ResultType) -> Placed
+    ensures { IfOk result (λ _. Adds out.old out.new
+        (members.optional_places ty.now.ok_ty + members.optional_places ty.now.err_ty)) }
+{
     put_optional(out, ty.ok_ty)?;
     put_optional(out, ty.err_ty)
 }
 
-impl Places for DefinedType {
-    fn put(&self, out: &mut Vec<Place>) -> Placed {
-        match self {
-            DefinedType::Primitive(_) => put_place(out, Place::Primitive),
-            DefinedType::Record(ty) => put_members(out, &ty.fields),
-            DefinedType::Variant(ty) => put_members(out, &ty.cases),
-            DefinedType::Tuple(ty) => put_members(out, &ty.fields),
-            DefinedType::List(_) | DefinedType::Option(_) => put_inner(out),
-            DefinedType::Flags(ty) => put_labels(out, &ty.fields),
-            DefinedType::Enum(ty) => put_labels(out, &ty.variants),
-            DefinedType::Result(ty) => put_result(out, ty),
-        }
+fn put_defined(out: &mut Vec<Place>, ty: &DefinedType) -> Placed
+    ensures { IfOk result (λ _. Adds out.old out.new (members.defined_places (shown_defined ty.now))) }
+{
+    match ty {
+        DefinedType::Primitive(_) => put_place(out, Place::Primitive),
+        DefinedType::Record(ty) => put_members(out, &ty.fields),
+        DefinedType::Variant(ty) => put_members(out, &ty.cases),
+        DefinedType::Tuple(ty) => put_members(out, &ty.fields),
+        DefinedType::List(_) | DefinedType::Option(_) => put_inner(out),
+        DefinedType::Flags(ty) => put_labels(out, &ty.fields),
+        DefinedType::Enum(ty) => put_labels(out, &ty.variants),
+        DefinedType::Result(ty) => put_result(out, ty),
     }
 }
 
-impl Places for FuncType {
-    fn put(&self, out: &mut Vec<Place>) -> Placed {
-        put_members(out, &self.params)?;
-        put_optional(out, self.result)
-    }
+fn put_signature(out: &mut Vec<Place>, ty: &FuncType) -> Placed
+    ensures { IfOk result (λ _. Adds out.old out.new (members.signature_places ty.now)) }
+{
+    put_members(out, &ty.params)?;
+    put_optional(out, ty.result)
 }
 
 impl Places for ValType {
@@ -151,39 +179,41 @@ impl Places for ValType {
     }
 }
 
-impl Places for CoreFuncType {
-    fn put(&self, out: &mut Vec<Place>) -> Placed {
-        put_row(out, &self.params)?;
-        put_place(out, Place::Results)?;
-        put_row(out, &self.results)
-    }
+fn put_function(out: &mut Vec<Place>, ty: &CoreFuncType) -> Placed
+    ensures { IfOk result (λ _. Adds out.old out.new (core.function_places (shown_func ty.now))) }
+{
+    put_row(out, &ty.params)?;
+    put_place(out, Place::Results)?;
+    put_row(out, &ty.results)
 }
 
-impl Places for EntityType {
-    fn put(&self, out: &mut Vec<Place>) -> Placed {
-        match self {
-            EntityType::Func(_) | EntityType::Tag(_) => {
-                put_place(out, Place::Code)?;
-                put_place(out, Place::Index)
-            }
-            EntityType::Table(_) => {
-                put_place(out, Place::Code)?;
-                put_place(out, Place::Element)?;
-                put_place(out, Place::Limits)
-            }
-            EntityType::Memory(_) => {
-                put_place(out, Place::Code)?;
-                put_place(out, Place::Limits)
-            }
-            EntityType::Global(_) => {
-                put_place(out, Place::CoreValueType)?;
-                put_place(out, Place::Mutability)
-            }
+fn put_entity(out: &mut Vec<Place>, ty: &EntityType) -> Placed
+    ensures { IfOk result (λ _. Adds out.old out.new (core.entity_places ty.now)) }
+{
+    match ty {
+        EntityType::Func(_) | EntityType::Tag(_) => {
+            put_place(out, Place::Code)?;
+            put_place(out, Place::Index)
+        }
+        EntityType::Table(_) => {
+            put_place(out, Place::Code)?;
+            put_place(out, Place::Element)?;
+            put_place(out, Place::Limits)
+        }
+        EntityType::Memory(_) => {
+            put_place(out, Place::Code)?;
+            put_place(out, Place::Limits)
+        }
+        EntityType::Global(_) => {
+            put_place(out, Place::CoreValueType)?;
+            put_place(out, Place::Mutability)
         }
     }
 }
 
-fn put_outer(out: &mut Vec<Place>) -> Placed {
+fn put_outer(out: &mut Vec<Place>) -> Placed
+    ensures { IfOk result (λ _. Adds out.old out.new 2) }
+{
     put_place(out, Place::Count)?;
     put_place(out, Place::Index)
 }
@@ -191,9 +221,9 @@ fn put_outer(out: &mut Vec<Place>) -> Placed {
 impl Places for ModuleNode {
     fn put(&self, out: &mut Vec<Place>) -> Placed {
         match self {
-            ModuleNode::Func(ty) => ty.put(out),
+            ModuleNode::Func(ty) => put_function(out, ty),
             ModuleNode::Import { entity, .. } | ModuleNode::Export { entity, .. } => {
-                entity.put(out)
+                put_entity(out, entity)
             }
             ModuleNode::OuterAlias { .. } => put_outer(out),
         }
@@ -203,24 +233,28 @@ impl Places for ModuleNode {
 impl Places for CoreNode {
     fn put(&self, out: &mut Vec<Place>) -> Placed {
         match self {
-            CoreNode::Func(ty) => ty.put(out),
+            CoreNode::Func(ty) => put_function(out, ty),
             CoreNode::Module(nodes) => put_row(out, nodes),
         }
     }
 }
 
 // A name, and the sort and the index behind it.
-fn put_extern(out: &mut Vec<Place>) -> Placed {
+fn put_extern(out: &mut Vec<Place>) -> Placed
+    ensures { IfOk result (λ _. Adds out.old out.new 3) }
+{
     put_place(out, Place::Name)?;
     put_place(out, Place::Sort)?;
     put_place(out, Place::Index)
 }
 
 #[cycle(placing)]
-fn put_type(out: &mut Vec<Place>, node: &TypeNode) -> Placed {
+fn put_type(out: &mut Vec<Place>, node: &TypeNode) -> Placed
+    ensures { IfOk result (λ _. Adds out.old out.new (types.entry_places (shown_type_node node.now))) }
+{
     match node {
-        TypeNode::Defined(ty) => ty.put(out),
-        TypeNode::Func(ty) => ty.put(out),
+        TypeNode::Defined(ty) => put_defined(out, ty),
+        TypeNode::Func(ty) => put_signature(out, ty),
         TypeNode::Component(nodes) | TypeNode::Instance(nodes) => {
             put_place(out, Place::Code)?;
             put_declarations(out, nodes)
@@ -229,7 +263,9 @@ fn put_type(out: &mut Vec<Place>, node: &TypeNode) -> Placed {
 }
 
 #[cycle(placing)]
-fn put_declaration(out: &mut Vec<Place>, node: &DeclNode) -> Placed {
+fn put_declaration(out: &mut Vec<Place>, node: &DeclNode) -> Placed
+    ensures { IfOk result (λ _. Adds out.old out.new (types.decl_places (shown_decl_node node.now))) }
+{
     match node {
         DeclNode::Core(ty) => ty.put(out),
         DeclNode::Type(ty) => put_type(out, ty),
@@ -245,7 +281,9 @@ fn put_declaration(out: &mut Vec<Place>, node: &DeclNode) -> Placed {
 }
 
 #[cycle(placing)]
-fn put_declarations(out: &mut Vec<Place>, nodes: &[DeclNode]) -> Placed {
+fn put_declarations(out: &mut Vec<Place>, nodes: &[DeclNode]) -> Placed
+    ensures { IfOk result (λ _. Adds out.old out.new (types.decls_places (in_order (map shown_decl_node nodes.now)))) }
+{
     for node in nodes {
         put_place(out, Place::Entry)?;
         put_declaration(out, node)?;
@@ -284,7 +322,7 @@ impl Places for Export {
 
 impl Places for FunctionNode {
     fn put(&self, out: &mut Vec<Place>) -> Placed {
-        self.ty.put(out)
+        put_function(out, &self.ty)
     }
 }
 
@@ -294,7 +332,9 @@ impl Places for MemoryNode {
     }
 }
 
-fn put_module(alloc: Global, out: &mut Vec<Place>, text: &[u8]) -> Placed {
+fn put_module(alloc: Global, out: &mut Vec<Place>, text: &[u8]) -> Placed
+    ensures { IfOk result (λ _. Adds out.old out.new (parts.module_places text.now)) }
+{
     let Some(sections) = sections_of(alloc, text)? else {
         return Ok(());
     };
@@ -303,7 +343,9 @@ fn put_module(alloc: Global, out: &mut Vec<Place>, text: &[u8]) -> Placed {
 }
 
 #[cycle(placing_parts)]
-fn put_part(alloc: Global, out: &mut Vec<Place>, node: &PartNode) -> Placed {
+fn put_part(alloc: Global, out: &mut Vec<Place>, node: &PartNode) -> Placed
+    ensures { IfOk result (λ _. Adds out.old out.new (parts.part_places (shown_part_node node.now))) }
+{
     match node {
         PartNode::Custom(_) => Ok(()),
         PartNode::CoreModule(text) => put_module(alloc, out, text),
@@ -317,7 +359,9 @@ fn put_part(alloc: Global, out: &mut Vec<Place>, node: &PartNode) -> Placed {
 }
 
 #[cycle(placing_parts)]
-fn put_parts(alloc: Global, out: &mut Vec<Place>, nodes: &[PartNode]) -> Placed {
+fn put_parts(alloc: Global, out: &mut Vec<Place>, nodes: &[PartNode]) -> Placed
+    ensures { IfOk result (λ _. Adds out.old out.new (parts.places (tree_of (map shown_part_node nodes.now)))) }
+{
     for node in nodes {
         put_place(out, Place::Entry)?;
         put_part(alloc, out, node)?;
