@@ -1,6 +1,6 @@
 //! Bytes that are no component to any reader of the standard, though they are close to one.
 
-ghost use Rattle.std.specs.Prelude.{◌<◌, ◌≤◌, length, option_map, IfOk, IfSome};
+ghost use Rattle.std.specs.Prelude.{◌≡◌, ◌++◌, option_map, IfOk};
 ghost use Rattle.smith_change.specs.Miswritten.{IsMisstep};
 
 use crate::search::Changed;
@@ -64,109 +64,107 @@ pub struct Misstep {
     pub bytes: Vec<u8>,
 }
 
-// A section at any depth: where its id is, where its contents begin, and how long they are.
+// The bytes from a section on: its id, its length, and its contents with all that follows them.
 #[derive(Clone, Copy)]
-struct Section {
+struct Section<'a> {
     id: u8,
-    at: usize,
-    contents: usize,
     length: u32,
+    rest: &'a [u8],
 }
 
-impl Section {
+impl<'a> Section<'a> {
     // Is it a list? Custom sections (0), core modules (1), components (4), start functions (9) and values (12) are not.
     fn is_list(self) -> bool {
         matches!(self.id, 2 | 3 | 5 | 6 | 7 | 8 | 10 | 11)
     }
 
-    // Where the next section begins, which may be inside.
-    fn next_at(self, bytes: &[u8]) -> usize {
-        if self.id == COMPONENT_ID && bytes[self.contents..].starts_with(&COMPONENT_PREAMBLE) {
-            return self.contents + COMPONENT_PREAMBLE.len();
+    // The bytes from the next section on, which may be inside.
+    fn next(self) -> &'a [u8] {
+        if self.id == COMPONENT_ID && self.rest.starts_with(&COMPONENT_PREAMBLE) {
+            return &self.rest[COMPONENT_PREAMBLE.len()..];
         }
-        self.contents + self.length as usize
+        let length = self.rest.len().min(self.length as usize);
+        &self.rest[length..]
     }
 }
 
-// The section there, if it has a length and as many bytes.
-fn section_at(bytes: &[u8], at: usize) -> Option<Section> {
-    let id = *bytes.get(at)?;
-    let Ok((length, rest)) = count_of(&bytes[at + 1..]) else {
+// The section in front, if it has a length and as many bytes.
+fn section_of(bytes: &[u8]) -> Option<Section<'_>> {
+    if bytes.is_empty() {
+        return None;
+    }
+    let Ok((length, rest)) = count_of(&bytes[1..]) else {
         return None;
     };
     if length as usize > rest.len() {
         return None;
     }
-    Some(Section {
-        id,
-        at,
-        contents: bytes.len() - rest.len(),
-        length,
-    })
+    let id = bytes[0];
+    Some(Section { id, length, rest })
 }
 
-// The sections at each depth, in the order of the bytes.
-fn sections_of(alloc: Global, bytes: &[u8]) -> Result<Vec<Section>, AllocError> {
+// The bytes from each section on, at each depth and in order.
+fn sections_of(alloc: Global, bytes: &[u8]) -> Result<Vec<&[u8]>, AllocError> {
     let mut sections = Vec::new(alloc);
-    let mut at = COMPONENT_PREAMBLE.len();
-    while let Some(section) = section_at(bytes, at) {
-        sections.push(section)?;
-        at = section.next_at(bytes);
+    if !bytes.starts_with(&COMPONENT_PREAMBLE) {
+        return Ok(sections);
+    }
+    let mut current = &bytes[COMPONENT_PREAMBLE.len()..];
+    while let Some(section) = section_of(current) {
+        sections.push(current)?;
+        current = section.next();
     }
     Ok(sections)
 }
 
-// The bytes with others in place of those from a place on to another.
-fn replaced(
-    alloc: Global,
-    bytes: &[u8],
-    from: usize,
-    to: usize,
-    others: &[u8],
-) -> Result<Vec<u8>, AllocError>
-    requires order { from ≤ to }
-    requires bound { to ≤ length bytes.now }
+// Three pieces as one.
+fn joined(alloc: Global, front: &[u8], middle: &[u8], rest: &[u8]) -> Result<Vec<u8>, AllocError>
+    ensures { IfOk result (λ b. b.items ≡ front.now ++ middle.now ++ rest.now) }
 {
-    let mut all = Vec::from_slice(alloc, &bytes[..from])?;
-    all.extend_from_slice(others)?;
-    all.extend_from_slice(&bytes[to..])?;
+    let mut all = Vec::from_slice(alloc, front)?;
+    all.extend_from_slice(middle)?;
+    all.extend_from_slice(rest)?;
     Ok(all)
 }
 
-// A number in LEB128.
-fn number_of(alloc: Global, number: u32) -> Result<Vec<u8>, AllocError> {
+// An id and a number in LEB128.
+fn head_of(alloc: Global, id: u8, number: u32) -> Result<Vec<u8>, AllocError> {
     let mut bytes = Vec::new(alloc);
+    bytes.push(id)?;
     match write_u32(&mut bytes, number) {
         Ok(()) => Ok(bytes),
         Err(_) => Err(AllocError),
     }
 }
 
-// The bytes with another length of the section.
-fn with_length(
+// The bytes with another id and length of the section, of which those are in front.
+fn with_head(
     alloc: Global,
-    bytes: &[u8],
-    section: Section,
+    front: &[u8],
+    section: Section<'_>,
+    id: u8,
     length: Option<u32>,
 ) -> Changed<Vec<u8>> {
     let Some(length) = length else {
         return Ok(None);
     };
-    let length = number_of(alloc, length)?;
-    Ok(Some(replaced(alloc, bytes, section.at + 1, section.contents, &length)?))
+    let head = head_of(alloc, id, length)?;
+    Ok(Some(joined(alloc, front, &head, section.rest)?))
 }
 
 // The bytes with the greatest count of the section, if it is a list.
-fn with_count(alloc: Global, bytes: &[u8], section: Section) -> Changed<Vec<u8>> {
+fn with_count(alloc: Global, front: &[u8], section: Section<'_>) -> Changed<Vec<u8>> {
     if !section.is_list() {
         return Ok(None);
     }
-    let Ok((_, rest)) = count_of(&bytes[section.contents..]) else {
+    let Ok((_, entries)) = count_of(section.rest) else {
         return Ok(None);
     };
-    let count = number_of(alloc, u32::MAX)?;
-    let end = bytes.len() - rest.len();
-    Ok(Some(replaced(alloc, bytes, section.contents, end, &count)?))
+    let mut head = head_of(alloc, section.id, section.length)?;
+    if write_u32(&mut head, u32::MAX).is_err() {
+        return Err(AllocError);
+    }
+    Ok(Some(joined(alloc, front, &head, entries)?))
 }
 
 // What is written wrongly in one of the four candidates of a section.
@@ -179,35 +177,29 @@ fn miswriting_of(number: usize) -> Miswriting {
     }
 }
 
-// The bytes with the section written wrongly.
-fn with_section(
-    alloc: Global,
-    bytes: &[u8],
-    section: Section,
-    what: Miswriting,
-) -> Changed<Vec<u8>> {
-    let length = section.length;
+// The bytes with the section from which those are the last ones written wrongly.
+fn with_section(alloc: Global, bytes: &[u8], last: &[u8], what: Miswriting) -> Changed<Vec<u8>> {
+    let front = &bytes[..bytes.len().saturating_sub(last.len())];
+    let Some(section) = section_of(last) else {
+        return Ok(None);
+    };
+    let Section { id, length, .. } = section;
     match what {
-        Miswriting::Longer => with_length(alloc, bytes, section, length.checked_add(1)),
-        Miswriting::Shorter => with_length(alloc, bytes, section, length.checked_sub(1)),
-        Miswriting::UnknownSection => {
-            let at = section.at;
-            Ok(Some(replaced(alloc, bytes, at, at + 1, &[UNKNOWN_ID])?))
-        }
-        Miswriting::Count => with_count(alloc, bytes, section),
+        Miswriting::Longer => with_head(alloc, front, section, id, length.checked_add(1)),
+        Miswriting::Shorter => with_head(alloc, front, section, id, length.checked_sub(1)),
+        Miswriting::UnknownSection => with_head(alloc, front, section, UNKNOWN_ID, Some(length)),
+        Miswriting::Count => with_count(alloc, front, section),
         Miswriting::Cut | Miswriting::Preamble => Ok(None),
     }
 }
 
 // The bytes with a byte of the preamble turned in its lowest bit.
 fn with_preamble(alloc: Global, bytes: &[u8], at: usize) -> Changed<Vec<u8>> {
-    if at >= COMPONENT_PREAMBLE.len() {
+    if at >= COMPONENT_PREAMBLE.len() || at >= bytes.len() {
         return Ok(None);
     }
-    let Some(byte) = bytes.get(at) else {
-        return Ok(None);
-    };
-    Ok(Some(replaced(alloc, bytes, at, at + 1, &[*byte ^ 1])?))
+    let turned = [bytes[at] ^ 1];
+    Ok(Some(joined(alloc, &bytes[..at], &turned, &bytes[at + 1..])?))
 }
 
 // The candidate of that number, and what is written wrongly in it: cut after each number of bytes, then the four of
@@ -215,7 +207,7 @@ fn with_preamble(alloc: Global, bytes: &[u8], at: usize) -> Changed<Vec<u8>> {
 fn candidate(
     alloc: Global,
     bytes: &[u8],
-    sections: &[Section],
+    sections: &[&[u8]],
     number: usize,
 ) -> Changed<(Miswriting, Vec<u8>)> {
     if number < bytes.len() {
@@ -223,12 +215,13 @@ fn candidate(
         return Ok(Some((Miswriting::Cut, cut)));
     }
     let number = number - bytes.len();
-    if let Some(section) = sections.get(number / 4) {
+    if let Some(last) = sections.get(number / 4) {
         let what = miswriting_of(number % 4);
-        let other = with_section(alloc, bytes, *section, what)?;
+        let other = with_section(alloc, bytes, *last, what)?;
         return Ok(other.map(|bytes| (what, bytes)));
     }
-    let other = with_preamble(alloc, bytes, number - 4 * sections.len())?;
+    let at = number.saturating_sub(sections.len().saturating_mul(4));
+    let other = with_preamble(alloc, bytes, at)?;
     Ok(other.map(|bytes| (Miswriting::Preamble, bytes)))
 }
 
@@ -244,7 +237,7 @@ fn are_miswritten(alloc: Global, given: &[u8], bytes: &[u8]) -> Result<bool, All
 }
 
 // How many candidates there are.
-fn candidate_count(bytes: &[u8], sections: &[Section]) -> usize {
+fn candidate_count(bytes: &[u8], sections: &[&[u8]]) -> usize {
     let of_sections = sections.len().saturating_mul(4);
     let count = bytes.len().saturating_add(of_sections);
     count.saturating_add(COMPONENT_PREAMBLE.len())
