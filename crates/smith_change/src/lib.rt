@@ -6,6 +6,7 @@ mod copies;
 mod core_types;
 mod error;
 mod externs;
+mod kinds;
 pub mod laws;
 mod members;
 mod modules;
@@ -19,5 +20,6 @@ mod types;
 mod values;
 
 pub use error::ChangeError;
+pub use kinds::{PlaceKind, place_kind};
 pub use smith_read::Reason;
 pub use steps::{Step, change_count, changed, changes, next_changed};
