@@ -13,7 +13,8 @@ ghost use Rattle.smith_tree.specs.Tree.{Tree};
 ghost use Rattle.smith_change.specs.Alternatives.{index_alternative, memory_alternative, name_alternative};
 ghost use Rattle.smith_change.specs.Alternatives.{table_alternative, value_alternative};
 ghost use Rattle.smith_change.specs.Changes.{changed, changes};
-ghost use Rattle.smith_change.specs.Differs.{DiffersInOneList, DiffersInOneToken};
+ghost use Rattle.smith_change.specs.Differs.{DiffersInOneList, DiffersInOneToken, IsModuleChange};
+ghost use Rattle.smith_change.specs.Parts.{module_changed};
 
 /// From the number of changes on, no number leads to anything.
 #[tactic(auto, using(crate::proofs::Beyond::changed_beyond))]
@@ -51,4 +52,10 @@ pub fn alternatives_are_of_the_grammar()
         → MemoryTypeTooLong n → MemoryTypeTooLong m }
     ensures tables { (a : ℕ) (t u : TableType) → table_alternative a t ≡ Some u → TableTypeTooLong u → TableTypeTooLong t }
     ensures names { (a : ℕ) (n m : List ℕ) → name_alternative a n ≡ Some m → IsUtf8 n → IsUtf8 m }
+{}
+
+/// A core module with one of its places changed differs in one token, or by one edit of one list, of its two sections.
+#[tactic(auto, using(crate::proofs::Others::modules_differ))]
+pub fn changes_of_modules_are_of_one_token_or_list()
+    ensures { (a k : ℕ) (text new : List ℕ) → module_changed a k text ≡ Some new → IsModuleChange text new }
 {}
