@@ -1,0 +1,184 @@
+-- What is sought, place by place.
+use Rattle.std.proofs.Common.{◌≡◌, ℕ, ◌+◌, ◌-◌, ◌<◌, ◌≤◌, true, false, Option, Some, None, ap, sym, refl, ◌∙◌, arith, nat_lt, ⊎_elim, rules}
+use Rattle.std.proofs.lemmas.Bool.{cases_lt}
+use Rattle.std.proofs.lemmas.Bool.Decides.{nat_tests}
+use Rattle.std.specs.Prelude.{IfOk, IsSomeAnd, MatchOption, Result, Ok, Err, if◌then◌else◌}
+use Rattle.std.specs.Option.{IsSome, option_map, option_zip}
+use Rattle.smith_change.specs.Rows.{first_or, in_turn}
+use Rattle.smith_change.specs.Search.{among, is_here, past, sought}
+use Rattle.smith_change.specs.declared.search.Search.{Search}
+use Rattle.smith_change.specs.declared.search.Search.TheVariants.{Ahead, Over}
+
+-- where it is, further on
+
+pub past_none : (s : Search) → past 0 s ≡ s
+past_none (Ahead m) = search rules
+past_none Over = refl
+
+pub past_less : (n m : ℕ) → m < n → past n (Ahead m) ≡ Over
+past_less n m h = let t : nat_lt m n ≡ true = grind (arith, nat_tests) in ap (λ b. if b then Over else Ahead (m - n)) t
+
+pub past_more : (n m : ℕ) → n ≤ m → past n (Ahead m) ≡ Ahead (m - n)
+past_more n m h = let t : nat_lt m n ≡ false = grind (arith, nat_tests) in ap (λ b. if b then Over else Ahead (m - n)) t
+
+past_in : (a b m : ℕ) → b ≤ m → past a (Ahead (m - b)) ≡ past (b + a) (Ahead m)
+past_in a b m h =
+    ⊎_elim
+    (λ lt. past_less a (m - b) lt ∙ sym (past_less (b + a) m (omega arith)))
+    (λ ge. past_more a (m - b) ge ∙ (let e : m - b - a ≡ m - (b + a) = omega arith in ap Ahead e) ∙ sym (past_more (b + a) m (omega arith)))
+    (cases_lt (m - b) a)
+
+pub past_past : (a b : ℕ) (s : Search) → past a (past b s) ≡ past (b + a) s
+past_past a b (Ahead m) =
+    ⊎_elim
+    (λ lt. ap (past a) (past_less b m lt) ∙ sym (past_less (b + a) m (omega arith)))
+    (λ ge. ap (past a) (past_more b m ge) ∙ past_in a b m ge)
+    (cases_lt m b)
+past_past a b Over = refl
+
+-- which it is
+
+pub among_less : (n m : ℕ) → m < n → among n (Ahead m) ≡ Some m
+among_less n m h = let t : nat_lt m n ≡ true = grind (arith, nat_tests) in rw t refl
+
+pub among_more : (n m : ℕ) → n ≤ m → among n (Ahead m) ≡ None
+among_more n m h = let t : nat_lt m n ≡ false = grind (arith, nat_tests) in rw t refl
+
+pub among_none : (s : Search) → among 0 s ≡ None
+among_none (Ahead m) = among_more 0 m (omega arith)
+among_none Over = refl
+
+module _ {A : Type 0} where
+  -- by its number, if it has one
+  abbrev pub by_number : Option ℕ → (ℕ → Option A) → A → Option A
+  by_number o g x = elim o [ None ↦ Some x | Some k ↦ g k ]
+
+  pub sought_less : (n m : ℕ) (g : ℕ → Option A) (x : A) → m < n → sought n (Ahead m) g x ≡ g m
+  sought_less n m g x h = ap (λ o. by_number o g x) (among_less n m h)
+
+  pub sought_more : (n m : ℕ) (g : ℕ → Option A) (x : A) → n ≤ m → sought n (Ahead m) g x ≡ Some x
+  sought_more n m g x h = ap (λ o. by_number o g x) (among_more n m h)
+
+  pub sought_none : (s : Search) (g : ℕ → Option A) (x : A) → sought 0 s g x ≡ Some x
+  sought_none s g x = ap (λ o. by_number o g x) (among_none s)
+
+-- among the first places, or later
+
+pub turn_here : {C : Type 0} (n k : ℕ) (first later : ℕ → C) → k < n → in_turn n first later k ≡ first k
+turn_here n k first later h = let t : nat_lt k n ≡ true = grind (arith, nat_tests) in rw t refl
+
+pub turn_there : {C : Type 0} (n k : ℕ) (first later : ℕ → C) → n ≤ k → in_turn n first later k ≡ later (k - n)
+turn_there n k first later h = let t : nat_lt k n ≡ false = grind (arith, nat_tests) in rw t refl
+
+abbrev pub and_then : {A B : Type 0} → Option A → (A → Option B) → Option B
+and_then None f = None
+and_then (Some x) f = f x
+
+-- A first that has n places, and a second that has m.
+module _ {A B C : Type 0} (cons : A → B → C) (n m : ℕ) (f : ℕ → Option A) (g : ℕ → Option B) (x : A) (y : B) where
+  abbrev in_first : ℕ → Option C
+  in_first j = option_map (λ z. cons z y) (f j)
+
+  abbrev in_second : ℕ → Option C
+  in_second j = option_map (cons x) (g j)
+
+  abbrev pub both : ℕ → Option C
+  both k = in_turn n (λ j. option_map (λ z. cons z y) (f j)) (λ j. option_map (cons x) (g j)) k
+
+  -- the first, and then the second
+  abbrev pub one_by_one : Search → Option A → Option C
+  one_by_one s o = and_then o (λ z. option_map (cons z) (sought m (past n s) g y))
+
+  first_by : (o : Option A) → option_map (λ z. cons z y) o ≡ and_then o (λ z. option_map (cons z) (Some y))
+  first_by None = refl
+  first_by (Some z) = refl
+
+  first_turn : (k : ℕ) → k < n → sought (n + m) (Ahead k) both (cons x y) ≡ one_by_one (Ahead k) (sought n (Ahead k) f x)
+  first_turn k lt =
+      sought_less (n + m) k both (cons x y) (omega arith) ∙ turn_here n k in_first in_second lt ∙ first_by (f k)
+      ∙ sym (ap (one_by_one (Ahead k)) (sought_less n k f x lt) ∙ ap (λ s. and_then (f k) (λ z. option_map (cons z) (sought m s g y))) (past_less n k lt))
+
+  later : (k : ℕ) → n ≤ k → one_by_one (Ahead k) (sought n (Ahead k) f x) ≡ option_map (cons x) (sought m (Ahead (k - n)) g y)
+  later k ge = ap (one_by_one (Ahead k)) (sought_more n k f x ge) ∙ ap (λ s. option_map (cons x) (sought m s g y)) (past_more n k ge)
+
+  second_turn : (k : ℕ) → n ≤ k → k < n + m → sought (n + m) (Ahead k) both (cons x y) ≡ option_map (cons x) (sought m (Ahead (k - n)) g y)
+  second_turn k ge lt =
+      sought_less (n + m) k both (cons x y) lt ∙ turn_there n k in_first in_second ge ∙ sym (ap (option_map (cons x)) (sought_less m (k - n) g y (omega arith)))
+
+  no_turn : (k : ℕ) → n + m ≤ k → sought (n + m) (Ahead k) both (cons x y) ≡ option_map (cons x) (sought m (Ahead (k - n)) g y)
+  no_turn k ge = sought_more (n + m) k both (cons x y) ge ∙ sym (ap (option_map (cons x)) (sought_more m (k - n) g y (omega arith)))
+
+  pub sought_both : (s : Search) → sought (n + m) s both (cons x y) ≡ one_by_one s (sought n s f x)
+  sought_both (Ahead k) =
+      ⊎_elim (first_turn k)
+      (λ ge. ⊎_elim (second_turn k ge) (no_turn k) (cases_lt k (n + m)) ∙ sym (later k ge)) (cases_lt k n)
+  sought_both Over = refl
+
+-- What is found of the two, seen otherwise.
+module _ {X Y A B C : Type 0} (f1 : X → A) (f2 : Y → B) (h : X × Y → C) (cons : A → B → C) (same : (x : X) (y : Y) → h (x, y) ≡ cons (f1 x) (f2 y))
+    (n m : ℕ) (f : ℕ → Option A) (g : ℕ → Option B) (a : A) (b : B) (s t : Search) where
+  pub found_both : (p : Option X) (q : Option Y) → option_map f1 p ≡ sought n s f a → (IsSome p → t ≡ past n s) → option_map f2 q ≡ sought m t g b
+      → option_map h (option_zip p q) ≡ sought (n + m) s (both cons n m f g a b) (cons a b)
+  found_both None q is on more = sym (sought_both cons n m f g a b s ∙ sym (ap (one_by_one cons n m f g a b s) is))
+  found_both (Some x) None is on more =
+      sym (sought_both cons n m f g a b s ∙ sym (ap (one_by_one cons n m f g a b s) is)
+      ∙ ap (λ u. option_map (cons (f1 x)) (sought m u g b)) (sym (on refl)) ∙ sym (ap (option_map (cons (f1 x))) more))
+  found_both (Some x) (Some y) is on more =
+      ap Some (same x y)
+      ∙ sym (sought_both cons n m f g a b s ∙ sym (ap (one_by_one cons n m f g a b s) is)
+      ∙ ap (λ u. option_map (cons (f1 x)) (sought m u g b)) (sym (on refl)) ∙ sym (ap (option_map (cons (f1 x))) more))
+
+pub moved_both : {X Y : Type 0} (n m : ℕ) (s t u : Search) (p : Option X) (q : Option Y) → (IsSome p → t ≡ past n s)
+    → (IsSome q → u ≡ past m t) → IsSome (option_zip p q) → u ≡ past (n + m) s
+moved_both n m s t u None q on more is = absurd cc
+moved_both n m s t u (Some x) None on more is = absurd cc
+moved_both n m s t u (Some x) (Some y) on more is = more refl ∙ ap (past m) (on refl) ∙ past_past m n s
+
+-- of what is there, one thing follows from another
+pub ok_then : {A E : Type 0} (P Q : A → Type 0) (r : Result A E) → ((x : A) → P x → Q x) → IfOk r P → IfOk r Q
+ok_then P Q (Ok x) f h = f x h
+ok_then P Q (Err e) f h = h
+
+-- A place of its own, and then the places inside.
+module _ {A : Type 0} (n : ℕ) (own : Option A) (later : ℕ → Option A) (x : A) where
+  pub sought_here : (s : Search) → is_here s ≡ true → sought (1 + n) s (first_or own later) x ≡ own
+  sought_here (Ahead k) is = search rules
+  sought_here Over is = absurd cc
+
+  pub sought_later : (s : Search) → is_here s ≡ false → sought (1 + n) s (first_or own later) x ≡ sought n (past 1 s) later x
+  sought_later (Ahead k) is = search rules
+  sought_later Over is = refl
+
+-- what is sought, seen otherwise
+pub sought_map : {A B : Type 0} (h : A → B) (n : ℕ) (s : Search) (f : ℕ → Option A) (x : A)
+    → sought n s (λ j. option_map h (f j)) (h x) ≡ option_map h (sought n s f x)
+sought_map h n s f x = by (among n s)
+  where
+    by : (o : Option ℕ) → by_number o (λ j. option_map h (f j)) (h x) ≡ option_map h (by_number o f x)
+    by None = refl
+    by (Some k) = refl
+
+-- inside, seen otherwise
+pub later_mapped : {A B : Type 0} (h : A → B) (n : ℕ) (own : Option B) (f : ℕ → Option A) (x : A) (s t : Search) (found : Option A)
+    → is_here s ≡ false → t ≡ past 1 s → found ≡ sought n t f x
+    → option_map h found ≡ sought (1 + n) s (first_or own (λ j. option_map h (f j))) (h x)
+later_mapped h n own f x s t found is on e =
+    ap (option_map h) e ∙ sym (sought_map h n t f x) ∙ ap (λ u. sought n u (λ j. option_map h (f j)) (h x)) on
+    ∙ sym (sought_later n own (λ j. option_map h (f j)) (h x) s is)
+
+-- What a function made of what is found, seen otherwise.
+module _ {V R L D : Type 0} (seen : R → D) (h : L → D) (view : V → L) (post : V → R → Type 0) (is : (v : V) (r : R) → post v r → seen r ≡ h (view v)) where
+  made_of : (p : Option V) (r : Option R) → MatchOption p (r ≡ None) (λ v. IsSomeAnd r (post v)) → option_map seen r ≡ option_map h (option_map view p)
+  made_of None r cases = ap (option_map seen) cases
+  made_of (Some v) None cases = absurd cases
+  made_of (Some v) (Some r) cases = ap Some (is v r cases)
+
+  module _ (n : ℕ) (f : ℕ → Option L) (x : L) (s : Search) (p : Option V) (r : Option R) (cases : MatchOption p (r ≡ None) (λ v. IsSomeAnd r (post v))) where
+    pub found_made : option_map view p ≡ sought n s f x → option_map seen r ≡ sought n s (λ j. option_map h (f j)) (h x)
+    found_made found = made_of p r cases ∙ ap (option_map h) found ∙ sym (sought_map h n s f x)
+
+    pub found_later : (own : Option D) (t : Search) → is_here t ≡ false → s ≡ past 1 t → option_map view p ≡ sought n s f x
+        → option_map seen r ≡ sought (1 + n) t (first_or own (λ j. option_map h (f j))) (h x)
+    found_later own t not_here on found = made_of p r cases ∙ later_mapped h n own f x t s (option_map view p) not_here on found
+
+pub ruleset seeking = (sought_later, sought_here, sought_map, past_past)

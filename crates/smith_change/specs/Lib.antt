@@ -1,0 +1,14 @@
+pub mod Alternatives
+pub mod Changes
+pub mod CoreTypes
+pub mod Differs
+pub mod Members
+pub mod Modules
+pub mod Owners
+pub mod Parts
+pub mod Refusals
+pub mod Rows
+pub mod Search
+pub mod Sections
+pub mod Tokens
+pub mod Types

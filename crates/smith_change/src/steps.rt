@@ -1,0 +1,170 @@
+//! Components after a change.
+
+ghost use Rattle.std.specs.Prelude.{◌≡◌, ◌/◌, ◌%◌, map, IfOk, IfErr, option_map};
+ghost use Rattle.smith_tree.specs.Grammar.{Spells, component_text};
+ghost use Rattle.smith_tree.specs.Tree.{Tree};
+ghost use Rattle.smith_read.specs.PartNodes.{shown_tree};
+ghost use Rattle.smith_change.specs.Changes as spec;
+ghost use Rattle.smith_change.specs.Parts.{places, sections_changed};
+ghost use Rattle.smith_change.specs.Refusals.{IsRefusal};
+
+use crate::error::ChangeError;
+use crate::parts::change_parts;
+use crate::search::{Change, Changed, Search};
+use smith_read::{ComponentTree, WriteError, read, write};
+use std::alloc::{AllocError, Global};
+
+// How many alternatives a place may have.
+const ALTERNATIVES: usize = 16;
+
+/// A change, and the component to which it leads.
+#[derive(Debug, PartialEq, Eq, Drop)]
+pub struct Step {
+    /// Its number, from 0 over all changes, including the ones that lead to nothing.
+    pub number: usize,
+    /// The component's bytes.
+    pub bytes: Vec<u8>,
+}
+
+// How many places there are.
+fn place_count(alloc: Global, tree: &ComponentTree) -> Result<usize, AllocError>
+    ensures { IfOk result (λ n. n ≡ places (shown_tree tree.now)) }
+{
+    let mut search = Search::Ahead(usize::MAX);
+    let change = Change {
+        alloc,
+        alternative: 0,
+    };
+    let Some(_copy) = change_parts(change, &mut search, &tree.parts)? else {
+        return Err(AllocError);
+    };
+    match search {
+        Search::Ahead(left) => Ok(usize::MAX - left),
+        Search::Over => Err(AllocError),
+    }
+}
+
+/// How many changes a component has: the numbers below this, of which not all lead to something, and no other.
+pub fn changes(alloc: Global, tree: &ComponentTree) -> Result<usize, AllocError>
+    ensures { IfOk result (λ n. n ≡ spec.changes (shown_tree tree.now)) }
+{
+    let places = place_count(alloc, tree)?;
+    places.checked_mul(ALTERNATIVES).ok_or(AllocError)
+}
+
+// The component with one place changed, which may be as it was.
+fn change_place(alloc: Global, tree: &ComponentTree, number: usize) -> Changed<ComponentTree>
+    ensures { IfOk result (λ r. option_map shown_tree r
+        ≡ sections_changed (number % spec.alternatives) (number / spec.alternatives) (shown_tree tree.now)) }
+{
+    let change = Change {
+        alloc,
+        alternative: number % ALTERNATIVES,
+    };
+    let mut search = Search::Ahead(number / ALTERNATIVES);
+    let Some(parts) = change_parts(change, &mut search, &tree.parts)? else {
+        return Ok(None);
+    };
+    match search {
+        Search::Over => Ok(Some(ComponentTree { parts })),
+        Search::Ahead(_) => Ok(None),
+    }
+}
+
+// The bytes of a component, if it has an encoding.
+fn spelled(alloc: Global, tree: &ComponentTree) -> Changed<Vec<u8>>
+    ensures { IfOk result (λ r. option_map (λ v. v.items) r ≡ component_text (shown_tree tree.now)) }
+{
+    match write(alloc, tree) {
+        Ok(bytes) => Ok(Some(bytes)),
+        Err(WriteError::NoEncoding) => Ok(None),
+        Err(WriteError::OutOfMemory) => Err(AllocError),
+    }
+}
+
+// Are they the same bytes, or both none?
+fn is_same(first: &Option<Vec<u8>>, second: &Option<Vec<u8>>) -> bool
+    ensures { result ≡ spec.same_piece (option_map (λ v. v.items) first.now) (option_map (λ v. v.items) second.now) }
+{
+    match (first, second) {
+        (None, None) => true,
+        (Some(first), Some(second)) => first.as_slice() == second.as_slice(),
+        _ => false,
+    }
+}
+
+/// The component with one token or one list of entries changed; none if that change leads to nothing.
+pub fn changed(alloc: Global, tree: &ComponentTree, number: usize) -> Changed<ComponentTree>
+    ensures { IfOk result (λ r. option_map shown_tree r ≡ spec.changed number (shown_tree tree.now)) }
+{
+    let Some(other) = change_place(alloc, tree, number)? else {
+        return Ok(None);
+    };
+    let text = spelled(alloc, tree)?;
+    if is_same(&text, &spelled(alloc, &other)?) {
+        return Ok(None);
+    }
+    Ok(Some(other))
+}
+
+// The bytes to which a change of the component with these bytes leads.
+fn led_to(alloc: Global, tree: &ComponentTree, bytes: &[u8], number: usize) -> Changed<Vec<u8>>
+    requires { Spells (shown_tree tree.now) bytes.now }
+    ensures { IfOk result (λ r. spec.IsLead (shown_tree tree.now) number (option_map (λ b. b.items) r)) }
+{
+    let Some(other) = change_place(alloc, tree, number)? else {
+        return Ok(None);
+    };
+    let Some(text) = spelled(alloc, &other)? else {
+        return Ok(None);
+    };
+    if text.as_slice() == bytes {
+        return Ok(None);
+    }
+    Ok(Some(text))
+}
+
+// The first change from that number on that leads to something.
+#[tactic(auto, using(crate::proofs::Passing::passing))]
+fn next_of(
+    alloc: Global,
+    tree: &ComponentTree,
+    bytes: &[u8],
+    from: usize,
+) -> Result<Option<Step>, AllocError>
+    requires { Spells (shown_tree tree.now) bytes.now }
+    ensures { IfOk result
+        (λ r. spec.IsNext (shown_tree tree.now) from (option_map (λ s. (s.number, s.bytes.items)) r)) }
+{
+    let changes = changes(alloc, tree)?;
+    for number in from..changes {
+        if let Some(bytes) = led_to(alloc, tree, bytes, number)? {
+            return Ok(Some(Step { number, bytes }));
+        }
+    }
+    Ok(None)
+}
+
+/// How many changes the component that these bytes are has, including the ones that lead to nothing.
+///
+/// It takes time and memory in proportion to the bytes.
+pub fn change_count(alloc: Global, bytes: &[u8]) -> Result<usize, ChangeError>
+    ensures answered { IfOk result (λ n. (t : Tree) × Spells t bytes.now × (n ≡ spec.changes t)) }
+    ensures refuses { IfErr result (IsRefusal bytes.now) }
+{
+    let tree = read(alloc, bytes)?;
+    Ok(changes(alloc, &tree)?)
+}
+
+/// The first change from that number on that leads to a component other than the one that these bytes are, and its
+/// bytes. There is none if no change from there on leads to one.
+///
+/// Each change from that number up to the one that is returned takes time in proportion to the bytes.
+pub fn next_changed(alloc: Global, bytes: &[u8], from: usize) -> Result<Option<Step>, ChangeError>
+    ensures answered { IfOk result (λ r. (t : Tree) × Spells t bytes.now
+        × spec.IsNext t from (option_map (λ s. (s.number, s.bytes.items)) r)) }
+    ensures refuses { IfErr result (IsRefusal bytes.now) }
+{
+    let tree = read(alloc, bytes)?;
+    Ok(next_of(alloc, &tree, bytes, from)?)
+}
