@@ -1,13 +1,20 @@
 //! What sorts of places there are.
 
+ghost use Rattle.std.specs.Prelude.{◌≡◌, ◌<◌, ◌↔◌, ℕ, Option, is_some, length, map, IfOk, IsSome};
+ghost use Rattle.smith_syntax.specs.Entries.{Entry, in_order};
+ghost use Rattle.smith_tree.specs.Tree.{tree_of};
+ghost use Rattle.smith_read.specs.PartNodes.{shown_part_node, shown_tree};
+ghost use Rattle.smith_read.specs.TypeNodes.{shown_decl_node, shown_type_node};
+ghost use Rattle.smith_change.specs.Changes as spec;
+ghost use Rattle.smith_change.specs.Parts as parts;
+ghost use Rattle.smith_change.specs.Rows.{row_places};
+ghost use Rattle.smith_change.specs.Search.{among, past};
+ghost use Rattle.smith_change.specs.Types as types;
+
+use crate::placed::kind_in_signature;
 use crate::search::Search;
-use crate::sections::{FunctionNode, MemoryNode, module_sections_of};
-use smith_format::{EntityType, FuncType as CoreFunc, ValType};
-use smith_read::{
-    ComponentTree, CoreNode, DeclNode, Export, Func, ImportNode, ModuleNode, PartNode, TypeNode,
-    Unread,
-};
-use smith_syntax::{ComponentValType, DefinedType, FuncType};
+use crate::sections::module_sections_of;
+use smith_read::{ComponentTree, DeclNode, PartNode, TypeNode, Unread};
 use std::alloc::{AllocError, Global};
 
 /// What sort of place a change is at.
@@ -63,14 +70,26 @@ impl PlaceKind {
     }
 }
 
-// What has places inside.
-trait Places {
-    // The sort of the place that is sought, if it is inside. Moves past all that are.
-    fn kind_at(&self, search: &mut Search) -> Option<PlaceKind>;
+/// What has places inside.
+pub(crate) trait Places {
+    ghost Shown: { Type 0 };
+
+    ghost shown: { Self → Shown };
+
+    ghost places: { Shown → ℕ };
+
+    /// The sort of the place that is sought, if it is inside. Moves past all that are.
+    fn kind_at(&self, search: &mut Search) -> Option<PlaceKind>
+        ensures found { is_some result ≡ is_some (among (places (shown self.now)) search.old) }
+        ensures moved { search.new ≡ past (places (shown self.now)) search.old };
 }
 
-// The first of these places that is sought, if one of them is. They have nothing inside.
-fn kind_among(search: &mut Search, kinds: &[PlaceKind]) -> Option<PlaceKind> {
+/// The first of these places that is sought, if one of them is. They have nothing inside.
+#[tactic(auto, using(crate::proofs::KindFound::kinds))]
+pub(crate) fn kind_among(search: &mut Search, kinds: &[PlaceKind]) -> Option<PlaceKind>
+    ensures found { is_some result ≡ is_some (among (length kinds.now) search.old) }
+    ensures moved { search.new ≡ past (length kinds.now) search.old }
+{
     for kind in kinds {
         if search.step() {
             return Some(*kind);
@@ -79,7 +98,12 @@ fn kind_among(search: &mut Search, kinds: &[PlaceKind]) -> Option<PlaceKind> {
     None
 }
 
-fn kind_in_row<T: Places>(search: &mut Search, entries: &[T]) -> Option<PlaceKind> {
+/// Among entries in a row.
+#[tactic(auto, using(crate::proofs::KindFound::kinds))]
+pub(crate) fn kind_in_row<T: Places>(search: &mut Search, entries: &[T]) -> Option<PlaceKind>
+    ensures found { is_some result ≡ is_some (among (row_places T.places (map T.shown entries.now)) search.old) }
+    ensures moved { search.new ≡ past (row_places T.places (map T.shown entries.now)) search.old }
+{
     for entry in entries {
         if search.step() {
             return Some(PlaceKind::Entry);
@@ -92,150 +116,15 @@ fn kind_in_row<T: Places>(search: &mut Search, entries: &[T]) -> Option<PlaceKin
     None
 }
 
-fn kind_in_members<T: Places>(search: &mut Search, members: &[T]) -> Option<PlaceKind> {
-    if search.step() {
-        return Some(PlaceKind::Members);
-    }
-    kind_in_row(search, members)
-}
-
-impl Places for ComponentValType {
-    fn kind_at(&self, search: &mut Search) -> Option<PlaceKind> {
-        kind_among(search, &[PlaceKind::Value])
-    }
-}
-
-impl Places for Option<ComponentValType> {
-    fn kind_at(&self, search: &mut Search) -> Option<PlaceKind> {
-        match self {
-            None => kind_among(search, &[PlaceKind::Presence]),
-            Some(_) => kind_among(search, &[PlaceKind::Presence, PlaceKind::Value]),
-        }
-    }
-}
-
-impl Places for String {
-    fn kind_at(&self, search: &mut Search) -> Option<PlaceKind> {
-        kind_among(search, &[PlaceKind::Name])
-    }
-}
-
-impl Places for (String, ComponentValType) {
-    fn kind_at(&self, search: &mut Search) -> Option<PlaceKind> {
-        kind_among(search, &[PlaceKind::Name, PlaceKind::Value])
-    }
-}
-
-impl Places for (String, Option<ComponentValType>) {
-    fn kind_at(&self, search: &mut Search) -> Option<PlaceKind> {
-        if search.step() {
-            return Some(PlaceKind::Name);
-        }
-        self.1.kind_at(search)
-    }
-}
-
-impl Places for DefinedType {
-    fn kind_at(&self, search: &mut Search) -> Option<PlaceKind> {
-        match self {
-            DefinedType::Primitive(_) => kind_among(search, &[PlaceKind::Code]),
-            DefinedType::Record(ty) => kind_in_members(search, &ty.fields),
-            DefinedType::Variant(ty) => kind_in_members(search, &ty.cases),
-            DefinedType::Tuple(ty) => kind_in_members(search, &ty.fields),
-            DefinedType::List(_) | DefinedType::Option(_) => {
-                kind_among(search, &[PlaceKind::Code, PlaceKind::Value])
-            }
-            DefinedType::Flags(ty) => kind_in_labels(search, &ty.fields),
-            DefinedType::Enum(ty) => kind_in_labels(search, &ty.variants),
-            DefinedType::Result(ty) => match ty.ok_ty.kind_at(search) {
-                Some(kind) => Some(kind),
-                None => ty.err_ty.kind_at(search),
-            },
-        }
-    }
-}
-
-fn kind_in_labels(search: &mut Search, labels: &[String]) -> Option<PlaceKind> {
-    if search.step() {
-        return Some(PlaceKind::Code);
-    }
-    kind_in_members(search, labels)
-}
-
-impl Places for FuncType {
-    fn kind_at(&self, search: &mut Search) -> Option<PlaceKind> {
-        match kind_in_members(search, &self.params) {
-            Some(kind) => Some(kind),
-            None => self.result.kind_at(search),
-        }
-    }
-}
-
-impl Places for ValType {
-    fn kind_at(&self, search: &mut Search) -> Option<PlaceKind> {
-        kind_among(search, &[PlaceKind::CoreValue])
-    }
-}
-
-impl Places for CoreFunc {
-    fn kind_at(&self, search: &mut Search) -> Option<PlaceKind> {
-        let kind = kind_in_row(search, &self.params);
-        if kind.is_some() {
-            return kind;
-        }
-        if search.step() {
-            return Some(PlaceKind::Results);
-        }
-        kind_in_row(search, &self.results)
-    }
-}
-
-impl Places for EntityType {
-    fn kind_at(&self, search: &mut Search) -> Option<PlaceKind> {
-        match self {
-            EntityType::Func(_) | EntityType::Tag(_) => {
-                kind_among(search, &[PlaceKind::Code, PlaceKind::Index])
-            }
-            EntityType::Table(_) => kind_among(
-                search,
-                &[PlaceKind::Code, PlaceKind::Element, PlaceKind::Limits],
-            ),
-            EntityType::Memory(_) => kind_among(search, &[PlaceKind::Code, PlaceKind::Limits]),
-            EntityType::Global(_) => {
-                kind_among(search, &[PlaceKind::CoreValue, PlaceKind::Mutable])
-            }
-        }
-    }
-}
-
-impl Places for ModuleNode {
-    fn kind_at(&self, search: &mut Search) -> Option<PlaceKind> {
-        match self {
-            ModuleNode::Func(ty) => ty.kind_at(search),
-            ModuleNode::Import { entity, .. } | ModuleNode::Export { entity, .. } => {
-                entity.kind_at(search)
-            }
-            ModuleNode::OuterAlias { .. } => {
-                kind_among(search, &[PlaceKind::Count, PlaceKind::Index])
-            }
-        }
-    }
-}
-
-impl Places for CoreNode {
-    fn kind_at(&self, search: &mut Search) -> Option<PlaceKind> {
-        match self {
-            CoreNode::Func(ty) => ty.kind_at(search),
-            CoreNode::Module(nodes) => kind_in_row(search, nodes),
-        }
-    }
-}
-
 #[cycle(kinds)]
-fn kind_in_type(search: &mut Search, node: &TypeNode) -> Option<PlaceKind> {
+#[tactic(auto, using(crate::proofs::KindFound::kinds, smith_read::proofs::ShownNodes::shown_nodes))]
+fn kind_in_type(search: &mut Search, node: &TypeNode) -> Option<PlaceKind>
+    ensures found { is_some result ≡ is_some (among (types.entry_places (shown_type_node node.now)) search.old) }
+    ensures moved { search.new ≡ past (types.entry_places (shown_type_node node.now)) search.old }
+{
     match node {
         TypeNode::Defined(ty) => ty.kind_at(search),
-        TypeNode::Func(ty) => ty.kind_at(search),
+        TypeNode::Func(ty) => kind_in_signature(search, ty),
         TypeNode::Component(nodes) | TypeNode::Instance(nodes) => {
             if search.step() {
                 return Some(PlaceKind::Code);
@@ -246,7 +135,11 @@ fn kind_in_type(search: &mut Search, node: &TypeNode) -> Option<PlaceKind> {
 }
 
 #[cycle(kinds)]
-fn kind_in_declaration(search: &mut Search, node: &DeclNode) -> Option<PlaceKind> {
+#[tactic(auto, using(crate::proofs::KindFound::kinds, smith_read::proofs::ShownNodes::shown_nodes))]
+fn kind_in_declaration(search: &mut Search, node: &DeclNode) -> Option<PlaceKind>
+    ensures found { is_some result ≡ is_some (among (types.decl_places (shown_decl_node node.now)) search.old) }
+    ensures moved { search.new ≡ past (types.decl_places (shown_decl_node node.now)) search.old }
+{
     match node {
         DeclNode::Core(ty) => ty.kind_at(search),
         DeclNode::Type(ty) => kind_in_type(search, ty),
@@ -267,7 +160,12 @@ fn kind_in_declaration(search: &mut Search, node: &DeclNode) -> Option<PlaceKind
 }
 
 #[cycle(kinds)]
-fn kind_in_declarations(search: &mut Search, nodes: &[DeclNode]) -> Option<PlaceKind> {
+#[tactic(auto, using(crate::proofs::KindFound::kinds))]
+fn kind_in_declarations(search: &mut Search, nodes: &[DeclNode]) -> Option<PlaceKind>
+    ensures found { is_some result
+        ≡ is_some (among (types.decls_places (in_order (map shown_decl_node nodes.now))) search.old) }
+    ensures moved { search.new ≡ past (types.decls_places (in_order (map shown_decl_node nodes.now))) search.old }
+{
     for node in nodes {
         if search.step() {
             return Some(PlaceKind::Entry);
@@ -281,51 +179,26 @@ fn kind_in_declarations(search: &mut Search, nodes: &[DeclNode]) -> Option<Place
 }
 
 impl Places for TypeNode {
+    ghost Shown = { Entry };
+
+    ghost shown = { shown_type_node };
+
+    ghost places = { types.entry_places };
+
+    #[tactic(auto, using(crate::proofs::KindFound::kinds))]
     fn kind_at(&self, search: &mut Search) -> Option<PlaceKind> {
         kind_in_type(search, self)
-    }
-}
-
-impl Places for Func {
-    fn kind_at(&self, search: &mut Search) -> Option<PlaceKind> {
-        match self {
-            Func::CanonLift { .. } => kind_among(search, &[PlaceKind::Index, PlaceKind::Index]),
-            Func::CanonLower { .. } => kind_among(search, &[PlaceKind::Index]),
-        }
-    }
-}
-
-impl Places for ImportNode {
-    fn kind_at(&self, search: &mut Search) -> Option<PlaceKind> {
-        kind_among(
-            search,
-            &[PlaceKind::Name, PlaceKind::Sort, PlaceKind::Index],
-        )
-    }
-}
-
-impl Places for Export {
-    fn kind_at(&self, search: &mut Search) -> Option<PlaceKind> {
-        kind_among(search, &[PlaceKind::Name, PlaceKind::Index])
-    }
-}
-
-impl Places for FunctionNode {
-    fn kind_at(&self, search: &mut Search) -> Option<PlaceKind> {
-        self.ty.kind_at(search)
-    }
-}
-
-impl Places for MemoryNode {
-    fn kind_at(&self, search: &mut Search) -> Option<PlaceKind> {
-        kind_among(search, &[PlaceKind::Limits])
     }
 }
 
 // The sort of the place that is sought, or none if it is not inside.
 type Found = Result<Option<PlaceKind>, AllocError>;
 
-fn kind_in_module(alloc: Global, search: &mut Search, text: &[u8]) -> Found {
+#[tactic(auto, using(crate::proofs::KindFound::kinds))]
+fn kind_in_module(alloc: Global, search: &mut Search, text: &[u8]) -> Found
+    ensures found { IfOk result (λ r. is_some r ≡ is_some (among (parts.module_places text.now) search.old)) }
+    ensures moved { IfOk result (λ r. search.new ≡ past (parts.module_places text.now) search.old) }
+{
     match module_sections_of(alloc, text) {
         Ok(sections) => {
             let kind = kind_in_row(search, &sections.types);
@@ -340,7 +213,12 @@ fn kind_in_module(alloc: Global, search: &mut Search, text: &[u8]) -> Found {
 }
 
 #[cycle(kinds_of_parts)]
-fn kind_in_part(alloc: Global, search: &mut Search, node: &PartNode) -> Found {
+#[tactic(auto, using(crate::proofs::KindFound::kinds, crate::proofs::Nodes::part_nodes))]
+fn kind_in_part(alloc: Global, search: &mut Search, node: &PartNode) -> Found
+    ensures found { IfOk result (λ r. is_some r
+        ≡ is_some (among (parts.part_places (shown_part_node node.now)) search.old)) }
+    ensures moved { IfOk result (λ r. search.new ≡ past (parts.part_places (shown_part_node node.now)) search.old) }
+{
     match node {
         PartNode::Custom(_) => Ok(None),
         PartNode::CoreModule(text) => kind_in_module(alloc, search, text),
@@ -354,7 +232,13 @@ fn kind_in_part(alloc: Global, search: &mut Search, node: &PartNode) -> Found {
 }
 
 #[cycle(kinds_of_parts)]
-fn kind_in_parts(alloc: Global, search: &mut Search, nodes: &[PartNode]) -> Found {
+#[tactic(auto, using(crate::proofs::KindFound::kinds))]
+fn kind_in_parts(alloc: Global, search: &mut Search, nodes: &[PartNode]) -> Found
+    ensures found { let tree = tree_of (map shown_part_node nodes.now) in
+        IfOk result (λ r. is_some r ≡ is_some (among (parts.places tree) search.old)) }
+    ensures moved { let tree = tree_of (map shown_part_node nodes.now) in
+        IfOk result (λ r. search.new ≡ past (parts.places tree) search.old) }
+{
     for node in nodes {
         if search.step() {
             return Ok(Some(PlaceKind::Entry));
@@ -368,7 +252,10 @@ fn kind_in_parts(alloc: Global, search: &mut Search, nodes: &[PartNode]) -> Foun
 }
 
 /// The sort of the place that the change of that number is at; none if there is no such place.
-pub fn place_kind(alloc: Global, tree: &ComponentTree, number: usize) -> Found {
+pub fn place_kind(alloc: Global, tree: &ComponentTree, number: usize) -> Found
+    // There is one exactly for each change.
+    ensures { IfOk result (λ r. IsSome r ↔ (number < spec.changes (shown_tree tree.now))) }
+{
     let mut search = Search::Ahead(number / 16);
     kind_in_parts(alloc, &mut search, &tree.parts)
 }

@@ -11,6 +11,7 @@ pub mod laws;
 mod members;
 mod modules;
 mod parts;
+mod placed;
 mod rows;
 mod search;
 mod sections;
