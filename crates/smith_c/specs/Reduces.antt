@@ -15,7 +15,8 @@ use Rattle.smith_reduce.specs.declared.error.ReduceError.TheVariants as refusal
 use Rattle.smith_c.specs.Limits.{limits_of}
 use Rattle.smith_c.specs.declared.limits.Limits.{Limits}
 use Rattle.smith_c.specs.declared.status.Status.{Status}
-use Rattle.smith_c.specs.declared.status.Status.TheVariants.{Answered, Refused, NoRoom, BadFlag, IllFormed, Unread, NoScript, NoSmaller, Invalid, Bound, Outside, NoChange}
+use Rattle.smith_c.specs.declared.status.Status.TheVariants.{Answered, Refused, NoRoom, BadFlag, IllFormed, Unread, NoScript, NoSmaller, Invalid}
+use Rattle.smith_c.specs.declared.status.Status.TheVariants.{Bound, Outside, NoChange}
 
 -- This is the k-th of the components that have the property and are smaller by a step than the component of the bytes; none
 -- if there is no k-th.

@@ -14,7 +14,8 @@ use Rattle.smith_c.specs.Limits.{limits_of}
 use Rattle.smith_c.specs.Makes.{no_offset}
 use Rattle.smith_c.specs.declared.limits.Limits.{Limits}
 use Rattle.smith_c.specs.declared.status.Status.{Status}
-use Rattle.smith_c.specs.declared.status.Status.TheVariants.{Answered, Refused, NoRoom, BadFlag, IllFormed, Unread, NoScript, NoSmaller, Invalid, Bound, Outside, NoChange}
+use Rattle.smith_c.specs.declared.status.Status.TheVariants.{Answered, Refused, NoRoom, BadFlag, IllFormed, Unread, NoScript, NoSmaller, Invalid}
+use Rattle.smith_c.specs.declared.status.Status.TheVariants.{Bound, Outside, NoChange}
 
 -- This is the script, within the limits, of a component that the bytes spell.
 pub record Scripts (limits : Limits) (bytes script : List ℕ) : Type 0 where

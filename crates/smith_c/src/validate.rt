@@ -19,9 +19,9 @@ use std::alloc::Global;
 
 /// What the bytes are to validators of the standard, as `answer` of `smith_verdict` says.
 ///
-/// Returns the code of a `Status`: `Answered`, which is valid, `Invalid`, `Bound`, `Outside` or `OutOfMemory`. `rule` is
-/// the number of what is broken, of the bound, or of why nothing is known, and `offset` is where that was found, which is
-/// always known. If the bytes are valid or memory runs out, both are 2^64 - 1.
+/// Returns the code of a `Status`: `Answered`, which is valid, `Invalid`, `Bound`, `Outside` or `OutOfMemory`. `rule`
+/// is the number of what is broken, of the bound, or of why nothing is known, and `offset` is where that was found,
+/// which is always known. If the bytes are valid or memory runs out, both are 2^64 - 1.
 #[unsafe(no_mangle)]
 pub extern "C" fn lupinanon_proved_validate(
     alloc: Global,

@@ -23,11 +23,15 @@ use Rattle.smith_change.proofs.DifferingTypes.{code_same, core_value_same, funct
 limits_same : (s s2 w w2 : Bool) (n n2 : ℕ) (m m2 : Option ℕ) → limits s w n m ≡ limits s2 w2 n2 m2 → (s ≡ s2) × (w ≡ w2) × (n ≡ n2) × (m ≡ m2)
 limits_same s s2 w w2 n n2 m m2 e = (cc, cc, cc, cc)
 
+pub memories_same : (m n : MemoryType) → limits m.shared m.memory64 m.minimum m.maximum ≡ limits n.shared n.memory64 n.minimum n.maximum → m ≡ n
+memories_same m n s =
+    let same = limits_same m.shared n.shared m.memory64 n.memory64 m.minimum n.minimum m.maximum n.maximum s in
+    λ i. record { shared = same.0 i; memory64 = same.1 i; minimum = same.2 i; maximum = same.3 i }
+
 memories_differ : (m n : MemoryType) → Differ (entity_tokens (Memory m)) (entity_tokens (Memory n)) (Memory m ≡ Memory n)
 memories_differ m n =
     one_token (code 0x02 ∷ []) [] (limits m.shared m.memory64 m.minimum m.maximum) (limits n.shared n.memory64 n.minimum n.maximum)
-    (λ s. let same = limits_same m.shared n.shared m.memory64 n.memory64 m.minimum n.minimum m.maximum n.maximum s in
-    λ i. Memory (record { shared = same.0 i; memory64 = same.1 i; minimum = same.2 i; maximum = same.3 i }))
+    (λ s. ap Memory (memories_same m n s))
 
 -- tables of the same element
 tables_differ : (t u : TableType) → u.element_type ≡ t.element_type → Differ (entity_tokens (Table t)) (entity_tokens (Table u)) (Table t ≡ Table u)

@@ -19,7 +19,13 @@ use Rattle.smith_change.specs.Members.{defined_changed, signature_changed}
 use Rattle.smith_change.specs.Parts.{canon_changed, canon_places, canons_changed, core_types_changed, export_again, export_changed, export_places}
 use Rattle.smith_change.specs.Parts.{exports_changed}
 use Rattle.smith_change.specs.Parts.{import_again, import_changed, import_places, imports_changed, module_changed, part_changed, part_places, sections_changed}
-use Rattle.smith_change.specs.Parts.{types_changed}
+use Rattle.smith_change.specs.Parts.{functions_changed, functions_places, memories_changed, memory_changed, memory_places, stand_in_changed, types_changed}
+use Rattle.smith_core.specs.StandInText.{StandIn}
+use Rattle.smith_format.specs.declared.types.MemoryType.{MemoryType}
+use Rattle.smith_change.specs.CoreTypes.{function_changed, function_places}
+use Rattle.smith_change.specs.Tokens.{function_tokens, limits, memory_tokens, stand_in_tokens}
+use Rattle.smith_change.proofs.DifferingTypes.{function_differs}
+use Rattle.smith_change.proofs.DifferingCores.{memories_same}
 use Rattle.smith_change.specs.Rows.{entry_alternative, in_turn, unnamed}
 use Rattle.smith_change.specs.Tokens.{Token, canon_tokens, code, core_tokens, count, decl_tokens, decls_tokens, entry_tokens, export_tokens, extern_tokens}
 use Rattle.smith_change.specs.Tokens.{import_tokens, index, list_tokens, name, part_tokens, raw, sections_tokens, sort_code, tokens}
@@ -234,6 +240,26 @@ export_differs a k x y e =
     rw (sym m.2) (one_token [] (index x.func ∷ []) (name x.name) (name m.0) (λ s. ap (λ n. record x { name = n }) (name_same x.name m.0 s))))
     (λ j h. let m = map_cases (λ i. record x { func = i }) (index_alternative a x.func) y h in
     rw (sym m.2) (one_token (name x.name ∷ []) [] (index x.func) (index m.0) (λ s. ap (λ i. record x { func = i }) (index_same x.func m.0 s))))
+
+memory_differs : (a k : ℕ) (x y : MemoryType) → memory_changed a k x ≡ Some y → Differ (memory_tokens x) (memory_tokens y) (x ≡ y)
+memory_differs a k x y e =
+    one_token [] [] (limits x.shared x.memory64 x.minimum x.maximum) (limits y.shared y.memory64 y.minimum y.maximum) (memories_same x y)
+
+-- the function types and the memories of a core module
+pub stand_in_differs : (a k : ℕ) (s y : StandIn) → stand_in_changed a k s ≡ Some y → Differ (stand_in_tokens s) (stand_in_tokens y) (s ≡ y)
+stand_in_differs a k s y e =
+    by_turn (functions_places s.types) (λ j. option_map (λ ts. record s { types = ts }) (functions_changed a j s.types))
+    (λ j. option_map (λ ms. record s { memories = ms }) (memories_changed a j s.memories)) k y e
+    (λ j h. let m = map_cases (λ ts. record s { types = ts }) (functions_changed a j s.types) y h in
+    rw (sym m.2)
+    (ahead (list_tokens memory_tokens s.memories) (so (λ same. ap (λ ts. record s { types = ts }) same)
+    (list_differs function_tokens s.types m.0
+    (row_differs function_tokens function_places function_changed unnamed a (function_differs a) j s.types m.0 m.1)))))
+    (λ j h. let m = map_cases (λ ms. record s { memories = ms }) (memories_changed a j s.memories) y h in
+    rw (sym m.2)
+    (behind (list_tokens function_tokens s.types) (so (λ same. ap (λ ms. record s { memories = ms }) same)
+    (list_differs memory_tokens s.memories m.0
+    (row_differs memory_tokens memory_places memory_changed unnamed a (memory_differs a) j s.memories m.0 m.1)))))
 
 raw_same : (x y : List ℕ) → raw x ≡ raw y → x ≡ y
 raw_same x y e = cc

@@ -1,24 +1,23 @@
 -- The alternatives of what is of the grammar are of the grammar.
-use Rattle.std.proofs.Common.{◌≡◌, ℕ, ◌+◌, ◌-◌, ◌^◌, ◌<◌, ◌≤◌, Bool, true, false, not, Option, Some, None, ap, arith, sym, refl, ◌∙◌, nat_lt, ⊎_elim, ◌⊎◌, inl, inr, rules}
-use Rattle.std.proofs.Common.{List, [], ◌∷◌, ◌++◌, codes}
+use Rattle.std.proofs.Common.{◌≡◌, ℕ, ◌+◌, ◌-◌, ◌^◌, ◌<◌, ◌≤◌, Bool, true, false, not, Option, Some, None, ap, arith, sym, refl, nat_lt, ⊎_elim}
+use Rattle.std.proofs.Common.{inl, inr, rules}
+use Rattle.std.proofs.Common.{List, [], ◌++◌, codes}
 use Rattle.std.proofs.lemmas.Bool.{eqb-false, ltb-true}
 use Rattle.std.proofs.lemmas.Str.{IsUtf8-append, IsUtf8-nil, IsUtf8-from_ascii}
 use Rattle.std.specs.Prelude.{if◌then◌else◌, ◌==◌}
 use Rattle.std.specs.Option.{option_map}
 use Rattle.std.specs.Str.{IsUtf8}
-use Rattle.smith_format.specs.TooLong.{IsTooLarge, LimitsTooLong, MaximumTooLong, MemoryTypeTooLong, TableTypeTooLong}
+use Rattle.smith_format.specs.TooLong.{IsTooLarge, LimitsTooLong, MemoryTypeTooLong, TableTypeTooLong}
 use Rattle.smith_format.specs.declared.types.MemoryType.{MemoryType}
 use Rattle.smith_format.specs.declared.types.TableType.{TableType}
-use Rattle.smith_syntax.specs.TooLong.{ComponentValTooLong, TypeRefTooLong}
-use Rattle.smith_syntax.specs.declared.deftype.ComponentTypeRef.{ComponentTypeRef}
-use Rattle.smith_syntax.specs.declared.deftype.ComponentTypeRef.TheVariants as to
+use Rattle.smith_syntax.specs.TooLong.{ComponentValTooLong}
 use Rattle.smith_syntax.specs.declared.types.ComponentValType.{ComponentValType}
 use Rattle.smith_syntax.specs.declared.types.ComponentValType.TheVariants.{Primitive, Indexed}
-use Rattle.smith_syntax.specs.declared.types.PrimitiveValType.{PrimitiveValType}
 use Rattle.smith_syntax.specs.declared.types.PrimitiveValType.TheVariants as prim
-use Rattle.smith_change.specs.Alternatives.{above, below, bounds_alternative, index_alternative, indexed_alternative, memory_alternative, most_bound, most_index}
-use Rattle.smith_change.specs.Alternatives.{name_alternative, one_less, one_more, other_maximum, ref_index, sort_alternative, table_alternative, value_alternative}
-use Rattle.smith_change.specs.Alternatives.{with_index}
+use Rattle.smith_change.specs.Alternatives.{above, below, bounds_alternative, index_alternative, indexed_alternative, memory_alternative, most_bound}
+use Rattle.smith_change.specs.Alternatives.{most_index}
+use Rattle.smith_change.specs.Alternatives.{name_alternative, one_less, one_more, other_maximum, table_alternative}
+use Rattle.smith_change.specs.Alternatives.{value_alternative}
 use Rattle.smith_change.proofs.Differing.{if_cases, map_cases, only_is}
 
 -- numbers

@@ -7,7 +7,6 @@ pub mod Miswritten
 pub mod Modules
 pub mod Owners
 pub mod Parts
-pub mod Placing
 pub mod Refusals
 pub mod Rows
 pub mod Search

@@ -4,8 +4,10 @@ use Rattle.std.specs.List.{flat_map}
 use Rattle.smith_format.specs.CoreTypes.{Function}
 use Rattle.smith_format.specs.declared.types.EntityType.{EntityType}
 use Rattle.smith_format.specs.declared.types.EntityType.TheVariants.{Func, Table, Memory, Global, Tag}
+use Rattle.smith_format.specs.declared.types.MemoryType.{MemoryType}
 use Rattle.smith_format.specs.declared.types.RefType.{RefType}
 use Rattle.smith_format.specs.declared.types.ValType.{ValType}
+use Rattle.smith_core.specs.StandInText.{StandIn}
 use Rattle.smith_syntax.specs.Entries.{Case, CoreEntry, Decl, Decls, DefValType, Entry, Field, ImportEntry, ModuleDecl, Signature, decl_count}
 use Rattle.smith_syntax.specs.Entries.{aliases, core_func, declares, exports as module_export, imports as module_import}
 use Rattle.smith_syntax.specs.Entries as entry
@@ -125,6 +127,14 @@ abbrev mutual
   pub decls_tokens : Decls → List Token
   decls_tokens entry.no_decls = []
   decls_tokens (entry.then_decls d ds) = decl_tokens d ++ decls_tokens ds
+
+-- core modules of the two sections that are generated (core specification, Binary Format, Modules)
+
+abbrev pub memory_tokens : MemoryType → List Token
+memory_tokens m = limits m.shared m.memory64 m.minimum m.maximum ∷ []
+
+abbrev pub stand_in_tokens : StandIn → List Token
+stand_in_tokens s = list_tokens function_tokens s.types ++ list_tokens memory_tokens s.memories
 
 -- sections (Binary.md, component definitions)
 

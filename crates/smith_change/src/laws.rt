@@ -13,7 +13,8 @@ ghost use Rattle.smith_tree.specs.Tree.{Tree};
 ghost use Rattle.smith_change.specs.Alternatives.{index_alternative, memory_alternative, name_alternative};
 ghost use Rattle.smith_change.specs.Alternatives.{table_alternative, value_alternative};
 ghost use Rattle.smith_change.specs.Changes.{changed, changes};
-ghost use Rattle.smith_change.specs.Differs.{DiffersInOneList, DiffersInOneToken};
+ghost use Rattle.smith_change.specs.Differs.{DiffersInOneList, DiffersInOneToken, IsModuleChange};
+ghost use Rattle.smith_change.specs.Parts.{module_changed};
 
 /// From the number of changes on, no number leads to anything.
 #[tactic(auto, using(crate::proofs::Beyond::changed_beyond))]
@@ -40,8 +41,9 @@ pub fn changes_are_spelled_or_too_long()
         → ((c : List ℕ) × Spells r c) ⊎ TreeTooLong r }
 {}
 
-/// The alternatives of an index, a value type, limits or a name that has an encoding have one too: a number is too great
-/// only if it was before, and a name is UTF-8. So what a change leads to is too long only by its counts and lengths.
+/// The alternatives of an index, a value type, limits or a name that has an encoding have one too: a number is too
+/// great only if it was before, and a name is UTF-8. So what a change leads to is too long only by its counts and
+/// lengths.
 #[tactic(auto, using(crate::proofs::Grammatical::alternatives))]
 pub fn alternatives_are_of_the_grammar()
     ensures indexes { (a i j : ℕ) → index_alternative a i ≡ Some j → IsTooLarge j → IsTooLarge i }
@@ -49,6 +51,13 @@ pub fn alternatives_are_of_the_grammar()
         → ComponentValTooLong w → ComponentValTooLong v }
     ensures memories { (a : ℕ) (m n : MemoryType) → memory_alternative a m ≡ Some n
         → MemoryTypeTooLong n → MemoryTypeTooLong m }
-    ensures tables { (a : ℕ) (t u : TableType) → table_alternative a t ≡ Some u → TableTypeTooLong u → TableTypeTooLong t }
+    ensures tables { (a : ℕ) (t u : TableType) → table_alternative a t ≡ Some u
+        → TableTypeTooLong u → TableTypeTooLong t }
     ensures names { (a : ℕ) (n m : List ℕ) → name_alternative a n ≡ Some m → IsUtf8 n → IsUtf8 m }
+{}
+
+/// A core module with one of its places changed differs in one token, or by one edit of one list, of its two sections.
+#[tactic(auto, using(crate::proofs::Others::modules_differ))]
+pub fn changes_of_modules_are_of_one_token_or_list()
+    ensures { (a k : ℕ) (text new : List ℕ) → module_changed a k text ≡ Some new → IsModuleChange text new }
 {}

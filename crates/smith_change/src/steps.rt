@@ -45,7 +45,9 @@ fn place_count(alloc: Global, tree: &ComponentTree) -> Result<usize, AllocError>
     }
 }
 
-/// How many changes a component has: the numbers below this, of which not all lead to something, and no other.
+/// How many changes a component has: from this number on none leads to anything, and below it not all do.
+///
+/// It takes time and memory in proportion to the component.
 pub fn changes(alloc: Global, tree: &ComponentTree) -> Result<usize, AllocError>
     ensures { IfOk result (λ n. n ≡ spec.changes (shown_tree tree.now)) }
 {
@@ -94,7 +96,37 @@ fn is_same(first: &Option<Vec<u8>>, second: &Option<Vec<u8>>) -> bool
     }
 }
 
-/// The component with one token or one list of entries changed; none if that change leads to nothing.
+/// The component after the change of that number; none if that leads to nothing.
+///
+/// The number is 16 times that of a place, in the order of the bytes, from 0, and the number of one of its
+/// alternatives. A change leads to nothing if there is no such place or alternative, or if that is what stands there.
+/// Nothing else changes: no index is renumbered. These are places, with their alternatives:
+///
+/// - a section, an entry of one, a declaration, a member, a parameter, a core parameter or result: 0 left out,
+///   1 doubled, 2 exchanged with the next, 3 doubled with the name `again`, the second of a module import's two.
+/// - all members of a type, or all parameters of a function: 0 none, 1 filled up with `x0`, `x1`, .. of `u32` to as
+///   many as may be (100, of flags 32, of parameters 16), 2 to one more.
+/// - an index, or a count of scopes: 0 one less, 1 one more, 2 4,294,967,295, 3 zero.
+/// - a value type: 0 to 3 its index as that, where a primitive type has only 2 and 3; 4 `string`, 5 `u64`.
+/// - whether there is a value type: 0 none, or `u32`.
+/// - a name, but in types of core modules: 0 empty, with `-` (1), `--a` (2), `_` (3) or `-b1` (5) at its end, or with
+///   `1` in front (4).
+/// - what an import or an export is of: 0 module, 1 function, 2 equal type, 3 component, 4 instance.
+/// - a code: 0 the other of list and option, flags and enum, component type and instance type, import and export,
+///   alias of a type and of a core type, function and tag, memory and table of functions. An instance type that would
+///   import is none, nor is a table of a shared memory. Of a primitive type 0 `string`, 1 `u32`.
+/// - a core value type: 0 `i32`, or `i64` of it. All core results: 0 `i32` after them.
+/// - limits: 0 the minimum one above the maximum, 1 the maximum one below the minimum, if there is a maximum; 2 no
+///   maximum, or the minimum as one; 3 the minimum, 4 the maximum past all that 32 bits allow (65,537 pages, or
+///   4,294,967,296 elements); 5 shared or not, of a memory; 6 of 64 bits or not.
+/// - the elements of a table, and whether a global is mutable: 0 the other.
+///
+/// The place of an entry is before the places inside it, a code before what follows it, whether there is a value type
+/// before that, and of an import or export the name, the sort and the index follow one another. Custom sections have no
+/// places inside, and a core module has some only if it has no sections but the two that are generated: its function
+/// types and its memories are entries, and the sections themselves are not.
+///
+/// It takes time and memory in proportion to the component, and stack in proportion to its depth.
 pub fn changed(alloc: Global, tree: &ComponentTree, number: usize) -> Changed<ComponentTree>
     ensures { IfOk result (λ r. option_map shown_tree r ≡ spec.changed number (shown_tree tree.now)) }
 {
@@ -174,7 +206,7 @@ pub fn changed_bytes(
 }
 
 /// The first change from that number on that leads to a component other than the one that these bytes are, and its
-/// bytes. There is none if no change from there on leads to one.
+/// bytes. There is none if no change from there on leads to one. Changes are numbered as [`changed`] numbers them.
 ///
 /// Each change from that number up to the one that is returned takes time in proportion to the bytes.
 pub fn next_changed(alloc: Global, bytes: &[u8], from: usize) -> Result<Option<Step>, ChangeError>

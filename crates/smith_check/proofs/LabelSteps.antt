@@ -44,5 +44,6 @@ module _ (c : ℕ) (cs : List ℕ) where
       (λ (w : BeginsWith AreInWord (c ∷ cs)). ⊎_elim (λ (h : (c ≡ 45) × BeginsWith IsFragment cs). absurd (hyphen h.0))
       (λ (m : (IsLetter c ⊎ IsDigit c) × BeginsWith AreInWord cs). ⊎_elim (λ l. inl (l, m.1)) (λ (d : IsDigit c). absurd (digit d)) m.0) (small_goes c cs w))
       (λ (a : BeginsWith AreInAcronym (c ∷ cs)). ⊎_elim (λ (h : (c ≡ 45) × BeginsWith IsFragment cs). absurd (hyphen h.0))
-      (λ (m : (IsCapital c ⊎ IsDigit c) × BeginsWith AreInAcronym cs). ⊎_elim (λ l. inr (l, m.1)) (λ (d : IsDigit c). absurd (digit d)) m.0) (capital_goes c cs a))
+      (λ (m : (IsCapital c ⊎ IsDigit c) × BeginsWith AreInAcronym cs). ⊎_elim (λ l. inr (l, m.1)) (λ (d : IsDigit c). absurd (digit d)) m.0)
+      (capital_goes c cs a))
       b

@@ -6,7 +6,8 @@ use Rattle.smith_syntax.specs.Possible.{PossibleName, PossibleNames}
 use Rattle.smith_syntax.specs.Scope.{Scope}
 use Rattle.smith_tree.specs.Possible.{Possible, PossiblePart, PossibleParts, after_possible_part}
 use Rattle.smith_tree.specs.Spaces.{Spaces}
-use Rattle.smith_tree.specs.Tree.{ExportEntry, Part, Tree, add, canons, component, core_module, core_types, custom, ends, exports, exports_in, exports_of, first, imports}
+use Rattle.smith_tree.specs.Tree.{ExportEntry, Part, Tree, add, canons, component, core_module, core_types, custom, ends, exports, exports_in}
+use Rattle.smith_tree.specs.Tree.{exports_of, first, imports}
 use Rattle.smith_tree.specs.Tree.{imports_in, imports_of, types}
 use Rattle.smith_tree.specs.WellFormed.{export_names, import_names}
 use Rattle.smith_tree.proofs.Possible.{imports_same}
@@ -84,7 +85,8 @@ import_row = record {
       let n = names_less s.imports x.name (import_names xs) f.1 in
       (((f.0.0, tt), front_of (PossibleName true) (s.imports ++ x.name ∷ []) (import_names xs) n), (f.0.1, n));
   more_after = λ s x xs.
-      ap (λ l. record s { spaces = after_possible_part s.spaces (imports (x ∷ xs)); imports = l }) (sym (append_assoc s.imports (x.name ∷ []) (import_names xs)));
+      ap (λ l. record s { spaces = after_possible_part s.spaces (imports (x ∷ xs)); imports = l })
+      (sym (append_assoc s.imports (x.name ∷ []) (import_names xs)));
 }
 
 export_row : IsRow exports
@@ -132,10 +134,12 @@ names_after p s before h = record {
     more_exports q = sym (ap export_names (own-add exports_in before q) ∙ map-append (λ e. e.name) (exports_of before) (exports_in q))
 
     no_imports : (q : Part) → import_names (imports_in q) ≡ [] → s.imports ≡ import_names (imports_of (add before q))
-    no_imports q e = h.imports ∙ sym (append-nil (import_names (imports_of before))) ∙ ap (λ ns. import_names (imports_of before) ++ ns) (sym e) ∙ more_imports q
+    no_imports q e = h.imports ∙ sym (append-nil (import_names (imports_of before))) ∙ ap (λ ns. import_names (imports_of before) ++ ns) (sym e)
+        ∙ more_imports q
 
     no_exports : (q : Part) → export_names (exports_in q) ≡ [] → s.exports ≡ export_names (exports_of (add before q))
-    no_exports q e = h.exports ∙ sym (append-nil (export_names (exports_of before))) ∙ ap (λ ns. export_names (exports_of before) ++ ns) (sym e) ∙ more_exports q
+    no_exports q e = h.exports ∙ sym (append-nil (export_names (exports_of before))) ∙ ap (λ ns. export_names (exports_of before) ++ ns) (sym e)
+        ∙ more_exports q
 
     imported : (q : Part) → (after_may s q).imports ≡ import_names (imports_of (add before q))
     imported (imports is) = ap (λ ns. ns ++ import_names is) h.imports ∙ more_imports (imports is)

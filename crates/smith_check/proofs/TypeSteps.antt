@@ -1,5 +1,6 @@
 -- Declarations and members one by one.
-use Rattle.std.proofs.Common.{◌≡◌, ℕ, ◌+◌, ◌<◌, ◌≤◌, List, [], ◌∷◌, ◌++◌, length, map, get_or, take, refl, sym, ap, ◌∙◌, subst, arith, Option, Some, true, false}
+use Rattle.std.proofs.Common.{◌≡◌, ℕ, ◌+◌, ◌<◌, ◌≤◌, List, [], ◌∷◌, ◌++◌, length, map, get_or, take, refl, sym, ap, ◌∙◌, subst, arith, Option, Some}
+use Rattle.std.proofs.Common.{true, false}
 use Rattle.std.proofs.Common.{append-nil, append_assoc, bytes_eq}
 use Rattle.std.proofs.Math.ListN.{drop}
 use Rattle.std.proofs.lemmas.List.{length-map, map_more, take_more, map-append, take-append-drop}
@@ -18,7 +19,8 @@ use Rattle.smith_check.specs.Taken.{Knows, KnowsDeclared, NamedDeclared, exporte
 use Rattle.smith_check.specs.declared.types.DeclaredNames.{DeclaredNames}
 use Rattle.smith_syntax.specs.Scope.{Scope, after_decl}
 use Rattle.smith_syntax.specs.Possible.{PossibleDeclaration, PossibleDeclarations, PossibleDefined, PossibleEntry, PossibleNames, after_possible}
-use Rattle.smith_syntax.specs.WellFormed.{FormedDeclaration, FormedDeclarations, FormedDefined, FormedEntry, FormedMaybe, FormedVal, Named, decl_exports, decl_imports, export_of, import_of, names}
+use Rattle.smith_syntax.specs.WellFormed.{FormedDeclaration, FormedDeclarations, FormedDefined, FormedEntry, FormedMaybe, FormedVal, Named}
+use Rattle.smith_syntax.specs.WellFormed.{decl_exports, decl_imports, export_of, import_of, names}
 use Rattle.smith_syntax.specs.declared.types.ComponentValType.{ComponentValType}
 use Rattle.smith_read.specs.TypeNodes.{shown_decl_node}
 use Rattle.smith_read.specs.declared.type_nodes.DeclNode.{DeclNode}
@@ -176,7 +178,8 @@ pub declarations_at : (ds : List DeclNode) (i : ℕ) (d : DeclNode) (own : Scope
     → PossibleDeclarations (in_order (map shown_decl_node (drop i ds))) own outer
     → PossibleDeclaration (shown_decl_node d) own outer
     × PossibleDeclarations (in_order (map shown_decl_node (drop (i + 1) ds))) (after_possible outer own (shown_decl_node d)) outer
-declarations_at ds i d own outer h e p = subst (λ (ys : List DeclNode). PossibleDeclarations (in_order (map shown_decl_node ys)) own outer) (rest_at ds i d h e) p
+declarations_at ds i d own outer h e p =
+    subst (λ (ys : List DeclNode). PossibleDeclarations (in_order (map shown_decl_node ys)) own outer) (rest_at ds i d h e) p
 
 -- What is judged of declarations up to a place, and one more.
 module _ (ds : List DeclNode) (i : ℕ) (d : DeclNode) (h : i < length ds) (e : d ≡ get_or ds i d) (own : Scope) (outer : List Scope)

@@ -83,8 +83,8 @@ pub enum Asker {
     Lupinanon,
 }
 
-/// Why a component is not well formed: the first rule that it breaks, who asks it, and the number of the item that breaks
-/// it. Which rule it is, no contract says.
+/// Why a component is not well formed: the first rule that it breaks, who asks it, and the number of the item that
+/// breaks it. Which rule it is, no contract says.
 ///
 /// Items count from 0, in the order of the bytes: each custom section, each core module, the beginning of each
 /// component in this one, and each entry of a section that is a list.

@@ -68,7 +68,8 @@ fn check_count(count: usize, most: usize) -> Checked
 
 // Checks the names of flags or enums, from 1 to `most`.
 fn check_labels(alloc: Global, items: &[String], most: usize) -> Checked
-    ensures judged { Judges result (Named (map string_bytes items.now) × (1 ≤ length items.now) × (length items.now ≤ most)) }
+    ensures judged { Judges result
+        (Named (map string_bytes items.now) × (1 ≤ length items.now) × (length items.now ≤ most)) }
     ensures graded { Grades result (PossibleNames false (map string_bytes items.now) × (1 ≤ length items.now)) }
 {
     check_count(items.len(), most)?;
@@ -77,7 +78,8 @@ fn check_labels(alloc: Global, items: &[String], most: usize) -> Checked
 
 // Checks the names of flags, from 1 to 32.
 fn check_flags(alloc: Global, items: &[String]) -> Checked
-    ensures judged { Judges result (Named (map string_bytes items.now) × (1 ≤ length items.now) × (length items.now ≤ 32)) }
+    ensures judged { Judges result
+        (Named (map string_bytes items.now) × (1 ≤ length items.now) × (length items.now ≤ 32)) }
     ensures graded { Grades result
         (PossibleNames false (map string_bytes items.now) × (1 ≤ length items.now) × (length items.now ≤ 32)) }
 {

@@ -1,5 +1,6 @@
 -- What is well formed is possible.
-use Rattle.std.proofs.Common.{◌≡◌, ◌⊎◌, inl, inr, ⊎_elim, ℕ, zero, suc, ◌≤◌, Bool, true, false, List, [], ◌∷◌, ◌++◌, length, map, Option, Some, None, refl, sym, ap, ◌∙◌, subst, arith}
+use Rattle.std.proofs.Common.{◌≡◌, ◌⊎◌, inl, inr, ⊎_elim, ℕ, zero, suc, ◌≤◌, Bool, true, false, List, [], ◌∷◌, ◌++◌, length, map, Option, Some, None}
+use Rattle.std.proofs.Common.{refl, sym, ap, ◌∙◌, subst, arith}
 use Rattle.std.proofs.Common.{append-nil}
 use Rattle.std.specs.List.{AllByRecursion}
 use Rattle.std.specs.Option.{option_to_list}
@@ -12,12 +13,15 @@ use Rattle.smith_format.specs.declared.types.MemoryType.{MemoryType}
 use Rattle.smith_format.specs.declared.types.TableType.{TableType}
 use Rattle.smith_input.specs.Kebab.{Kebab}
 use Rattle.smith_syntax.specs.Entries.{CoreEntry, Decl, Decls, DefValType, Entry, ModuleDecl, aliases, component_type, core_func, core_module, core_type_alias}
-use Rattle.smith_syntax.specs.Entries.{core_type_decl, declares, defined, enum_type, export_decl, exports, flags_type, function, import_decl, imports, instance_type}
-use Rattle.smith_syntax.specs.Entries.{list_type, no_decls, option_type, primitive_type, record_type, result_type, then_decls, tuple_type, type_alias, type_decl}
+use Rattle.smith_syntax.specs.Entries.{core_type_decl, declares, defined, enum_type, export_decl, exports, flags_type, function, import_decl, imports}
+use Rattle.smith_syntax.specs.Entries.{instance_type}
+use Rattle.smith_syntax.specs.Entries.{list_type, no_decls, option_type, primitive_type, record_type, result_type, then_decls, tuple_type, type_alias}
+use Rattle.smith_syntax.specs.Entries.{type_decl}
 use Rattle.smith_syntax.specs.Entries.{variant_type}
 use Rattle.smith_syntax.specs.ModuleTypes.{adds}
 use Rattle.smith_syntax.specs.Possible.{PossibleCore, PossibleCores, PossibleDecl, PossibleDeclaration, PossibleDeclarations, PossibleDefined, PossibleEntity}
-use Rattle.smith_syntax.specs.Possible.{PossibleEntry, PossibleLimits, PossibleMemory, PossibleModule, PossibleName, PossibleNames, PossibleTable, PossibleTypes}
+use Rattle.smith_syntax.specs.Possible.{PossibleEntry, PossibleLimits, PossibleMemory, PossibleModule, PossibleName, PossibleNames, PossibleTable}
+use Rattle.smith_syntax.specs.Possible.{PossibleTypes}
 use Rattle.smith_syntax.specs.Possible.{after_possible, is_beyond}
 use Rattle.smith_syntax.specs.Scope.{Scope, after_decl, exported_type, with_core_type, with_type, with_types}
 use Rattle.smith_syntax.specs.WellFormed.{FormedCore, FormedCores, FormedDecl, FormedDeclaration, FormedDeclarations, FormedDecls, FormedDefined, FormedEntity}
@@ -76,7 +80,8 @@ never_beyond around own (imports m n e) f = refl
 never_beyond around own (declares g) f = refl
 never_beyond around own (exports n e) f = refl
 
-module_possible : (around : List CoreEntry) (far : ℕ) (own : List Function) (ds : List ModuleDecl) → FormedDecls around own ds → PossibleModule around far own ds
+module_possible : (around : List CoreEntry) (far : ℕ) (own : List Function) (ds : List ModuleDecl)
+    → FormedDecls around own ds → PossibleModule around far own ds
 module_possible around far own [] f = tt
 module_possible around far own (d ∷ ds) f =
     (decl_possible around far own d f.0, λ b. module_possible around far (own ++ adds around own d) ds f.1)

@@ -1,7 +1,8 @@
 -- What the standard asks of types and core types, with no bound and no choice of Lupinanon's own (Explainer.md, type and core type
 -- definitions, index spaces; core specification, memory and table types). What is well formed is possible; what is not possible is
 -- invalid for every validator.
-use Rattle.std.specs.Prelude.{◌≡◌, ◌⊎◌, ℕ, zero, suc, ◌<◌, ◌≤◌, Bool, true, false, List, [], ◌∷◌, ◌++◌, map, length, Option, IfSome, Some, slice_get, bytes_eq, codes, nat_eq}
+use Rattle.std.specs.Prelude.{◌≡◌, ◌⊎◌, ℕ, zero, suc, ◌<◌, ◌≤◌, Bool, true, false, List, [], ◌∷◌, ◌++◌, map, length, Option, IfSome, Some, slice_get}
+use Rattle.std.specs.Prelude.{bytes_eq, codes, nat_eq}
 use Rattle.std.specs.List.{AllByRecursion, IsDistinct, list_any}
 use Rattle.std.specs.Option.{is_some, option_to_list}
 use Rattle.smith_format.specs.CoreTypes.{Function}
@@ -9,9 +10,12 @@ use Rattle.smith_format.specs.declared.types.EntityType.{EntityType}
 use Rattle.smith_format.specs.declared.types.EntityType.TheVariants.{Func, Global, Memory, Table, Tag}
 use Rattle.smith_format.specs.declared.types.MemoryType.{MemoryType}
 use Rattle.smith_format.specs.declared.types.TableType.{TableType}
-use Rattle.smith_syntax.specs.Entries.{CoreEntry, Decl, DeclOf, Decls, DefValType, Entry, ModuleDecl, aliases, component_type, core_func, core_module, core_type_alias}
-use Rattle.smith_syntax.specs.Entries.{core_type_decl, declares, defined, enum_type, export_decl, exports, flags_type, function, import_decl, imports, instance_type}
-use Rattle.smith_syntax.specs.Entries.{list_type, no_decls, option_type, primitive_type, record_type, result_type, then_decls, tuple_type, type_alias, type_decl}
+use Rattle.smith_syntax.specs.Entries.{CoreEntry, Decl, DeclOf, Decls, DefValType, Entry, ModuleDecl, aliases, component_type, core_func, core_module}
+use Rattle.smith_syntax.specs.Entries.{core_type_alias}
+use Rattle.smith_syntax.specs.Entries.{core_type_decl, declares, defined, enum_type, export_decl, exports, flags_type, function, import_decl, imports}
+use Rattle.smith_syntax.specs.Entries.{instance_type}
+use Rattle.smith_syntax.specs.Entries.{list_type, no_decls, option_type, primitive_type, record_type, result_type, then_decls, tuple_type, type_alias}
+use Rattle.smith_syntax.specs.Entries.{type_decl}
 use Rattle.smith_syntax.specs.Entries.{variant_type}
 use Rattle.smith_syntax.specs.Labels.{IsLabel}
 use Rattle.smith_syntax.specs.ModuleTypes.{HasNewNames, adds, func_in}

@@ -1,5 +1,6 @@
 -- A component that is well formed is possible.
-use Rattle.std.proofs.Common.{◌≡◌, ℕ, Bool, true, false, ◌&&◌, ◌||◌, not, List, [], ◌∷◌, ◌++◌, map, Option, Some, None, refl, sym, ap, ◌∙◌, subst, fold, append-nil, length, arith}
+use Rattle.std.proofs.Common.{◌≡◌, ℕ, Bool, true, false, ◌&&◌, ◌||◌, not, List, [], ◌∷◌, ◌++◌, map, Option, Some, None, refl, sym, ap, ◌∙◌, subst}
+use Rattle.std.proofs.Common.{fold, append-nil, length, arith}
 use Rattle.std.proofs.lemmas.List.Folds.{list_any-append}
 use Rattle.std.specs.List.{AllByRecursion, list_all, list_any}
 use Rattle.std.specs.Option.{is_some, option_to_list}
@@ -14,7 +15,8 @@ use Rattle.smith_syntax.proofs.Possible.{adds_none, cores_possible, named_possib
 use Rattle.smith_tree.specs.Possible.{NeedsMemory, Possible, PossibleCanon, PossibleCanons, PossibleImports, PossiblePart, PossibleParts, SameFlat}
 use Rattle.smith_tree.specs.Possible.{after_possible_import, after_possible_part, needs_memory, scope_in, values_of}
 use Rattle.smith_tree.specs.Spaces.{Spaces, after_canon, after_import, after_part, spaces_of}
-use Rattle.smith_tree.specs.Tree.{Canon, Part, Tree, add, canons, component, core_module, core_types, custom, ends, exports, exports_of, first, imports, imports_of}
+use Rattle.smith_tree.specs.Tree.{Canon, Part, Tree, add, canons, component, core_module, core_types, custom, ends, exports, exports_of, first}
+use Rattle.smith_tree.specs.Tree.{imports, imports_of}
 use Rattle.smith_tree.specs.Tree.{lift, lower, types}
 use Rattle.smith_tree.specs.WellFormed.{Formed, FormedCanon, FormedCanons, FormedImport, FormedPart, WellFormed, export_names, import_names, scope_of}
 use Rattle.smith_tree.proofs.Components.{spaces_added}
@@ -124,7 +126,8 @@ mutual
   parts_possible ends outer before f = tt
   parts_possible (first p t) outer before f = (
     part_possible p outer before f.0,
-    subst (λ s. PossibleParts t outer s (add before p)) (spaces_added before p ∙ sym (part_same p outer before f.0)) (parts_possible t outer (add before p) f.1),
+    subst (λ s. PossibleParts t outer s (add before p)) (spaces_added before p ∙ sym (part_same p outer before f.0))
+        (parts_possible t outer (add before p) f.1),
   )
 
   part_possible : (p : Part) (outer : List Scope) (before : Tree) → FormedPart p outer before → PossiblePart p outer (spaces_of before) before

@@ -11,7 +11,8 @@ use Rattle.smith_syntax.specs.WellFormed.{FormedRef}
 use Rattle.smith_syntax.specs.declared.types.ComponentValType.{ComponentValType}
 use Rattle.smith_syntax.specs.declared.types.ComponentValType.TheVariants.{Indexed, Primitive}
 use Rattle.smith_tree.specs.Spaces.{Spaces, after_canon, after_import, after_part, no_spaces}
-use Rattle.smith_tree.specs.Tree.{Canon, Part, Tree, add, canons, component, core_module, core_types, custom, ends, exports, exports_of, first, imports, imports_of}
+use Rattle.smith_tree.specs.Tree.{Canon, Part, Tree, add, canons, component, core_module, core_types, custom, ends, exports, exports_of, first}
+use Rattle.smith_tree.specs.Tree.{imports, imports_of}
 use Rattle.smith_tree.specs.Tree.{lift, lower, types}
 use Rattle.smith_tree.specs.WellFormed.{FormedExports, HasSignature, export_names, import_names}
 

@@ -214,7 +214,8 @@ mutual
   parts_usual ends ws before s outer b k f = tt
   parts_usual (first p t) ws before s outer b k f =
       let then : Kinds (types_of (add before p)) (after_part p s outer b).own.types =
-      subst (λ (z : Spaces). Kinds z.types (after_part p s outer b).own.types) (sym (spaces_added before p)) (part_scopes p s (spaces_of before) outer b k.0) in (
+      subst (λ (z : Spaces). Kinds z.types (after_part p s outer b).own.types) (sym (spaces_added before p))
+      (part_scopes p s (spaces_of before) outer b k.0) in (
         part_usual p ws before s outer b k f.0,
         parts_usual t ws (add before p) (spaces_after s p) outer (after_part p s outer b) (then, k.1) f.1,
       )

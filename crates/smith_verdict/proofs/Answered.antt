@@ -46,7 +46,8 @@ module _ (t : Tree) (b : List ℕ) (spelled : Spells t b) (sound : IsSound t) wh
   sound_answered (answer.Invalid broken.Named (Some offset)) shallow f =
       absurd (f.2.1 (subst IsNamed (same f.0 f.1) (weaker_tree (asking Named) t sound.valid)))
   sound_answered (answer.Invalid broken.Module (Some offset)) shallow f =
-      absurd (sound_not_broken f.2.0 (contained SoundModule (modules f.0) f.2.0 (subst (λ r. AllByRecursion SoundModule (modules r)) (same f.0 f.1) sound.modules) f.2.1) f.2.2)
+      absurd (sound_not_broken f.2.0
+      (contained SoundModule (modules f.0) f.2.0 (subst (λ r. AllByRecursion SoundModule (modules r)) (same f.0 f.1) sound.modules) f.2.1) f.2.2)
   sound_answered (answer.Invalid broken.Preamble (Some offset)) shallow f = absurd (unframed offset f)
   sound_answered (answer.Invalid broken.Section (Some offset)) shallow f = absurd (unframed offset f)
   sound_answered (answer.Invalid broken.Frame (Some offset)) shallow f = absurd (unframed offset f)

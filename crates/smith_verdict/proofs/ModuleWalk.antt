@@ -5,7 +5,8 @@ use Rattle.std.proofs.lemmas.List.Elements.{Contains-append_left, Contains-push}
 use Rattle.std.specs.Borrow.{Bor}
 use Rattle.std.specs.List.{AllByRecursion, flat_map}
 use Rattle.smith_input.proofs.Lists.{all_both}
-use Rattle.smith_tree.specs.Tree.{Part, Tree, anywhere_in, canons, component, core_module, core_types, custom, ends, exports, first, imports, modules, modules_in}
+use Rattle.smith_tree.specs.Tree.{Part, Tree, anywhere_in, canons, component, core_module, core_types, custom, ends, exports, first, imports, modules}
+use Rattle.smith_tree.specs.Tree.{modules_in}
 use Rattle.smith_tree.specs.Tree.{types}
 use Rattle.smith_read.specs.Items.{items}
 use Rattle.smith_read.specs.Walk.{Step, begins, closes, ended, entry_steps, items_at, shown_step, steps_in, steps_of}

@@ -175,7 +175,8 @@ fn unread_answer(
 ///
 /// `Valid` and `Invalid` are proved: a validator that accepts what is `Invalid`, or refuses what is `Valid` although it
 /// has all features and bounds no lower than wasmparser's, has a fault. A component is `Valid` exactly if it is sound:
-/// well formed, with all names and within all bounds, without concrete references, and with core modules that are judged.
+/// well formed, with all names and within all bounds, without concrete references, and with core modules that every
+/// validator has to accept.
 ///
 /// It takes time in proportion to the bytes times a logarithm, apart from what `validated` says, and its stack is
 /// bounded by how deep types nest.

@@ -42,7 +42,8 @@ loop-decl-preserved c =
           c.loop-decl-test.true c.decl-item.is added)
           formed;
       may = λ p.
-          (module_at around (length (outer_in c.args.scopes.now)) shown_module_node c.args.decls.now c.loop-decl.decl-index c.decl-item.result own (functions_in c.push_function.new.own.items)
+          (module_at around (length (outer_in c.args.scopes.now)) shown_module_node c.args.decls.now
+          c.loop-decl.decl-index c.decl-item.result own (functions_in c.push_function.new.own.items)
           c.loop-decl-test.true c.decl-item.is added (c.loop-decl.invariant.may p)).1
           (never_beyond around own (shown_module_node c.decl-item.result) formed);
       holds = subst (HoldsModule c.add.new.self) more ((c.in_ok-add.ensures {u = tt}).added _ c.loop-decl.invariant.holds);
@@ -65,7 +66,8 @@ returns-in_err-check_module_decl-clause-graded c =
     let own = functions_in c.loop-decl.own.items in
     grades_passed _ _ c.from_residual.ensures.1
     (breaks_by
-    (λ p. (module_at around (length (outer_in c.args.scopes.now)) shown_module_node c.args.decls.now c.loop-decl.decl-index c.decl-item.result own _ c.loop-decl-test.true c.decl-item.is refl
+    (λ p. (module_at around (length (outer_in c.args.scopes.now)) shown_module_node c.args.decls.now
+    c.loop-decl.decl-index c.decl-item.result own _ c.loop-decl-test.true c.decl-item.is refl
     (c.loop-decl.invariant.may p.0)).0)
     (rw c.deref.ensures.value at (c.in_err-check_module_decl.ensures {u = tt}).graded))
 

@@ -52,7 +52,8 @@ check_decls-returns-in_err-check_decl-clause-graded t c =
     grades_passed _ _ c.from_residual-in_err-check_decl.ensures.1
     (breaks_by
     (λ p. (declarations_at c.args.decls.now c.loop-decl.decl-index c.decl-item.result (own_in c.loop-decl.scopes) (outer_in c.loop-decl.scopes)
-    c.loop-decl-test.true c.decl-item.is (inv.may (subst (PossibleDeclarations (in_order (map shown_decl_node c.args.decls.now)) empty_scope) (sym inv.outer) p.0))).0)
+    c.loop-decl-test.true c.decl-item.is
+    (inv.may (subst (PossibleDeclarations (in_order (map shown_decl_node c.args.decls.now)) empty_scope) (sym inv.outer) p.0))).0)
     (c.in_err-check_decl.ensures {u = tt}).graded)
 
 pub check_decls-loop-decl-preserved : goal.check_decls-loop-decl-preserved

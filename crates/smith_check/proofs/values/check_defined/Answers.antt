@@ -13,7 +13,8 @@ pub returns-in-Variant-clause-judged : goal.returns-in-Variant-clause-judged
 returns-in-Variant-clause-judged c =
     let s = variant_formed (own_in c.args.scopes.now) c.in-Variant.ty.cases.items in
     rw c.in-Variant.is
-    (judged_by c.check_members-in-Variant.result (λ p. s.to p) (λ q. s.from q) (rw c.deref-in-Variant.ensures.value at c.check_members-in-Variant.ensures.judged))
+    (judged_by c.check_members-in-Variant.result (λ p. s.to p) (λ q. s.from q)
+    (rw c.deref-in-Variant.ensures.value at c.check_members-in-Variant.ensures.judged))
 
 pub returns-in-Record-clause-graded : goal.returns-in-Record-clause-graded
 returns-in-Record-clause-graded c =

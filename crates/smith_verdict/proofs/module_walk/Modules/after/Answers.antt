@@ -7,7 +7,8 @@ use Rattle.smith_verdict.proofs.ModuleWalk.{none_in, same_found}
 use Rattle.smith_verdict.proofs.module_walk.Modules.after.Goals as goal
 
 pub returns-in_ok-judgement-in-CoreModule : goal.returns-in_ok-judgement-in-CoreModule
-returns-in_ok-judgement-in-CoreModule c = λ texts a. rw c.in-CoreModule.is (c.and.ensures c.in-CoreModule.text.now texts (c.in_ok-judgement-in-CoreModule.ensures {u = tt}).judged a)
+returns-in_ok-judgement-in-CoreModule c = λ texts a.
+    rw c.in-CoreModule.is (c.and.ensures c.in-CoreModule.text.now texts (c.in_ok-judgement-in-CoreModule.ensures {u = tt}).judged a)
 
 pub returns-in_default : goal.returns-in_default
 returns-in_default c = λ texts a.
