@@ -6,9 +6,9 @@ use crate::places::{is_terminal, status_of_print};
 use crate::scripting::write_bytes;
 use crate::{FAULT, print_error};
 use smith_change::{
-    ALTERNATIVES, Alternative, ChangeError, Place, Step, changed_bytes, next_changed, places,
+    ALTERNATIVES, Alternative, ChangeError, Step, changed_bytes, next_changed, place_kind,
 };
-use smith_read::read;
+use smith_read::{ComponentTree, read};
 use smith_verdict::{Answer, answer};
 use std::alloc::AllocError;
 use std::process::ExitCode;
@@ -91,10 +91,10 @@ fn write_next(
     }
 }
 
-// The places of the component in the file.
-fn places_of(rt: &HostRuntime, path: Option<&str>, bytes: &[u8]) -> Result<Vec<Place>, ExitCode> {
+// The component in the file.
+fn tree_of(rt: &HostRuntime, path: Option<&str>, bytes: &[u8]) -> Result<ComponentTree, ExitCode> {
     match read(rt.alloc(), bytes) {
-        Ok(tree) => settled(rt, path, places(rt.alloc(), &tree)),
+        Ok(tree) => Ok(tree),
         Err(error) => found(rt, path, Err(ChangeError::from(error))),
     }
 }
@@ -103,16 +103,16 @@ fn places_of(rt: &HostRuntime, path: Option<&str>, bytes: &[u8]) -> Result<Vec<P
 fn print_step(
     rt: &HostRuntime,
     path: Option<&str>,
-    places: &[Place],
+    tree: &ComponentTree,
     step: &Step,
 ) -> Result<ExitCode, ExitCode> {
     let answer = answer_of(rt, path, &step.bytes)?;
     let number = step.number;
-    let Some(place) = places.get(number / ALTERNATIVES) else {
+    let Some(place) = settled(rt, path, place_kind(rt.alloc(), tree, number))? else {
         return status_of_print(rt, println!(rt; "{number}: {answer}"));
     };
     let change = Alternative {
-        place: *place,
+        place,
         number: number % ALTERNATIVES,
     };
     status_of_print(rt, println!(rt; "{number}: {change}: {answer}"))
@@ -120,10 +120,10 @@ fn print_step(
 
 // Prints a line for each change that leads to something.
 fn print_changes(rt: &HostRuntime, path: Option<&str>, bytes: &[u8]) -> Result<ExitCode, ExitCode> {
-    let places = places_of(rt, path, bytes)?;
+    let tree = tree_of(rt, path, bytes)?;
     let mut from: usize = 0;
     while let Some(step) = found(rt, path, next_changed(rt.alloc(), bytes, from))? {
-        print_step(rt, path, &places, &step)?;
+        print_step(rt, path, &tree, &step)?;
         from = step.number.saturating_add(1);
     }
     Ok(ExitCode::SUCCESS)

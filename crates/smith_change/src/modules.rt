@@ -105,8 +105,8 @@ fn change_sections(
     Ok(Some(ModuleSections { types, memories }))
 }
 
-/// The sections of the module that these bytes spell, if it has no others than these two.
-pub(crate) fn sections_of(alloc: Global, text: &[u8]) -> Changed<ModuleSections>
+// The sections of the module that these bytes spell, if it has no others than these two.
+fn sections_of(alloc: Global, text: &[u8]) -> Changed<ModuleSections>
     ensures { IfOk result (λ r. option_map shown_sections r ≡ stand_in_at text.now) }
 {
     match module_sections_of(alloc, text) {

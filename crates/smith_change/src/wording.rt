@@ -1,36 +1,16 @@
 //! What a change is, in words.
 
-use crate::places::Place;
+use crate::kinds::PlaceKind;
 use std::fmt;
 
 /// A change: a place, and which of its alternatives is there after it.
 ///
-/// As text: the place and the alternative, such as `value type, an index one more`.
+/// As text: the sort of the place and the alternative, such as `value, an index one more`.
 #[derive(Clone, Copy, Debug, PartialEq, Eq)]
 pub struct Alternative {
-    pub place: Place,
+    pub place: PlaceKind,
     /// From 0, below 16.
     pub number: usize,
-}
-
-fn place_label(place: Place) -> &'static str {
-    match place {
-        Place::Entry => "entry",
-        Place::Members => "members",
-        Place::Index => "index",
-        Place::Count => "count of scopes",
-        Place::ValueType => "value type",
-        Place::Presence => "optional value type",
-        Place::Name => "name",
-        Place::Sort => "sort",
-        Place::Code => "code",
-        Place::Primitive => "primitive type",
-        Place::CoreValueType => "core value type",
-        Place::Results => "core results",
-        Place::Limits => "limits",
-        Place::Element => "element type",
-        Place::Mutability => "mutability",
-    }
 }
 
 fn entry_label(number: usize) -> &'static str {
@@ -91,9 +71,10 @@ fn sort_label(number: usize) -> &'static str {
     }
 }
 
-fn primitive_label(number: usize) -> &'static str {
+// Only primitive types have a second alternative.
+fn code_label(number: usize) -> &'static str {
     match number {
-        0 => "string",
+        0 => "another",
         _ => "u32",
     }
 }
@@ -110,25 +91,25 @@ fn limits_label(number: usize) -> &'static str {
     }
 }
 
-fn alternative_label(place: Place, number: usize) -> &'static str {
+fn alternative_label(place: PlaceKind, number: usize) -> &'static str {
     match place {
-        Place::Entry => entry_label(number),
-        Place::Members => members_label(number),
-        Place::Index | Place::Count => number_label(number),
-        Place::ValueType => value_label(number),
-        Place::Presence => "there or not",
-        Place::Name => name_label(number),
-        Place::Sort => sort_label(number),
-        Place::Primitive => primitive_label(number),
-        Place::Results => "one more",
-        Place::Limits => limits_label(number),
-        Place::Code | Place::CoreValueType | Place::Element | Place::Mutability => "the other",
+        PlaceKind::Entry => entry_label(number),
+        PlaceKind::Members => members_label(number),
+        PlaceKind::Index | PlaceKind::Count => number_label(number),
+        PlaceKind::Value => value_label(number),
+        PlaceKind::Presence => "there or not",
+        PlaceKind::Name => name_label(number),
+        PlaceKind::Sort => sort_label(number),
+        PlaceKind::Code => code_label(number),
+        PlaceKind::Results => "one more",
+        PlaceKind::Limits => limits_label(number),
+        PlaceKind::CoreValue | PlaceKind::Element | PlaceKind::Mutable => "the other",
     }
 }
 
 impl fmt::Display for Alternative {
     fn fmt<W: fmt::Write>(&self, f: &mut fmt::Formatter<W>) -> fmt::Result {
-        f.write_str(place_label(self.place))?;
+        f.write_str(self.place.text())?;
         f.write_str(", ")?;
         f.write_str(alternative_label(self.place, self.number))
     }

@@ -6,8 +6,8 @@ ghost use Rattle.smith_verdict.specs.Answers.{IsAnswer};
 use rand_core::Rng;
 use rand_pcg::Pcg32;
 use smith_change::{
-    ALTERNATIVES, Alternative, Miswriting, Place, changed, miswritten_count, next_miswritten,
-    places,
+    ALTERNATIVES, Alternative, Miswriting, changed, changes, miswritten_count, next_miswritten,
+    place_kind,
 };
 use smith_read::{ComponentTree, ReadError, WriteError, read, write};
 use smith_verdict::{Answer, Bound, Broken, Outside, answer};
@@ -22,7 +22,7 @@ const MOST_ALTERNATIVES: usize = 7;
 
 /// How a near miss differs from its component.
 ///
-/// As text: in words, such as `value type, an index one more`.
+/// As text: in words, such as `value, an index one more`.
 #[derive(Clone, Copy, Debug, PartialEq, Eq)]
 pub enum Difference {
     /// In one token, or in one list of entries.
@@ -127,16 +127,16 @@ fn random_change(
     alloc: Global,
     random: &mut Pcg32,
     tree: &ComponentTree,
-    places: &[Place],
+    places: usize,
 ) -> Result<Option<NearMiss>, AllocError>
     ensures { IfOk result (λ r. IfSome r (λ m. IsAnswer m.bytes.items m.answer)) }
 {
-    let index = below(random, places.len());
+    let place = below(random, places);
     let alternative = below(random, MOST_ALTERNATIVES);
-    let Some(place) = places.get(index) else {
+    let number = place.saturating_mul(ALTERNATIVES).saturating_add(alternative);
+    let Some(place) = place_kind(alloc, tree, number)? else {
         return Ok(None);
     };
-    let number = index * ALTERNATIVES + alternative;
     let Some(other) = changed(alloc, tree, number)? else {
         return Ok(None);
     };
@@ -144,7 +144,6 @@ fn random_change(
         return Ok(None);
     };
     let answer = answer(alloc, &bytes)?;
-    let place = *place;
     let difference = Difference::Change(Alternative {
         place,
         number: alternative,
@@ -177,10 +176,10 @@ fn rarest(
 ) -> Result<Option<NearMiss>, AllocError>
     ensures { IfOk result (λ r. IfSome r (λ m. IsAnswer m.bytes.items m.answer)) }
 {
-    let places = places(alloc, tree)?;
+    let places = changes(alloc, tree)? / ALTERNATIVES;
     let mut best = None;
     for _ in 0..TRIES {
-        if let Some(found) = random_change(alloc, random, tree, &places)? {
+        if let Some(found) = random_change(alloc, random, tree, places)? {
             best = Some(rarer(taken, best, found));
         }
     }
