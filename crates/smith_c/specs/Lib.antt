@@ -1,4 +1,3 @@
-pub mod Changes
 pub mod Limits
 pub mod Makes
 pub mod Reduces

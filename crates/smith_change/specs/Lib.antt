@@ -3,7 +3,6 @@ pub mod Changes
 pub mod CoreTypes
 pub mod Differs
 pub mod Members
-pub mod Miswritten
 pub mod Modules
 pub mod Owners
 pub mod Parts
