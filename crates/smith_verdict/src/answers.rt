@@ -89,8 +89,8 @@ pub enum Answer {
         rule: Broken,
         offset: Option<usize>,
     },
-    /// A well formed component beyond a bound: which one, and the offset of an item. The offset is always there. If the
-    /// bound is one of a type or a count, it was not looked at whether what follows that item is named.
+    /// A well formed component beyond a bound: which one, and the offset of an item. The offset is always there. Names
+    /// that follow that item may not have been judged.
     Bound {
         demand: Bound,
         offset: Option<usize>,

@@ -178,8 +178,8 @@ fn unread_answer(
 /// well formed, with all names and within all bounds, without concrete references, and with core modules that every
 /// validator has to accept.
 ///
-/// It takes time in proportion to the bytes times a logarithm, apart from what `validated` says, and its stack is
-/// bounded by how deep types nest.
+/// It takes time in proportion to the bytes times a logarithm, except for long chains of instance types, each of which
+/// exports an instance of the one before. Its stack is bounded by how deep types nest.
 pub fn answer(alloc: Global, bytes: &[u8]) -> Result<Answer, AllocError>
     ensures { IfOk result (IsAnswer bytes.now) }
 {
