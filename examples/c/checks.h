@@ -1,4 +1,4 @@
-/* What checks.c, answers.c and edits.c share: bytes, and allocations that are refused. */
+/* What checks.c, answers.c, edits.c and changes.c share: bytes, and allocations that are refused. */
 #ifndef CHECKS_H
 #define CHECKS_H
 

@@ -1,7 +1,7 @@
 /* A target of libFuzzer that compares a validator with what is proved. An input makes a component that validates, and
- * its last three bytes change a byte of that: two choose which, and the third is combined with it by exclusive or. Both
- * are judged. It is a finding if lupinanon_validate knows that a validator has to accept the bytes, or may not, and the
- * function `accepts` says otherwise. */
+ * its last four bytes say what becomes of that: a quarter of them leaves it, a half changes a token or a list of entries
+ * in it, and a quarter writes it wrongly. Both are judged. It is a finding if lupinanon_validate knows that a validator
+ * has to accept the bytes, or may not, and the function `accepts` says otherwise. */
 #include "lupinanon.h"
 #include <stdio.h>
 #include <stdlib.h>
@@ -9,7 +9,7 @@
 /* Whether the validator accepts the bytes: a function of yours, in another file. */
 int accepts(const uint8_t *bytes, size_t len);
 
-enum { CHANGE = 3 };
+enum { CHANGE = 4, MOST_BYTES = 1 << 16 };
 
 static void print_bytes(const uint8_t *bytes, size_t len) {
     size_t at;
@@ -31,15 +31,30 @@ static void judge(const uint8_t *bytes, size_t len) {
     abort();
 }
 
-/* Changes a byte as the three bytes say. */
-static void change(uint8_t *bytes, size_t len, const uint8_t said[CHANGE]) {
-    bytes[((size_t)said[0] << 8 | said[1]) % len] ^= said[2];
+/* The number that the four bytes say. */
+static uint32_t number_of(const uint8_t said[CHANGE]) {
+    return said[0] | (uint32_t)said[1] << 8 | (uint32_t)said[2] << 16 | (uint32_t)said[3] << 24;
+}
+
+/* Writes what becomes of the component by that number, and returns the status. */
+static int32_t change(const uint8_t *bytes, size_t len, uint32_t said, uint8_t *changed, size_t *changed_len) {
+    size_t count, number = said >> 2;
+    switch (said & 3) {
+    case 0: return LUPINANON_NO_CHANGE;
+    case 1:
+        number %= 2 * len; /* there are as many cuts as bytes, and then at most twice as many others */
+        return lupinanon_next_miswritten(bytes, len, &number, changed, MOST_BYTES, changed_len);
+    default:
+        if (lupinanon_change_count(bytes, len, &count) != LUPINANON_ANSWERED || !count) return LUPINANON_NO_CHANGE;
+        number %= count;
+        return lupinanon_next_changed(bytes, len, &number, changed, MOST_BYTES, changed_len);
+    }
 }
 
 /* Returns -1, so that the input is not kept, if its component is too large for this target, or memory runs out. */
 int LLVMFuzzerTestOneInput(const uint8_t *data, size_t size) {
-    static uint8_t component[1 << 16];
-    size_t len, front = size < CHANGE ? size : size - CHANGE;
+    static uint8_t component[MOST_BYTES], changed[MOST_BYTES];
+    size_t len, changed_len, front = size < CHANGE ? size : size - CHANGE;
     LupinanonLimits limits;
     int32_t status;
     lupinanon_default_limits(&limits, sizeof limits);
@@ -50,7 +65,7 @@ int LLVMFuzzerTestOneInput(const uint8_t *data, size_t size) {
     if (status != LUPINANON_ANSWERED) abort();
     judge(component, len);
     if (size < CHANGE) return 0;
-    change(component, len, data + front);
-    judge(component, len);
+    status = change(component, len, number_of(data + front), changed, &changed_len);
+    if (status == LUPINANON_ANSWERED) judge(changed, changed_len);
     return 0;
 }

@@ -50,6 +50,17 @@ Status:
   2  bad arguments, limits that are refused, memory runs out, or a failed read or write
   3  the bytes are not in the grammar: what is wrong, and the offset, are on standard error";
 
+const AFTER_CHANGE: &str =
+    "In each changed component one token, or one list of entries, is another. The changes are counted from
+0: sixteen for each place, in the order of the bytes. Not all of them lead to something. The number of
+the change is printed on standard error, and what the changed component is, as `check --validate` says.
+
+Status:
+  0  the component is written, or the changes are listed
+  1  the change of that number, or each from it on, leads to nothing
+  2  bad arguments, memory runs out, or a failed read or write
+  3  the bytes are not in the grammar: what is wrong, and the offset, are on standard error";
+
 const AFTER_CORPUS: &str =
     "Inputs are named by their numbers from 0, or after their components. No file is overwritten.
 
@@ -176,6 +187,30 @@ fn smaller_command<'a>(alloc: Global) -> Result<Command<'a>, AllocError> {
         .arg(any.conflicts_with("limits")?.conflicts_with("limit")?)
 }
 
+fn change_command<'a>(alloc: Global) -> Result<Command<'a>, AllocError> {
+    let about = "Write the component with one token or one list of entries changed";
+    let which = "The number of the change, from 0";
+    let from = "The first change from that number on that leads to something";
+    let list =
+        "List the changes that lead to something: the number, what is changed, and what that is";
+    let which = number(alloc, "number", "K", which).short('k');
+    let from = number(alloc, "from", "K", from).conflicts_with("number")?;
+    let list = switch(alloc, "list", list)
+        .conflicts_with("number")?
+        .conflicts_with("from")?
+        .conflicts_with("output")?;
+    plain(alloc, "change", about, AFTER_CHANGE)
+        .arg(component(alloc))?
+        .arg(output(alloc, TO_COMPONENT))?
+        .arg(
+            which
+                .required_unless_present("from")?
+                .required_unless_present("list")?,
+        )?
+        .arg(from)?
+        .arg(list)
+}
+
 // The command with how many inputs are drawn, from what, and of how many bytes.
 fn with_draw<'a>(alloc: Global, command: Command<'a>) -> Result<Command<'a>, AllocError> {
     let count = "How many random inputs are written";
@@ -204,8 +239,14 @@ fn corpus_command<'a>(alloc: Global) -> Result<Command<'a>, AllocError> {
         .conflicts_with("seed")?
         .conflicts_with("swarm")?
         .conflicts_with("components")?;
+    let broken =
+        "Write near misses of components that validate, and what each of them is. --bytes is 512 then";
+    let broken = switch(alloc, "broken", broken)
+        .conflicts_with("from")?
+        .conflicts_with("components")?;
     let files = with_draw(alloc, plain(alloc, "corpus", about, AFTER_CORPUS))?
         .arg(from)?
+        .arg(broken)?
         .arg(output(alloc, to).required(true))?;
     with_limits(alloc, files)
 }
@@ -232,6 +273,7 @@ pub fn command<'a>(alloc: Global) -> Result<Command<'a>, AllocError> {
         .subcommand(show_command(alloc)?)?
         .subcommand(script_command(alloc)?)?
         .subcommand(smaller_command(alloc)?)?
+        .subcommand(change_command(alloc)?)?
         .subcommand(corpus_command(alloc)?)?
         .subcommand(stats_command(alloc)?)
 }

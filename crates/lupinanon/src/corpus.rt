@@ -1,5 +1,6 @@
 //! Writing a corpus: inputs that are read to their end, as the files of a folder.
 
+use crate::breaking::write_broken;
 use crate::folders::{COMPONENT_ENDING, components_in, make_folder, path_in, write_new};
 use crate::inspecting::{REFUSED, bytes_in};
 use crate::limits_file::config_of;
@@ -18,8 +19,8 @@ use std::process::ExitCode;
 // How many inputs are written from one line of progress to the next.
 const STRIDE: usize = 100;
 
-// On a terminal, overwrites the line that says how many of the inputs are written, and ends it after the last.
-fn show_progress(rt: &HostRuntime, done: usize, count: usize) {
+/// On a terminal, overwrites the line that says how many of the inputs are written, and ends it after the last.
+pub fn show_progress(rt: &HostRuntime, done: usize, count: usize) {
     if !rt.stderr().is_terminal() {
         return;
     }
@@ -30,8 +31,8 @@ fn show_progress(rt: &HostRuntime, done: usize, count: usize) {
     }
 }
 
-// A sample, or the status after a message.
-fn drawn(
+/// A sample, or the status after a message.
+pub fn drawn(
     rt: &HostRuntime,
     config: &Config,
     random: &mut Pcg32,
@@ -137,6 +138,7 @@ pub fn corpus(
     make_folder(rt, folder)?;
     match origin {
         Origin::Random(draw) => write_random(rt, folder, &config, draw),
+        Origin::Broken(draw) => write_broken(rt, folder, &config, draw),
         Origin::Folder(from) => write_scripts(rt, folder, &config, from),
     }
 }

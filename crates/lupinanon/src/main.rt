@@ -1,6 +1,8 @@
 //! Turns a fuzzer's bytes into a WebAssembly component, from a file to a file, and back; shows the components in files.
 #![tactic(auto)]
 
+mod breaking;
+mod changing;
 mod commands;
 mod corpus;
 mod folders;
@@ -54,6 +56,7 @@ fn run(rt: &HostRuntime) -> Result<ExitCode, ExitCode> {
         Ok(Task::Show(path)) => inspecting::show(rt, path),
         Ok(Task::Script(options)) => scripting::script(rt, &options),
         Ok(Task::Smaller(options, choice)) => reducing::reduce(rt, &options, choice),
+        Ok(Task::Change(change)) => changing::change(rt, &change),
         Ok(
             Task::Corpus {
                 folder,

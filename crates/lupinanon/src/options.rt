@@ -22,6 +22,8 @@ pub enum Task<'a> {
     Script(Options<'a>),
     /// Write a component that is smaller than the one in a file.
     Smaller(Options<'a>, Choice),
+    /// Write the component in a file with one token or one list changed.
+    Change(Change<'a>),
     /// Write inputs into a folder.
     Corpus {
         folder: &'a str,
@@ -67,6 +69,25 @@ pub enum Choice {
     From(usize),
 }
 
+/// A change of the component in a file. A file that is absent is standard input or output.
+#[derive(Clone, Copy)]
+pub struct Change<'a> {
+    pub input: Option<&'a str>,
+    pub output: Option<&'a str>,
+    pub which: Which,
+}
+
+/// Which change is made. Changes are counted from 0.
+#[derive(Clone, Copy)]
+pub enum Which {
+    /// The one with this number.
+    Numbered(usize),
+    /// The first one from this number on that leads to something.
+    From(usize),
+    /// None: those that lead to something are listed.
+    All,
+}
+
 /// Random inputs.
 #[derive(Clone, Copy)]
 pub struct Draw {
@@ -84,6 +105,8 @@ pub struct Draw {
 #[derive(Clone, Copy)]
 pub enum Origin<'a> {
     Random(Draw),
+    /// They are near misses of the components of these inputs.
+    Broken(Draw),
     /// They are the scripts of the components in this folder.
     Folder(&'a str),
 }
@@ -136,17 +159,43 @@ fn choice_of(matches: &ArgMatches<'_>) -> Choice {
     }
 }
 
-fn origin_of<'a>(matches: &ArgMatches<'a>) -> Origin<'a> {
-    match matches.get_str("from") {
-        Some(folder) => Origin::Folder(folder),
-        None => Origin::Random(Draw {
-            count: matches.get_one::<usize>("count").unwrap_or(0),
-            len: matches.get_one::<usize>("bytes").unwrap_or(1024),
-            seed: matches.get_one::<u64>("seed").unwrap_or(0),
-            is_swarm: matches.get_flag("swarm"),
-            with_components: matches.get_flag("components"),
-        }),
+fn which_of(matches: &ArgMatches<'_>) -> Which {
+    if matches.get_flag("list") {
+        return Which::All;
     }
+    match choice_of(matches) {
+        Choice::Numbered(number) => Which::Numbered(number),
+        Choice::From(number) => Which::From(number),
+    }
+}
+
+fn change_of<'a>(matches: &ArgMatches<'a>) -> Change<'a> {
+    Change {
+        input: file(matches, "input"),
+        output: file(matches, "output"),
+        which: which_of(matches),
+    }
+}
+
+// Random inputs, of that many bytes if no argument says how many.
+fn draw_of(matches: &ArgMatches<'_>, len: usize) -> Draw {
+    Draw {
+        count: matches.get_one::<usize>("count").unwrap_or(0),
+        len: matches.get_one::<usize>("bytes").unwrap_or(len),
+        seed: matches.get_one::<u64>("seed").unwrap_or(0),
+        is_swarm: matches.get_flag("swarm"),
+        with_components: matches.get_flag("components"),
+    }
+}
+
+fn origin_of<'a>(matches: &ArgMatches<'a>) -> Origin<'a> {
+    if let Some(folder) = matches.get_str("from") {
+        return Origin::Folder(folder);
+    }
+    if matches.get_flag("broken") {
+        return Origin::Broken(draw_of(matches, 512));
+    }
+    Origin::Random(draw_of(matches, 1024))
 }
 
 /// What the words ask for. The first is the program's name.
@@ -161,6 +210,7 @@ pub fn task_of<'a, S: AsStr>(alloc: Global, words: &'a [S]) -> Result<Task<'a>, 
         "show" => Task::Show(file(found, "input")),
         "script" => Task::Script(options_of(alloc, found)?),
         "smaller" => Task::Smaller(options_of(alloc, found)?, choice_of(found)),
+        "change" => Task::Change(change_of(found)),
         "corpus" => Task::Corpus {
             folder: found.get_str("output").unwrap_or("."),
             origin: origin_of(found),

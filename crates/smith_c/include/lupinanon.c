@@ -25,6 +25,13 @@ int32_t lupinanon_proved_without(const uint8_t *bytes, size_t bytes_len, size_t 
                                  size_t *less_len);
 int32_t lupinanon_proved_join(const uint8_t *first, size_t first_len, const uint8_t *second, size_t second_len,
                               uint8_t *output, size_t output_len, size_t *joined_len);
+int32_t lupinanon_proved_change_count(const uint8_t *bytes, size_t bytes_len, size_t *count);
+int32_t lupinanon_proved_changed(const uint8_t *bytes, size_t bytes_len, size_t number, uint8_t *output,
+                                 size_t output_len, size_t *changed_len);
+int32_t lupinanon_proved_next_changed(const uint8_t *bytes, size_t bytes_len, size_t *number, uint8_t *output,
+                                      size_t output_len, size_t *changed_len);
+int32_t lupinanon_proved_next_miswritten(const uint8_t *bytes, size_t bytes_len, size_t *number, uint8_t *output,
+                                         size_t output_len, size_t *miswritten_len);
 
 enum { FIRST_SIZE = 4096, MOST_LIMITS_SIZE = 4096 };
 
@@ -171,6 +178,7 @@ const char *lupinanon_status_name(int32_t status) {
     case LUPINANON_INVALID: return "invalid";
     case LUPINANON_BOUND: return "beyond a bound";
     case LUPINANON_OUTSIDE: return "not judged";
+    case LUPINANON_NO_CHANGE: return "no change";
     default: return "unknown status";
     }
 }
@@ -363,4 +371,66 @@ int32_t lupinanon_join(const uint8_t *first, size_t first_len, const uint8_t *se
     }
     return lupinanon_proved_join(first ? first : &nothing, first_len, second ? second : &nothing, second_len,
                                  output ? output : &nothing, output_len, joined_len);
+}
+
+int32_t lupinanon_change_count(const uint8_t *bytes, size_t bytes_len, size_t *count) {
+    uint8_t nothing = 0;
+    if (!count) return LUPINANON_BAD_ARGUMENT;
+    *count = 0;
+    {
+        Memory written = MEMORY_OF(count), read = {bytes, bytes_len};
+        if (!may_pass(&read, 1, &written, 1)) return LUPINANON_BAD_ARGUMENT;
+    }
+    return lupinanon_proved_change_count(bytes ? bytes : &nothing, bytes_len, count);
+}
+
+int32_t lupinanon_changed(const uint8_t *bytes, size_t bytes_len, size_t number, uint8_t *output, size_t output_len,
+                          size_t *changed_len, int32_t *answer, size_t *rule, size_t *offset) {
+    uint8_t nothing = 0;
+    size_t no_rule, no_offset;
+    int32_t status, no_answer;
+    if (!answer) answer = &no_answer;
+    if (!rule) rule = &no_rule;
+    if (!offset) offset = &no_offset;
+    *answer = LUPINANON_OUTSIDE;
+    *rule = LUPINANON_NO_RULE;
+    *offset = LUPINANON_NO_OFFSET;
+    if (changed_len) *changed_len = 0;
+    if (!changed_len) return LUPINANON_BAD_ARGUMENT;
+    {
+        Memory written[] = {{output, output_len}, MEMORY_OF(changed_len), MEMORY_OF(answer), MEMORY_OF(rule),
+                            MEMORY_OF(offset)};
+        Memory read = {bytes, bytes_len};
+        if (!may_pass(&read, 1, written, 5)) return LUPINANON_BAD_ARGUMENT;
+    }
+    if (!output) output = &nothing;
+    status = lupinanon_proved_changed(bytes ? bytes : &nothing, bytes_len, number, output, output_len, changed_len);
+    if (status == LUPINANON_ANSWERED) *answer = lupinanon_proved_validate(output, *changed_len, rule, offset);
+    return status;
+}
+
+/* Whether what is passed may be passed on to a search for the next bytes from a number on. */
+static int may_seek(Memory bytes, Memory output, size_t *number, size_t *len) {
+    Memory written[] = {output, MEMORY_OF(len), MEMORY_OF(number)};
+    return may_pass(&bytes, 1, written, 3);
+}
+
+int32_t lupinanon_next_changed(const uint8_t *bytes, size_t bytes_len, size_t *number, uint8_t *output,
+                               size_t output_len, size_t *changed_len) {
+    uint8_t nothing = 0;
+    Memory read = {bytes, bytes_len}, room = {output, output_len};
+    if (changed_len) *changed_len = 0;
+    if (!changed_len || !number || !may_seek(read, room, number, changed_len)) return LUPINANON_BAD_ARGUMENT;
+    return lupinanon_proved_next_changed(bytes ? bytes : &nothing, bytes_len, number, output ? output : &nothing,
+                                         output_len, changed_len);
+}
+
+int32_t lupinanon_next_miswritten(const uint8_t *bytes, size_t bytes_len, size_t *number, uint8_t *output,
+                                  size_t output_len, size_t *miswritten_len) {
+    uint8_t nothing = 0;
+    Memory read = {bytes, bytes_len}, room = {output, output_len};
+    if (miswritten_len) *miswritten_len = 0;
+    if (!miswritten_len || !number || !may_seek(read, room, number, miswritten_len)) return LUPINANON_BAD_ARGUMENT;
+    return lupinanon_proved_next_miswritten(bytes ? bytes : &nothing, bytes_len, number, output ? output : &nothing,
+                                            output_len, miswritten_len);
 }

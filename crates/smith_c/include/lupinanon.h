@@ -1,8 +1,9 @@
 /* WebAssembly components from a fuzzer's bytes.
  *
- * Twelve functions are proved: the ones that lupinanon_default_limits, lupinanon_swarm_limits, lupinanon_generate_into,
+ * Sixteen functions are proved: those that lupinanon_default_limits, lupinanon_swarm_limits, lupinanon_generate_into,
  * lupinanon_check, lupinanon_validate, lupinanon_script_into, lupinanon_smaller, lupinanon_next_smaller,
- * lupinanon_without and lupinanon_join call after a check of their arguments. That check, and all else, is plain C.
+ * lupinanon_without, lupinanon_join, lupinanon_change_count, lupinanon_changed, lupinanon_next_changed and
+ * lupinanon_next_miswritten call after a check of their arguments. That check, and all else, is plain C.
  *
  * What the caller owes, and nothing checks:
  *  - A pointer that is not NULL points to what its type says, and a length says how much lies there. Limits are as many
@@ -121,7 +122,8 @@ enum LupinanonStatus {
     LUPINANON_NO_SMALLER = 13,         /* there is no k-th smaller component, none from a step on, or no k-th item */
     LUPINANON_INVALID = 14,            /* no validator may accept the bytes */
     LUPINANON_BOUND = 15,              /* the bytes are a well-formed component beyond a bound of a validator's own */
-    LUPINANON_OUTSIDE = 16             /* the bytes are not judged: a validator may accept or refuse them */
+    LUPINANON_OUTSIDE = 16,            /* the bytes are not judged: a validator may accept or refuse them */
+    LUPINANON_NO_CHANGE = 17           /* the change leads to nothing, or none from that number on to something */
 };
 
 /* How many bytes of stack a call takes at most, with a fifth to spare: within limits of that max_nesting_depth, and at
@@ -297,6 +299,56 @@ int32_t lupinanon_without(const uint8_t *bytes, size_t bytes_len, size_t k, uint
  * The first, the second and the output may be NULL if their length is 0. The first and the second may overlap. */
 int32_t lupinanon_join(const uint8_t *first, size_t first_len, const uint8_t *second, size_t second_len,
                        uint8_t *output, size_t output_len, size_t *joined_len);
+
+/* Counts the changes of the component that bytes are: 0 to *count - 1 are the numbers for lupinanon_changed.
+ *
+ * LUPINANON_ANSWERED: *count is written. Otherwise it is 0.
+ * LUPINANON_UNREAD: as of lupinanon_check.
+ *
+ * Bytes may be NULL if their length is 0. */
+int32_t lupinanon_change_count(const uint8_t *bytes, size_t bytes_len, size_t *count);
+
+/* Writes the component of the bytes after the change of that number to the front of the output. In it one token, or one
+ * list of entries, is another: an entry is left out or doubled, an index is one less or more, a name, a sort or a type
+ * is another. Nothing is renumbered, so that it is often not valid. Sixteen changes belong to each place, in the order
+ * of the bytes; not all of them lead to something.
+ *
+ * LUPINANON_ANSWERED: *changed_len bytes are written. What lupinanon_validate returns of them is written to *answer,
+ * with its *rule and *offset.
+ * LUPINANON_NO_ROOM: *changed_len is how long the component is, and otherwise it is 0. Nothing is written to the output.
+ * LUPINANON_NO_CHANGE: the change leads to nothing.
+ * LUPINANON_UNREAD: as of lupinanon_check.
+ * Unless it is LUPINANON_ANSWERED, *answer is LUPINANON_OUTSIDE, *rule LUPINANON_NO_RULE and *offset
+ * LUPINANON_NO_OFFSET.
+ *
+ * Bytes and output may be NULL if their length is 0, and `answer`, `rule` and `offset` if they are not needed. */
+int32_t lupinanon_changed(const uint8_t *bytes, size_t bytes_len, size_t number, uint8_t *output, size_t output_len,
+                          size_t *changed_len, int32_t *answer, size_t *rule, size_t *offset);
+
+/* Finds the first change, from *number on, that leads to a component other than that of the bytes. Writes it to the
+ * front of the output, and the number of the change to *number.
+ *
+ * LUPINANON_ANSWERED: *changed_len bytes are written, and *number.
+ * LUPINANON_NO_ROOM: *changed_len is how long the component is, and *number is written; nothing else is.
+ * Otherwise *changed_len is 0, and *number is as it was.
+ * LUPINANON_NO_CHANGE: no change from *number on leads to something.
+ * LUPINANON_UNREAD: as of lupinanon_check.
+ *
+ * Bytes and output may be NULL if their length is 0. */
+int32_t lupinanon_next_changed(const uint8_t *bytes, size_t bytes_len, size_t *number, uint8_t *output,
+                               size_t output_len, size_t *changed_len);
+
+/* Finds the first candidate, from *number on, that no reader of the standard takes for a component: for
+ * lupinanon_validate it is LUPINANON_INVALID, or LUPINANON_OUTSIDE if it is a core module. Writes it to the front of the
+ * output, and its number to *number. The candidates are, in this order: the bytes cut off after each number of bytes,
+ * from 0 to bytes_len - 1; those with a section whose length is one more or one less, whose id is 13, or whose count is
+ * 4,294,967,295; and those with a byte of the preamble changed. The bytes need not be a component.
+ *
+ * LUPINANON_ANSWERED, LUPINANON_NO_ROOM, LUPINANON_NO_CHANGE: as of lupinanon_next_changed.
+ *
+ * Bytes and output may be NULL if their length is 0. */
+int32_t lupinanon_next_miswritten(const uint8_t *bytes, size_t bytes_len, size_t *number, uint8_t *output,
+                                  size_t output_len, size_t *miswritten_len);
 
 #ifdef __cplusplus
 }

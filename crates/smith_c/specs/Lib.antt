@@ -1,3 +1,4 @@
+pub mod Changes
 pub mod Limits
 pub mod Makes
 pub mod Reduces

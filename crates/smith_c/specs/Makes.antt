@@ -10,7 +10,7 @@ use Rattle.smith_c.specs.Limits.{limits_of}
 use Rattle.smith_c.specs.declared.limits.Limits.{Limits}
 use Rattle.smith_c.specs.declared.status.Status.{Status}
 use Rattle.smith_c.specs.declared.status.Status.TheVariants.{Answered, Refused, NoRoom, BadFlag, IllFormed, Unread, NoScript, NoSmaller, Invalid}
-use Rattle.smith_c.specs.declared.status.Status.TheVariants.{Bound, Outside}
+use Rattle.smith_c.specs.declared.status.Status.TheVariants.{Bound, Outside, NoChange}
 use Rattle.std.specs.Prelude.{ℤ, pos}
 use Rattle.smith_input.specs.declared.error.Error.TheVariants.{InconsistentLimits, MinimumNotMet, ModuleRefused, TooLong, OutOfMemory, PartsDisagree}
 
@@ -40,6 +40,7 @@ Stops limits input NoSmaller = ⊥
 Stops limits input Invalid = ⊥
 Stops limits input Bound = ⊥
 Stops limits input Outside = ⊥
+Stops limits input NoChange = ⊥
 
 -- What a call returns in C.
 
@@ -61,6 +62,7 @@ code_of NoSmaller = pos 13
 code_of Invalid = pos 14
 code_of Bound = pos 15
 code_of Outside = pos 16
+code_of NoChange = pos 17
 
 -- what is written if no offset is known: 2^64 - 1
 abbrev pub no_offset : ℕ

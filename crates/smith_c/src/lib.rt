@@ -2,6 +2,7 @@
 //! such a caller must ensure.
 #![tactic(auto)]
 
+pub mod change;
 pub mod check;
 pub mod into;
 pub mod limits;

@@ -30,14 +30,16 @@ pub enum Status {
     Bound,
     /// A validator may accept the bytes or refuse them.
     Outside,
+    /// The change leads to nothing, or none from that number on leads to something.
+    NoChange,
 }
 
 impl Status {
     /// Its number in C: 0 if the output has it or the bytes are well formed or valid, 1 to 6 for the refusals in the
     /// order of `Error`, 7 if there is no room, 8 for a byte that is not a flag, 10 for a component that is not well
-    /// formed, 11 for bytes that are not a component, 12 if there is no script, 13 if there is no smaller component,
-    /// and 14 to 16 for bytes that are invalid, beyond a bound, or not judged. The header has 9 for arguments that no
-    /// call may have.
+    /// formed, 11 for bytes that are not a component, 12 if there is no script, 13 if there is no smaller component, 14
+    /// to 16 for bytes that are invalid, beyond a bound, or not judged, and 17 if there is no change. The header has 9
+    /// for arguments that no call may have.
     pub fn code(&self) -> i32
         ensures { result ≡ code_of self.now }
     {
@@ -58,6 +60,7 @@ impl Status {
             Status::Invalid => 14,
             Status::Bound => 15,
             Status::Outside => 16,
+            Status::NoChange => 17,
         }
     }
 }

@@ -6,11 +6,12 @@ use Rattle.smith_tree.specs.Tree.{Tree, ends, first, parts_of, tree_of}
 use Rattle.smith_change.specs.Changes.{Leads, changed, changes, if_other}
 use Rattle.smith_change.specs.Parts.{part_changed, part_places, places, sections_changed}
 use Rattle.smith_change.specs.Rows.{entry_alternative, in_turn, unnamed}
-use Rattle.smith_change.specs.Search.{past}
-use Rattle.smith_change.specs.declared.search.Search.{Search}
-use Rattle.smith_change.specs.declared.search.Search.TheVariants.{Ahead, Over}
+use Rattle.smith_read.specs.Search.{past}
+use Rattle.smith_read.specs.declared.search.Search.{Search}
+use Rattle.smith_read.specs.declared.search.Search.TheVariants.{Ahead, Over}
 use Rattle.smith_change.proofs.Passing.{ArePassed}
-use Rattle.smith_change.proofs.Seeking.{past_less, turn_there}
+use Rattle.smith_read.proofs.Seeking.{past_less}
+use Rattle.smith_change.proofs.Seeking.{turn_there}
 
 pub sections_beyond : (a k : ℕ) (t : Tree) → places t ≤ k → sections_changed a k t ≡ None
 sections_beyond a k ends ge = refl

@@ -6,10 +6,11 @@ use Rattle.std.specs.Prelude.{slice_range}
 use Rattle.std.specs.Option.{option_map}
 use Rattle.smith_input.proofs.Rests.{drop_past, rest_at}
 use Rattle.smith_change.specs.Rows.{first_or}
-use Rattle.smith_change.specs.Search.{is_here, past, sought}
-use Rattle.smith_change.specs.declared.search.Search.{Search}
-use Rattle.smith_change.specs.declared.search.Search.TheVariants.{Ahead, Over}
-use Rattle.smith_change.proofs.Seeking.{and_then, both, past_past, sought_both, sought_here, sought_later, sought_none}
+use Rattle.smith_read.specs.Search.{is_here, past, sought}
+use Rattle.smith_read.specs.declared.search.Search.{Search}
+use Rattle.smith_read.specs.declared.search.Search.TheVariants.{Ahead, Over}
+use Rattle.smith_read.proofs.Seeking.{and_then, past_past, sought_none}
+use Rattle.smith_change.proofs.Seeking.{both, sought_both, sought_here, sought_later}
 
 pub map_drop : {A B : Type 0} (f : A → B) (xs : List A) (i : ℕ) (x : A) → i < length xs → x ≡ get_or xs i x
     → map f (drop i xs) ≡ f x ∷ map f (drop (i + 1) xs)

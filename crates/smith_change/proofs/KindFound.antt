@@ -2,10 +2,10 @@
 use Rattle.std.proofs.Common.{◌≡◌, ℕ, ◌+◌, ◌-◌, ◌<◌, ◌≤◌, Bool, true, false, ap, sym, refl, ◌∙◌, arith, is_some, rules}
 use Rattle.std.proofs.Common.{⊎_elim, ◌⊎◌, inl, inr}
 use Rattle.std.proofs.lemmas.Bool.{cases_lt}
-use Rattle.smith_change.specs.Search.{among, is_here, past}
-use Rattle.smith_change.specs.declared.search.Search.{Search}
-use Rattle.smith_change.specs.declared.search.Search.TheVariants.{Ahead, Over}
-use Rattle.smith_change.proofs.Seeking.{among_less, among_more, past_less, past_more, past_past}
+use Rattle.smith_read.specs.Search.{among, is_here, past}
+use Rattle.smith_read.specs.declared.search.Search.{Search}
+use Rattle.smith_read.specs.declared.search.Search.TheVariants.{Ahead, Over}
+use Rattle.smith_read.proofs.Seeking.{among_less, among_more, past_less, past_more, past_past}
 
 -- among the first places, or later
 

@@ -10,7 +10,7 @@ use Rattle.smith_tree.specs.Tree.{Tree}
 use Rattle.smith_change.specs.Changes.{changed, if_other, same_piece}
 use Rattle.smith_change.specs.Differs.{DiffersInOneList, DiffersInOneToken, InOneList, InOneToken, IsModuleChange, entries_tokens}
 use Rattle.smith_core.specs.StandInText.{StandIn, stand_in_text}
-use Rattle.smith_change.specs.Modules.{stand_in_at}
+use Rattle.smith_read.specs.ModuleSections.{stand_in_at}
 use Rattle.smith_change.specs.Parts.{module_changed, sections_changed, spelled, stand_in_changed}
 use Rattle.smith_change.specs.Tokens.{Token, stand_in_tokens, tokens}
 use Rattle.smith_change.proofs.Differing.{Differ, OneList, OneToken}

@@ -2,65 +2,13 @@
 use Rattle.std.proofs.Common.{◌≡◌, ℕ, ◌+◌, ◌-◌, ◌<◌, ◌≤◌, true, false, Option, Some, None, ap, sym, refl, ◌∙◌, arith, nat_lt, ⊎_elim, rules}
 use Rattle.std.proofs.lemmas.Bool.{cases_lt}
 use Rattle.std.proofs.lemmas.Bool.Decides.{nat_tests}
-use Rattle.std.specs.Prelude.{IfOk, IsSomeAnd, MatchOption, Result, Ok, Err, if◌then◌else◌}
+use Rattle.std.specs.Prelude.{IfOk, IsSomeAnd, MatchOption, Result, Ok, Err}
 use Rattle.std.specs.Option.{IsSome, option_map, option_zip}
 use Rattle.smith_change.specs.Rows.{first_or, in_turn}
-use Rattle.smith_change.specs.Search.{among, is_here, past, sought}
-use Rattle.smith_change.specs.declared.search.Search.{Search}
-use Rattle.smith_change.specs.declared.search.Search.TheVariants.{Ahead, Over}
-
--- where it is, further on
-
-pub past_none : (s : Search) → past 0 s ≡ s
-past_none (Ahead m) = search rules
-past_none Over = refl
-
-pub past_less : (n m : ℕ) → m < n → past n (Ahead m) ≡ Over
-past_less n m h = let t : nat_lt m n ≡ true = grind (arith, nat_tests) in ap (λ b. if b then Over else Ahead (m - n)) t
-
-pub past_more : (n m : ℕ) → n ≤ m → past n (Ahead m) ≡ Ahead (m - n)
-past_more n m h = let t : nat_lt m n ≡ false = grind (arith, nat_tests) in ap (λ b. if b then Over else Ahead (m - n)) t
-
-past_in : (a b m : ℕ) → b ≤ m → past a (Ahead (m - b)) ≡ past (b + a) (Ahead m)
-past_in a b m h =
-    ⊎_elim
-    (λ lt. past_less a (m - b) lt ∙ sym (past_less (b + a) m (omega arith)))
-    (λ ge. past_more a (m - b) ge ∙ (let e : m - b - a ≡ m - (b + a) = omega arith in ap Ahead e) ∙ sym (past_more (b + a) m (omega arith)))
-    (cases_lt (m - b) a)
-
-pub past_past : (a b : ℕ) (s : Search) → past a (past b s) ≡ past (b + a) s
-past_past a b (Ahead m) =
-    ⊎_elim
-    (λ lt. ap (past a) (past_less b m lt) ∙ sym (past_less (b + a) m (omega arith)))
-    (λ ge. ap (past a) (past_more b m ge) ∙ past_in a b m ge)
-    (cases_lt m b)
-past_past a b Over = refl
-
--- which it is
-
-pub among_less : (n m : ℕ) → m < n → among n (Ahead m) ≡ Some m
-among_less n m h = let t : nat_lt m n ≡ true = grind (arith, nat_tests) in rw t refl
-
-pub among_more : (n m : ℕ) → n ≤ m → among n (Ahead m) ≡ None
-among_more n m h = let t : nat_lt m n ≡ false = grind (arith, nat_tests) in rw t refl
-
-pub among_none : (s : Search) → among 0 s ≡ None
-among_none (Ahead m) = among_more 0 m (omega arith)
-among_none Over = refl
-
-module _ {A : Type 0} where
-  -- by its number, if it has one
-  abbrev pub by_number : Option ℕ → (ℕ → Option A) → A → Option A
-  by_number o g x = elim o [ None ↦ Some x | Some k ↦ g k ]
-
-  pub sought_less : (n m : ℕ) (g : ℕ → Option A) (x : A) → m < n → sought n (Ahead m) g x ≡ g m
-  sought_less n m g x h = ap (λ o. by_number o g x) (among_less n m h)
-
-  pub sought_more : (n m : ℕ) (g : ℕ → Option A) (x : A) → n ≤ m → sought n (Ahead m) g x ≡ Some x
-  sought_more n m g x h = ap (λ o. by_number o g x) (among_more n m h)
-
-  pub sought_none : (s : Search) (g : ℕ → Option A) (x : A) → sought 0 s g x ≡ Some x
-  sought_none s g x = ap (λ o. by_number o g x) (among_none s)
+use Rattle.smith_read.specs.Search.{among, is_here, past, sought}
+use Rattle.smith_read.proofs.Seeking.{and_then, by_number, past_less, past_more, past_past, sought_less, sought_more}
+use Rattle.smith_read.specs.declared.search.Search.{Search}
+use Rattle.smith_read.specs.declared.search.Search.TheVariants.{Ahead, Over}
 
 -- among the first places, or later
 
@@ -69,10 +17,6 @@ turn_here n k first later h = let t : nat_lt k n ≡ true = grind (arith, nat_te
 
 pub turn_there : {C : Type 0} (n k : ℕ) (first later : ℕ → C) → n ≤ k → in_turn n first later k ≡ later (k - n)
 turn_there n k first later h = let t : nat_lt k n ≡ false = grind (arith, nat_tests) in rw t refl
-
-abbrev pub and_then : {A B : Type 0} → Option A → (A → Option B) → Option B
-and_then None f = None
-and_then (Some x) f = f x
 
 -- A first that has n places, and a second that has m.
 module _ {A B C : Type 0} (cons : A → B → C) (n m : ℕ) (f : ℕ → Option A) (g : ℕ → Option B) (x : A) (y : B) where

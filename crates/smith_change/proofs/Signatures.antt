@@ -4,8 +4,8 @@ use Rattle.std.specs.Option.{IsSome, option_map, option_zip}
 use Rattle.smith_syntax.specs.Entries.{Field, Signature}
 use Rattle.smith_syntax.specs.declared.types.ComponentValType.{ComponentValType}
 use Rattle.smith_change.specs.Members.{fields_changed, fields_places, most_params, optional_changed, optional_places, signature_changed, signature_places}
-use Rattle.smith_change.specs.Search.{past, sought}
-use Rattle.smith_change.specs.declared.search.Search.{Search}
+use Rattle.smith_read.specs.Search.{past, sought}
+use Rattle.smith_read.specs.declared.search.Search.{Search}
 use Rattle.smith_change.proofs.RowsOf.{same_option}
 use Rattle.smith_change.proofs.Seeking.{found_both, moved_both}
 

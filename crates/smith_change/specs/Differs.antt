@@ -2,7 +2,7 @@
 use Rattle.std.specs.Prelude.{◌≡◌, ◌≢◌, ◌⊎◌, ℕ, List, [], ◌∷◌, ◌++◌, Some}
 use Rattle.smith_core.specs.StandInText.{StandIn, stand_in_text}
 use Rattle.smith_tree.specs.Tree.{Tree}
-use Rattle.smith_change.specs.Modules.{stand_in_at}
+use Rattle.smith_read.specs.ModuleSections.{stand_in_at}
 use Rattle.smith_change.specs.Tokens.{Token, list_tokens, stand_in_tokens, tokens}
 
 -- one token is another, or may be

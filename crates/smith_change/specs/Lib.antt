@@ -3,12 +3,10 @@ pub mod Changes
 pub mod CoreTypes
 pub mod Differs
 pub mod Members
-pub mod Modules
+pub mod Miswritten
 pub mod Owners
 pub mod Parts
 pub mod Refusals
 pub mod Rows
-pub mod Search
-pub mod Sections
 pub mod Tokens
 pub mod Types

@@ -10,7 +10,7 @@ use Rattle.smith_tree.specs.Tree.{Canon, ExportEntry, Part, Tree, canons, compon
 use Rattle.smith_tree.specs.Tree.{lift, lower, parts_of, tree_of, types}
 use Rattle.smith_change.specs.Alternatives.{index_alternative, memory_alternative, name_alternative}
 use Rattle.smith_change.specs.CoreTypes.{core_changed, core_places, function_changed, function_places}
-use Rattle.smith_change.specs.Modules.{stand_in_at}
+use Rattle.smith_read.specs.ModuleSections.{stand_in_at}
 use Rattle.smith_change.specs.Rows.{again_name, entry_alternative, first_or, in_turn, row_changed, row_places, unnamed}
 use Rattle.smith_change.specs.Types.{entry_changed, entry_places, extern_changed}
 

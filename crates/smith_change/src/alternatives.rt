@@ -4,7 +4,7 @@ ghost use Rattle.std.specs.Prelude.{◌≡◌, ◌++◌, Some, map, IfOk, option
 ghost use Rattle.smith_syntax.specs.Entries.{primitive_type};
 ghost use Rattle.smith_change.specs.Alternatives as table;
 
-use crate::search::Changed;
+use crate::change::Changed;
 use smith_format::{MemoryType, RefType, TableType, ValType};
 use smith_syntax::{ComponentTypeRef, ComponentValType, DefinedType, PrimitiveValType};
 use std::alloc::{AllocError, Global};

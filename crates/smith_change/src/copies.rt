@@ -6,12 +6,12 @@ ghost use Rattle.smith_syntax.specs.Shown.{shown_defined};
 ghost use Rattle.smith_tree.specs.Tree.{tree_of};
 ghost use Rattle.smith_read.specs.PartNodes.{shown_part_node};
 ghost use Rattle.smith_read.specs.TypeNodes.{shown_decl_node, shown_type_node};
-ghost use Rattle.smith_change.specs.Search.{sought};
+ghost use Rattle.smith_read.specs.Search.{sought};
 
+use crate::change::Change;
 use crate::members::{change_defined, change_signature};
 use crate::rows::{Entry, copied_all, named};
-use crate::search::{Change, Search};
-use smith_read::{CustomSection, DeclNode, PartNode, TypeNode};
+use smith_read::{CustomSection, DeclNode, PartNode, Search, TypeNode};
 use smith_syntax::{DefinedType, FuncType};
 use std::alloc::{AllocError, Global};
 

@@ -8,18 +8,18 @@ ghost use Rattle.smith_read.specs.Nodes.{shown_core_node, shown_module_node};
 ghost use Rattle.smith_change.specs.Alternatives as table;
 ghost use Rattle.smith_change.specs.CoreTypes as core;
 ghost use Rattle.smith_change.specs.Rows as rows;
-ghost use Rattle.smith_change.specs.Search.{past, sought};
+ghost use Rattle.smith_read.specs.Search.{past, sought};
 
 use crate::alternatives::{
     core_value_alternative, element_alternative, index_alternative, memory_alternative, only,
     table_alternative,
 };
+use crate::change::{Change, Changed};
 use crate::rows::{Entry, Row, again_name, change_row, copied_all, named};
-use crate::search::{Change, Changed, Search};
 use smith_format::{
     EntityType, FuncType, GlobalType, MemoryType, RefType, TableType, TagType, ValType,
 };
-use smith_read::{CoreNode, ModuleNode};
+use smith_read::{CoreNode, ModuleNode, Search};
 use std::alloc::{AllocError, Global};
 
 impl Entry for ValType {
@@ -50,7 +50,7 @@ impl Entry for ValType {
 
 impl Row for ValType {
     fn changed(&self, change: Change, search: &mut Search) -> Changed<ValType> {
-        Ok(search.token(*self, core_value_alternative(change.alternative, *self)))
+        Ok(search.value_or(*self, core_value_alternative(change.alternative, *self)))
     }
 }
 
@@ -114,7 +114,7 @@ fn change_func(change: Change, search: &mut Search, index: u32) -> Option<Entity
             EntityType::Tag(TagType { func_type_idx }),
         );
     }
-    let index = search.token(index, index_alternative(change.alternative, index));
+    let index = search.value_or(index, index_alternative(change.alternative, index));
     index.map(EntityType::Func)
 }
 
@@ -151,7 +151,7 @@ fn change_table(change: Change, search: &mut Search, ty: TableType) -> Option<En
     if search.step() {
         return element_alternative(change.alternative, ty).map(EntityType::Table);
     }
-    let ty = search.token(ty, table_alternative(change.alternative, ty));
+    let ty = search.value_or(ty, table_alternative(change.alternative, ty));
     ty.map(EntityType::Table)
 }
 
@@ -173,7 +173,7 @@ fn change_memory(change: Change, search: &mut Search, ty: MemoryType) -> Option<
     if search.step() {
         return unshared(change.alternative, ty);
     }
-    let ty = search.token(ty, memory_alternative(change.alternative, ty));
+    let ty = search.value_or(ty, memory_alternative(change.alternative, ty));
     ty.map(EntityType::Memory)
 }
 
@@ -190,7 +190,7 @@ fn change_global(change: Change, search: &mut Search, ty: GlobalType) -> Option<
         mutable: !ty.mutable,
         ..ty
     };
-    let ty = search.token(ty, only(change.alternative, other));
+    let ty = search.value_or(ty, only(change.alternative, other));
     ty.map(EntityType::Global)
 }
 
@@ -203,7 +203,7 @@ fn change_tag(change: Change, search: &mut Search, ty: TagType) -> Option<Entity
     if search.step() {
         return only(change.alternative, EntityType::Func(index));
     }
-    let index = search.token(index, index_alternative(change.alternative, index));
+    let index = search.value_or(index, index_alternative(change.alternative, index));
     index.map(|func_type_idx| EntityType::Tag(TagType { func_type_idx }))
 }
 
@@ -232,8 +232,8 @@ pub(crate) fn change_outer(
         (λ k. core.outer_changed change.alternative k (count, index)) (count, index) }
     ensures moved { search.new ≡ past 2 search.old }
 {
-    let new_count = search.token(count, index_alternative(change.alternative, count));
-    let new_index = search.token(index, index_alternative(change.alternative, index));
+    let new_count = search.value_or(count, index_alternative(change.alternative, count));
+    let new_index = search.value_or(index, index_alternative(change.alternative, index));
     new_count.zip(new_index)
 }
 

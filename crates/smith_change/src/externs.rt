@@ -9,14 +9,14 @@ ghost use Rattle.smith_read.specs.PartNodes.{shown_import_node};
 ghost use Rattle.smith_change.specs.Alternatives.{index_alternative};
 ghost use Rattle.smith_change.specs.Parts as parts;
 ghost use Rattle.smith_change.specs.Rows as rows;
-ghost use Rattle.smith_change.specs.Search.{past, sought};
+ghost use Rattle.smith_read.specs.Search.{past, sought};
 ghost use Rattle.smith_change.specs.Types as types;
 
 use crate::alternatives::{index_alternative, ref_index, sort_alternative, with_index};
+use crate::change::{Change, Changed};
 use crate::rows::{Entry, Row, again_name, named};
-use crate::search::{Change, Changed, Search};
 use crate::values::change_name;
-use smith_read::{Export, Func, ImportNode};
+use smith_read::{Export, Func, ImportNode, Search};
 use smith_syntax::ComponentTypeRef;
 use std::alloc::{AllocError, Global};
 
@@ -24,7 +24,7 @@ fn change_index(change: Change, search: &mut Search, index: u32) -> Option<u32>
     ensures index { result ≡ sought 1 search.old (λ k. index_alternative change.alternative index) index }
     ensures moved { search.new ≡ past 1 search.old }
 {
-    search.token(index, index_alternative(change.alternative, index))
+    search.value_or(index, index_alternative(change.alternative, index))
 }
 
 fn change_ref(change: Change, search: &mut Search, to: ComponentTypeRef) -> Option<ComponentTypeRef>

@@ -8,13 +8,11 @@ ghost use Rattle.smith_read.specs.TypeNodes.{shown_decl_node, shown_type_node};
 ghost use Rattle.smith_change.specs.Changes as spec;
 ghost use Rattle.smith_change.specs.Parts as parts;
 ghost use Rattle.smith_change.specs.Rows.{row_places};
-ghost use Rattle.smith_change.specs.Search.{among, past};
+ghost use Rattle.smith_read.specs.Search.{among, past};
 ghost use Rattle.smith_change.specs.Types as types;
 
 use crate::placed::kind_in_signature;
-use crate::search::Search;
-use crate::sections::module_sections_of;
-use smith_read::{ComponentTree, DeclNode, PartNode, TypeNode, Unread};
+use smith_read::{ComponentTree, DeclNode, PartNode, Search, TypeNode, Unread, module_sections_of};
 use std::alloc::{AllocError, Global};
 
 /// What sort of place a change is at.

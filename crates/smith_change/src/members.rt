@@ -7,12 +7,13 @@ ghost use Rattle.smith_syntax.specs.Entries.{result_type, tuple_type, variant_ty
 ghost use Rattle.smith_syntax.specs.Signature.{named};
 ghost use Rattle.smith_change.specs.Members as members;
 ghost use Rattle.smith_change.specs.Rows as rows;
-ghost use Rattle.smith_change.specs.Search.{past, sought};
+ghost use Rattle.smith_read.specs.Search.{past, sought};
 
 use crate::alternatives::{only, primitive_alternative};
+use crate::change::{Change, Changed};
 use crate::rows::{Entry, Row, change_row, copied_all};
-use crate::search::{Change, Changed, Search};
 use crate::values::{change_optional, change_value};
+use smith_read::Search;
 use smith_syntax::{
     ComponentValType, DefinedType, EnumType, FlagsType, FuncType, ListType, OptionType, RecordType,
     ResultType, TupleType, VariantType,
@@ -192,7 +193,7 @@ pub(crate) fn change_defined(
 {
     match ty {
         DefinedType::Primitive(ty) => {
-            let ty = search.token(*ty, primitive_alternative(change.alternative));
+            let ty = search.value_or(*ty, primitive_alternative(change.alternative));
             Ok(ty.map(DefinedType::Primitive))
         }
         DefinedType::Record(ty) => {

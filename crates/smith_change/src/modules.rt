@@ -3,26 +3,28 @@
 ghost use Rattle.std.specs.Prelude.{◌≡◌, None, Option, Some, IfOk, IsSome, map, option_map};
 ghost use Rattle.smith_format.specs.CoreTypes.{Function};
 ghost use Rattle.smith_format.specs.declared.types.MemoryType.{MemoryType};
+ghost use Rattle.smith_format.specs.Shown.{shown_func};
+ghost use Rattle.smith_core.specs.StandInText.{stand_in_text};
+ghost use Rattle.smith_read.specs.ModuleSections.{shown_sections, stand_in_at};
 ghost use Rattle.smith_change.specs.CoreTypes as core;
-ghost use Rattle.smith_change.specs.Modules.{stand_in_at};
 ghost use Rattle.smith_change.specs.Parts as parts;
 ghost use Rattle.smith_change.specs.Rows as rows;
-ghost use Rattle.smith_change.specs.Search.{past, sought};
-ghost use Rattle.smith_change.specs.Sections.{shown_function, shown_memory, shown_sections};
+ghost use Rattle.smith_read.specs.Search.{past, sought};
 
 use crate::alternatives::memory_alternative;
+use crate::change::{Change, Changed};
 use crate::core_types::{change_function, copy_function};
 use crate::rows::{Entry, Row, change_row};
-use crate::search::{Change, Changed, Search};
-use crate::sections::{FunctionNode, MemoryNode, ModuleSections, module_sections_of};
-use crate::texts::module_text;
-use smith_read::Unread;
+use smith_core::put_stand_in;
+use smith_format::{FuncType, MemoryType};
+use smith_input::Error;
+use smith_read::{ModuleSections, Search, Unread, module_sections_of};
 use std::alloc::{AllocError, Global};
 
-impl Entry for FunctionNode {
+impl Entry for FuncType {
     ghost Shown = { Function };
 
-    ghost shown = { shown_function };
+    ghost shown = { shown_func };
 
     ghost places = { core.function_places };
 
@@ -32,31 +34,29 @@ impl Entry for FunctionNode {
 
     ghost fresh = { λ n. None };
 
-    fn copied(&self, alloc: Global) -> Result<FunctionNode, AllocError> {
-        let ty = copy_function(alloc, &self.ty)?;
-        Ok(FunctionNode { ty })
+    fn copied(&self, alloc: Global) -> Result<FuncType, AllocError> {
+        copy_function(alloc, self)
     }
 
-    fn renamed(&self, _alloc: Global) -> Changed<FunctionNode> {
+    fn renamed(&self, _alloc: Global) -> Changed<FuncType> {
         Ok(None)
     }
 
-    fn fresh(_alloc: Global, _number: usize) -> Changed<FunctionNode> {
+    fn fresh(_alloc: Global, _number: usize) -> Changed<FuncType> {
         Ok(None)
     }
 }
 
-impl Row for FunctionNode {
-    fn changed(&self, change: Change, search: &mut Search) -> Changed<FunctionNode> {
-        let ty = change_function(change, search, &self.ty)?;
-        Ok(ty.map(|ty| FunctionNode { ty }))
+impl Row for FuncType {
+    fn changed(&self, change: Change, search: &mut Search) -> Changed<FuncType> {
+        change_function(change, search, self)
     }
 }
 
-impl Entry for MemoryNode {
+impl Entry for MemoryType {
     ghost Shown = { MemoryType };
 
-    ghost shown = { shown_memory };
+    ghost shown = { λ m. m };
 
     ghost places = { parts.memory_places };
 
@@ -66,23 +66,22 @@ impl Entry for MemoryNode {
 
     ghost fresh = { λ n. None };
 
-    fn copied(&self, _alloc: Global) -> Result<MemoryNode, AllocError> {
-        Ok(MemoryNode { ty: self.ty })
+    fn copied(&self, _alloc: Global) -> Result<MemoryType, AllocError> {
+        Ok(*self)
     }
 
-    fn renamed(&self, _alloc: Global) -> Changed<MemoryNode> {
+    fn renamed(&self, _alloc: Global) -> Changed<MemoryType> {
         Ok(None)
     }
 
-    fn fresh(_alloc: Global, _number: usize) -> Changed<MemoryNode> {
+    fn fresh(_alloc: Global, _number: usize) -> Changed<MemoryType> {
         Ok(None)
     }
 }
 
-impl Row for MemoryNode {
-    fn changed(&self, change: Change, search: &mut Search) -> Changed<MemoryNode> {
-        let ty = search.token(self.ty, memory_alternative(change.alternative, self.ty));
-        Ok(ty.map(|ty| MemoryNode { ty }))
+impl Row for MemoryType {
+    fn changed(&self, change: Change, search: &mut Search) -> Changed<MemoryType> {
+        Ok(search.value_or(*self, memory_alternative(change.alternative, *self)))
     }
 }
 
@@ -113,6 +112,18 @@ fn sections_of(alloc: Global, text: &[u8]) -> Changed<ModuleSections>
         Ok(sections) => Ok(Some(sections)),
         Err(Unread::OutOfMemory) => Err(AllocError),
         Err(Unread::Malformed { .. }) => Ok(None),
+    }
+}
+
+// The bytes of the module with these sections, if it has an encoding.
+fn module_text(alloc: Global, sections: &ModuleSections) -> Changed<Vec<u8>>
+    ensures { IfOk result (λ r. option_map (λ v. v.items) r ≡ stand_in_text (shown_sections sections.now)) }
+{
+    let mut out = Vec::new(alloc);
+    match put_stand_in(&mut out, &sections.types, &sections.memories) {
+        Ok(()) => Ok(Some(out)),
+        Err(Error::TooLong) => Ok(None),
+        Err(_) => Err(AllocError),
     }
 }
 

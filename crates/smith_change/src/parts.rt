@@ -5,13 +5,13 @@ ghost use Rattle.smith_tree.specs.Tree.{Part, tree_of};
 ghost use Rattle.smith_read.specs.PartNodes.{shown_part_node};
 ghost use Rattle.smith_change.specs.Parts as parts;
 ghost use Rattle.smith_change.specs.Rows as rows;
-ghost use Rattle.smith_change.specs.Search.{past, sought};
+ghost use Rattle.smith_read.specs.Search.{past, sought};
 
+use crate::change::{Change, Changed};
 use crate::copies::copy_part;
 use crate::modules::change_module;
 use crate::rows::{Entry, change_entry, change_row};
-use crate::search::{Change, Changed, Search};
-use smith_read::PartNode;
+use smith_read::{PartNode, Search};
 use std::alloc::{AllocError, Global};
 
 impl Entry for PartNode {

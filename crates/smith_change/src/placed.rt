@@ -17,14 +17,11 @@ ghost use Rattle.smith_read.specs.PartNodes.{shown_import_node};
 ghost use Rattle.smith_change.specs.CoreTypes as core;
 ghost use Rattle.smith_change.specs.Members as members;
 ghost use Rattle.smith_change.specs.Parts as parts;
-ghost use Rattle.smith_change.specs.Search.{among, past};
-ghost use Rattle.smith_change.specs.Sections.{shown_function, shown_memory};
+ghost use Rattle.smith_read.specs.Search.{among, past};
 
 use crate::kinds::{PlaceKind, Places, kind_among, kind_in_row};
-use crate::search::Search;
-use crate::sections::{FunctionNode, MemoryNode};
-use smith_format::{EntityType, FuncType as CoreFunc, ValType};
-use smith_read::{CoreNode, Export, Func, ImportNode, ModuleNode};
+use smith_format::{EntityType, FuncType as CoreFunc, MemoryType, ValType};
+use smith_read::{CoreNode, Export, Func, ImportNode, ModuleNode, Search};
 use smith_syntax::{ComponentValType, DefinedType, FuncType};
 
 #[tactic(auto, using(crate::proofs::KindFound::kinds))]
@@ -301,23 +298,10 @@ impl Places for Export {
     }
 }
 
-impl Places for FunctionNode {
-    ghost Shown = { Function };
-
-    ghost shown = { shown_function };
-
-    ghost places = { core.function_places };
-
-    #[tactic(auto, using(crate::proofs::KindFound::kinds))]
-    fn kind_at(&self, search: &mut Search) -> Option<PlaceKind> {
-        self.ty.kind_at(search)
-    }
-}
-
-impl Places for MemoryNode {
+impl Places for MemoryType {
     ghost Shown = { MemoryType };
 
-    ghost shown = { shown_memory };
+    ghost shown = { λ m. m };
 
     ghost places = { parts.memory_places };
 

@@ -2,9 +2,10 @@
 
 ghost use Rattle.std.specs.Prelude.{◌≡◌, ◌++◌, ℕ, Option, Some, map, IfOk, IsSome, option_map, string_bytes};
 ghost use Rattle.smith_change.specs.Rows as rows;
-ghost use Rattle.smith_change.specs.Search.{past, sought};
+ghost use Rattle.smith_read.specs.Search.{past, sought};
 
-use crate::search::{Change, Changed, Search};
+use crate::change::{Change, Changed};
+use smith_read::Search;
 use std::alloc::{AllocError, Global};
 
 /// What stands in a row with others.

@@ -8,14 +8,15 @@ ghost use Rattle.smith_change.specs.Changes as spec;
 ghost use Rattle.smith_change.specs.Parts.{places, sections_changed};
 ghost use Rattle.smith_change.specs.Refusals.{IsRefusal};
 
+use crate::change::{Change, Changed};
 use crate::error::ChangeError;
 use crate::parts::change_parts;
-use crate::search::{Change, Changed, Search};
-use smith_read::{ComponentTree, WriteError, read, write};
+use smith_read::{ComponentTree, Search, WriteError, read, write};
 use std::alloc::{AllocError, Global};
 
-// How many alternatives a place may have.
-const ALTERNATIVES: usize = 16;
+/// How many alternatives a place may have: the number of a change is this times that of its place, and the number of the
+/// alternative.
+pub const ALTERNATIVES: usize = 16;
 
 /// A change, and the component to which it leads.
 #[derive(Debug, PartialEq, Eq, Drop)]
@@ -186,6 +187,22 @@ pub fn change_count(alloc: Global, bytes: &[u8]) -> Result<usize, ChangeError>
 {
     let tree = read(alloc, bytes)?;
     Ok(changes(alloc, &tree)?)
+}
+
+/// The bytes of the component to which that change leads; none if it leads to nothing.
+///
+/// It takes time and memory in proportion to the bytes.
+pub fn changed_bytes(
+    alloc: Global,
+    bytes: &[u8],
+    number: usize,
+) -> Result<Option<Vec<u8>>, ChangeError>
+    ensures answered { IfOk result (λ r. (t : Tree) × Spells t bytes.now
+        × spec.IsLead t number (option_map (λ b. b.items) r)) }
+    ensures refuses { IfErr result (IsRefusal bytes.now) }
+{
+    let tree = read(alloc, bytes)?;
+    Ok(led_to(alloc, &tree, bytes, number)?)
 }
 
 /// The first change from that number on that leads to a component other than the one that these bytes are, and its

@@ -8,17 +8,17 @@ ghost use Rattle.smith_read.specs.TypeNodes.{shown_decl_node, shown_type_node};
 ghost use Rattle.smith_change.specs.Alternatives as table;
 ghost use Rattle.smith_change.specs.Owners.{may_import};
 ghost use Rattle.smith_change.specs.Rows as rows;
-ghost use Rattle.smith_change.specs.Search.{past, sought};
+ghost use Rattle.smith_read.specs.Search.{past, sought};
 ghost use Rattle.smith_change.specs.Types as types;
 
 use crate::alternatives::only;
+use crate::change::{Change, Changed};
 use crate::copies::{copy_declaration, copy_declarations, copy_type};
 use crate::core_types::change_outer;
 use crate::externs::change_extern;
 use crate::members::{change_defined, change_signature};
 use crate::rows::{Entry, Row, again_name, change_entry, named};
-use crate::search::{Change, Changed, Search};
-use smith_read::{DeclNode, TypeNode};
+use smith_read::{DeclNode, Search, TypeNode};
 use smith_syntax::ComponentTypeRef;
 use std::alloc::{AllocError, Global};
 

@@ -7,11 +7,12 @@ ghost use Rattle.smith_syntax.specs.declared.types.ComponentValType.{ComponentVa
 ghost use Rattle.smith_change.specs.Alternatives as table;
 ghost use Rattle.smith_change.specs.Members as members;
 ghost use Rattle.smith_change.specs.Rows as rows;
-ghost use Rattle.smith_change.specs.Search.{past, sought};
+ghost use Rattle.smith_read.specs.Search.{past, sought};
 
 use crate::alternatives::{name_alternative, presence_alternative, value_alternative};
+use crate::change::{Change, Changed};
 use crate::rows::{Entry, Row, again_name};
-use crate::search::{Change, Changed, Search};
+use smith_read::Search;
 use smith_syntax::{ComponentValType, PrimitiveValType};
 use std::alloc::{AllocError, Global};
 

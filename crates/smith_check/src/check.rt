@@ -179,7 +179,8 @@ fn item_after(item: usize, step: Step<'_>) -> Result<usize, AllocError>
 /// Judges whether a component is well formed: `WellFormed` exactly if it is, and `IllFormed` exactly if it is not, with
 /// the first rule that it breaks and the number of the item that breaks it: what precedes that item is well formed, and
 /// what ends with it is not. No contract says which rule it is. If the standard asks it, no validator may accept the
-/// component. An error is returned only if an allocation failed, and says nothing about the component.
+/// component. An error is returned only if an allocation failed, and
+/// says nothing about the component.
 ///
 /// Each item is looked at once. The stack is bounded by how deep types nest, however deep components do.
 pub fn judged(alloc: Global, component: &ComponentTree) -> Result<Judgement, AllocError>

@@ -9,7 +9,7 @@ use Rattle.smith_format.specs.declared.types.FuncType.{FuncType}
 use Rattle.smith_format.specs.declared.types.MemoryType.{MemoryType}
 use Rattle.smith_core.specs.Module.{has_any}
 use Rattle.smith_core.specs.StandIn.{groups_from}
-use Rattle.smith_core.specs.StandInText.{StandIn}
+use Rattle.smith_core.specs.StandInText.{StandIn, stand_in}
 use Rattle.smith_core.specs.declared.module.Kept.{Kept}
 use Rattle.smith_core.specs.declared.module.Kept.TheVariants as kept
 use Rattle.smith_core.specs.declared.module.parts.ModuleParts.{ModuleParts}
@@ -78,7 +78,7 @@ stand_in_parts s = parts_of s.bulk_memory_enabled (map final_type s.types.items)
 
 -- its function types and memories
 abbrev pub shown : program.StandIn → StandIn
-shown s = record { types = map shown_func s.types.items; memories = s.memories.items }
+shown s = stand_in (map shown_func s.types.items) s.memories.items
 
 -- the parts of a module
 abbrev pub parts_in : Kept → ModuleParts

@@ -12,6 +12,9 @@ pub record StandIn : Type 0 where
   pub types : List Function
   pub memories : List MemoryType
 
+abbrev pub stand_in : List Function → List MemoryType → StandIn
+stand_in types memories = record { types = types; memories = memories }
+
 -- a section of a list, which is there if the list has an entry
 abbrev pub listed : {A : Type 0} → ℕ → (A → Piece) → List A → Piece
 listed id f xs = if has_any xs then sized id (many f xs) else bytes []

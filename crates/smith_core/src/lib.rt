@@ -7,7 +7,7 @@ mod preamble;
 
 pub use module::{
     Code, CompositeType, DataSegment, DataSegmentKind, ElementKind, ElementSegment, Elements,
-    FieldType, Instructions, Module, ModuleParts, Offset, StorageType, SubType,
+    FieldType, Instructions, Module, ModuleParts, Offset, StorageType, SubType, put_stand_in,
 };
 pub use preamble::{COMPONENT_PREAMBLE, CORE_PREAMBLE};
 pub use smith_format::{

@@ -23,6 +23,7 @@ pub use segments::{
 use smith_format::settled;
 use smith_input::Error;
 use stand_in::StandIn;
+pub use stand_in::put_stand_in;
 use std::alloc::Global;
 use std::marker::Model;
 pub use types::{CompositeType, FieldType, StorageType, SubType};

@@ -1,1 +1,2 @@
+pub mod NearMisses
 pub mod Samples

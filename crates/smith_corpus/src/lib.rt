@@ -1,10 +1,12 @@
-//! Inputs for the corpus of a fuzzer, drawn at random and read to their end.
+//! Inputs for the corpus of a fuzzer, drawn at random and read to their end, and near misses of their components.
 #![tactic(auto)]
 
+mod breaking;
 mod drawing;
 mod samples;
 mod swarms;
 
+pub use breaking::{Difference, Finding, NearMiss, Taken, miswritten, near_miss};
 pub use rand_pcg::Pcg32;
 pub use samples::{Sample, SampleError, draw};
 pub use smith_format::Config;

@@ -4,17 +4,19 @@ use Rattle.std.proofs.lemmas.Bool.{cases_lt}
 use Rattle.std.proofs.lemmas.Bool.Decides.{nat_tests}
 use Rattle.smith_tree.specs.Tree.{Part, Tree}
 use Rattle.smith_edit.specs.Items.{part_items, tree_items}
-use Rattle.smith_edit.specs.Search.{found, is_here, past}
+use Rattle.smith_read.specs.Search.{is_here, past}
+use Rattle.smith_edit.specs.Search.{found}
 use Rattle.smith_edit.specs.Simpler.{component_at, component_in, itself_or}
-use Rattle.smith_edit.specs.declared.simpler.search.Search.{Search}
-use Rattle.smith_edit.specs.declared.simpler.search.Search.TheVariants.{Ahead, Over}
-use Rattle.smith_edit.proofs.Seeking.{ahead_one, among_less, among_more}
+use Rattle.smith_read.specs.declared.search.Search.{Search}
+use Rattle.smith_read.specs.declared.search.Search.TheVariants.{Ahead, Over}
+use Rattle.smith_read.proofs.Seeking.{ahead_one, among_less, among_more}
 use Rattle.std.proofs.Common.{◌-◌, List}
 use Rattle.std.specs.Option.{option_map}
 use Rattle.smith_tree.specs.Tree.{ends, first, exports_of, imports_of}
 use Rattle.smith_tree.specs.WellFormed.{export_names, import_names}
 use Rattle.smith_edit.specs.Simpler.{sections_of, sections_simplified, simplified}
-use Rattle.smith_edit.proofs.Seeking.{past_less, turn_there}
+use Rattle.smith_read.proofs.Seeking.{past_less}
+use Rattle.smith_edit.proofs.Seeking.{turn_there}
 
 module _ {A : Type 0} where
   abbrev by_place : Option ℕ → (ℕ → Option A) → Option A

@@ -7,6 +7,7 @@ use Rattle.std.specs.Prelude.{if◌then◌else◌}
 use Rattle.smith_tree.specs.Tree.{Part}
 use Rattle.smith_read.proofs.PartNodes.{shown_canons, shown_core_types, shown_custom, shown_exports, shown_imports, shown_module, shown_nested}
 use Rattle.smith_read.proofs.PartNodes.{shown_types}
+use Rattle.smith_read.proofs.Seeking.{pass_both, pass_more}
 use Rattle.smith_edit.specs.Removal.{inside, past, removes}
 use Rattle.smith_edit.specs.declared.walk.Removal.{Removal}
 use Rattle.smith_edit.specs.declared.walk.Removal.TheVariants.{Nothing, Item, Everything}
@@ -16,29 +17,6 @@ use Rattle.smith_edit.specs.Items.{core_items, entry_items, none_inside, part_it
 use Rattle.smith_edit.specs.Walk.{Walk, entered, exited, skipped}
 use Rattle.smith_edit.specs.declared.walk.Scope.{Scope}
 use Rattle.smith_tree.specs.Tree as part
-
--- A place some way ahead, or past: what is true of it after that many items.
-module _ {A : Type 0} (over : A) (ahead : ℕ → A) (pass : ℕ → A → A)
-    (passed : (n m : ℕ) → pass n (ahead m) ≡ (if nat_lt m n then over else ahead (m - n))) (stays : (n : ℕ) → pass n over ≡ over) where
-  pub pass_less : (n m : ℕ) → m < n → pass n (ahead m) ≡ over
-  pass_less n m h = let t : nat_lt m n ≡ true = grind (arith, nat_tests) in passed n m ∙ ap (λ b. if b then over else ahead (m - n)) t
-
-  pub pass_more : (n m : ℕ) → n ≤ m → pass n (ahead m) ≡ ahead (m - n)
-  pass_more n m h = let t : nat_lt m n ≡ false = grind (arith, nat_tests) in passed n m ∙ ap (λ b. if b then over else ahead (m - n)) t
-
-  pass_in : (a b m : ℕ) → b ≤ m → pass a (ahead (m - b)) ≡ pass (b + a) (ahead m)
-  pass_in a b m h =
-      ⊎_elim
-      (λ lt. pass_less a (m - b) lt ∙ sym (pass_less (b + a) m (omega arith)))
-      (λ ge. pass_more a (m - b) ge ∙ (let e : m - b - a ≡ m - (b + a) = omega arith in ap ahead e) ∙ sym (pass_more (b + a) m (omega arith)))
-      (cases_lt (m - b) a)
-
-  pub pass_both : (a b m : ℕ) → pass a (pass b (ahead m)) ≡ pass (b + a) (ahead m)
-  pass_both a b m =
-      ⊎_elim
-      (λ lt. ap (pass a) (pass_less b m lt) ∙ stays a ∙ sym (pass_less (b + a) m (omega arith)))
-      (λ ge. ap (pass a) (pass_more b m ge) ∙ pass_in a b m ge)
-      (cases_lt m b)
 
 pub past_none : (r : Removal) → past 0 r ≡ r
 past_none Nothing = refl

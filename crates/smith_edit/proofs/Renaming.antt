@@ -7,12 +7,13 @@ use Rattle.std.specs.Option.{is_some, option_map, option_to_list}
 use Rattle.smith_syntax.specs.Entries.{Signature}
 use Rattle.smith_syntax.specs.declared.types.ComponentValType.{ComponentValType}
 use Rattle.smith_edit.specs.Items.{signature_items}
-use Rattle.smith_edit.specs.Search.{among, past, sought}
+use Rattle.smith_read.specs.Search.{among, past, sought}
 use Rattle.smith_edit.specs.ShortNames.{shorter_name}
 use Rattle.smith_edit.specs.Simpler.{fields_simplified, renamed_at, signature_simplified}
-use Rattle.smith_edit.specs.declared.simpler.search.Search.{Search}
-use Rattle.smith_edit.specs.declared.simpler.search.Search.TheVariants.{Ahead, Over}
-use Rattle.smith_edit.proofs.Seeking.{and_then, by_number, past_less, sought_more, sought_turn}
+use Rattle.smith_read.specs.declared.search.Search.{Search}
+use Rattle.smith_read.specs.declared.search.Search.TheVariants.{Ahead, Over}
+use Rattle.smith_read.proofs.Seeking.{and_then, by_number, past_less, sought_more}
+use Rattle.smith_edit.proofs.Seeking.{sought_turn}
 
 module _ {A : Type 0} (name : A → List ℕ) (rename : A → List ℕ → A) (names : List (List ℕ)) where
   -- there is none past the last

@@ -11,13 +11,14 @@ ghost use Rattle.std.specs.Prelude.{◌≡◌, ◌+◌, None, Some, map, IfOk, o
 ghost use Rattle.smith_tree.specs.Tree.{tree_of};
 ghost use Rattle.smith_read.specs.PartNodes.{shown_part_node, shown_tree};
 ghost use Rattle.smith_edit.specs.Items.{part_items, tree_items};
-ghost use Rattle.smith_edit.specs.Search.{found, past};
+ghost use Rattle.smith_read.specs.Search.{past};
+ghost use Rattle.smith_edit.specs.Search.{found};
 ghost use Rattle.smith_edit.specs.Simpler.{component_at, component_in, simplified};
 
 use self::parts::simplify_parts;
-use self::search::{Finder, Search};
+use self::search::Finder;
 use crate::items::part_items;
-use smith_read::{ComponentTree, PartNode};
+use smith_read::{ComponentTree, PartNode, Search};
 use std::alloc::{AllocError, Global};
 
 // The sections of the component that is sought, if it is this section or inside it.

@@ -19,3 +19,7 @@ pub mod Inner
 pub mod Leads
 pub mod WrittenTypes
 pub mod WrittenParts
+pub mod SectionWalk
+pub mod Spelled
+pub mod TellingModules
+pub mod Seeking

@@ -15,3 +15,6 @@ pub mod Levels
 pub mod TypeNodes
 pub mod SectionEntries
 pub mod Leads
+pub mod Framed
+pub mod ModuleSections
+pub mod Search

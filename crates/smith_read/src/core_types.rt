@@ -73,7 +73,7 @@ impl Readable for ValType {
 
 /// A function type after its first byte.
 #[tactic(auto, unfolding(crate::specs::CoreTypes::core_function_at))]
-pub fn core_function_of(alloc: Global, bytes: &[u8]) -> Result<(FuncType, &[u8]), Unread>
+pub(crate) fn core_function_of(alloc: Global, bytes: &[u8]) -> Result<(FuncType, &[u8]), Unread>
     ensures { Gives (λ x. (shown_func x.0, x.1.now)) result (core_function_at bytes.now) }
 {
     let (params, rest) = many_of(alloc, bytes)?;
@@ -92,7 +92,7 @@ fn bounds_of(bytes: &[u8]) -> Result<((u64, u64), &[u8]), Unread>
 
 /// Limits, with what says whether what has them is shared, and whether it has 64 bits.
 #[tactic(auto, unfolding(crate::specs::CoreTypes::limits_at, crate::specs::CoreTypes::limits_after))]
-pub fn limits_of(bytes: &[u8]) -> Result<((bool, bool, u64, Option<u64>), &[u8]), Unread>
+pub(crate) fn limits_of(bytes: &[u8]) -> Result<((bool, bool, u64, Option<u64>), &[u8]), Unread>
     ensures { Gives (λ x. (x.0, x.1.now)) result (limits_at bytes.now) }
 {
     let (tag, rest) = byte_of(bytes)?;

@@ -6,6 +6,7 @@ ghost use Rattle.smith_tree.specs.Grammar.{Spells};
 ghost use Rattle.smith_tree.specs.Tree.{Tree};
 ghost use Rattle.smith_format.specs.Consistency.{IsConsistent};
 ghost use Rattle.smith_format.specs.declared.config.Config.{Config};
+ghost use Rattle.smith_read.specs.Framed.{Framed};
 ghost use Rattle.smith_read.specs.PartNodes.{shown_tree};
 ghost use Rattle.smith_read.specs.Places.{IsAtFront, item_text, offset_in};
 ghost use Rattle.smith_read.specs.Reads.{Reads};
@@ -26,4 +27,10 @@ pub fn items_are_at_their_offsets()
     ensures { (component : Tree) (bytes : List ℕ) (item offset : ℕ) → Spells component bytes
         → offset_in item component ≡ Some offset
         → IsAtFront (item_text item component) (drop offset bytes) }
+{}
+
+/// The bytes of a component are framed.
+#[tactic(auto, using(crate::proofs::Spelled::spelled_framed))]
+pub fn spelled_components_are_framed()
+    ensures { (tree : Tree) (bytes : List ℕ) → Spells tree bytes → Framed bytes }
 {}

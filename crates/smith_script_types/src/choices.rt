@@ -51,12 +51,26 @@ fn say_big_endian(out: &mut Vec<u8>, width: u32, k: u64) -> Result<(), Error>
     say_big_endian(out, width - 1, k % unit)
 }
 
+// A number in one byte.
+fn say_one_byte(out: &mut Vec<u8>, k: u64) -> Result<(), Error>
+    ensures { Says result out.old out.new (big_endian 1 k) }
+{
+    let Ok(only) = u8::try_from(k) else {
+        return Err(Error::TooLong);
+    };
+    say_byte(out, only)
+}
+
 /// A choice of k among n.
 #[tactic(auto, using(crate::proofs::Saying::saying, crate::proofs::Picking::pick_is))]
 pub fn say_choice(out: &mut Vec<u8>, n: usize, k: usize) -> Result<(), Error>
     ensures { Says result out.old out.new (pick n k) }
 {
     let width = width_within(8, n as u64);
+    // (nearly all choices are among at most 256)
+    if width == 1 {
+        return say_one_byte(out, k as u64);
+    }
     say_big_endian(out, width, k as u64)
 }
 

@@ -18,7 +18,7 @@ use Rattle.smith_verdict.specs.declared.answers.Answer.TheVariants as answer
 use Rattle.smith_verdict.specs.declared.answers.Broken.TheVariants as broken
 use Rattle.smith_verdict.proofs.Answering.{contained}
 use Rattle.smith_verdict.proofs.Judging.{sound_not_bounded, sound_not_broken}
-use Rattle.smith_verdict.proofs.Spelled.{spelled_framed}
+use Rattle.smith_read.proofs.Spelled.{spelled_framed}
 
 none_bounded : (texts : List (List ℕ)) → AllByRecursion SoundModule texts → AllByRecursion (λ text. ¬ BoundedModule text) texts
 none_bounded [] all = tt

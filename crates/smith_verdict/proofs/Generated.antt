@@ -17,14 +17,11 @@ use Rattle.smith_verdict.specs.Contained.{IsPlain, IsPlainContent, IsPlainEntity
 use Rattle.smith_verdict.specs.declared.answers.Answer.{Answer}
 use Rattle.smith_verdict.specs.declared.answers.Answer.TheVariants as answer
 use Rattle.smith_verdict.proofs.Answered.{sound_law}
-use Rattle.smith_verdict.proofs.GeneratedModules.{sound_modules}
+use Rattle.smith_verdict.proofs.GeneratedModules.{plain_values, sound_modules}
 use Rattle.smith_verdict.proofs.GeneratedTrees.{of_whole}
 use Rattle.smith_verdict.proofs.GeneratedTypes.{Holds}
-use Rattle.smith_verdict.proofs.GeneratedValues.{OfValues, configured_value, configured_values, few_values}
+use Rattle.smith_verdict.proofs.GeneratedValues.{configured_value, configured_values, few_values}
 use Rattle.smith_verdict.proofs.WellFormed.{shallow}
-
-plain_values : OfValues IsPlain
-plain_values = record { numbers = (tt, (tt, tt)); floats = (tt, (tt, tt)); vectors = (tt, tt); references = (tt, (tt, tt)) }
 
 plain_entity : (config : Config) (own : List Function) (e : EntityType) → EntityLimits config e → FormedEntity own e → IsPlainEntity e
 plain_entity config own (Func i) limits formed = tt

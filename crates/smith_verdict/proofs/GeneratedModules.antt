@@ -24,9 +24,10 @@ use Rattle.smith_tree.specs.Readable.{IsReadablePart, IsReadableRest, StandsForM
 use Rattle.smith_tree.specs.Tree.{Part, Tree, add, anywhere_in, canons, component, core_module, core_types, custom, ends, exports, first, imports, modules}
 use Rattle.smith_tree.specs.Tree.{modules_in, types}
 use Rattle.smith_verdict.proofs.GeneratedValues.{OfValues, configured_values, few_values}
-use Rattle.smith_verdict.specs.Modules.{FewValues, IsPlain, IsPlainFunction, SoundMemory, SoundModule}
+use Rattle.smith_verdict.specs.Contained.{IsPlain}
+use Rattle.smith_verdict.specs.Modules.{FewValues, IsPlainFunction, SoundMemory, SoundModule}
 
-plain_values : OfValues IsPlain
+pub plain_values : OfValues IsPlain
 plain_values = record { numbers = (tt, (tt, tt)); floats = (tt, (tt, tt)); vectors = (tt, tt); references = (tt, (tt, tt)) }
 
 -- How many bytes the two sections have.

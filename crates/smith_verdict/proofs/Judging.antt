@@ -5,12 +5,12 @@ use Rattle.std.proofs.lemmas.Option.{same_Some}
 use Rattle.smith_format.specs.declared.types.MemoryType.{MemoryType}
 use Rattle.smith_syntax.specs.Possible.{PossibleMemory}
 use Rattle.smith_core.specs.StandInText.{StandIn, stand_in_text}
-use Rattle.smith_verdict.specs.ModuleReading.{stand_in_at}
-use Rattle.smith_verdict.specs.ModuleSections.{AreBounded, AreBroken, AreSound, JudgesSections}
+use Rattle.smith_read.specs.ModuleSections.{stand_in_at}
+use Rattle.smith_verdict.specs.Modules.{AreBounded, AreBroken, AreSound, JudgesSections}
 use Rattle.smith_verdict.specs.Modules.{BoundedModule, BrokenModule, JudgesModule, SoundMemory, SoundModule}
 use Rattle.smith_verdict.specs.declared.modules.ModuleJudgement.{ModuleJudgement}
 use Rattle.smith_verdict.specs.declared.modules.ModuleJudgement.TheVariants.{Sound, Broken, Bounded, Other}
-use Rattle.smith_verdict.proofs.TellingModules.{tells_stand_in}
+use Rattle.smith_read.proofs.TellingModules.{tells_stand_in}
 
 possible : (ms : List MemoryType) → AllByRecursion SoundMemory ms → AllByRecursion PossibleMemory ms
 possible [] all = tt

@@ -1,10 +1,7 @@
 pub mod Members
 pub mod Offsets
-pub mod SectionWalk
-pub mod Spelled
 pub mod Walked
 pub mod WellFormed
-mod TellingModules
 mod Judging
 mod Loops
 pub mod ModuleWalk

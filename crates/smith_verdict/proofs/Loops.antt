@@ -1,9 +1,7 @@
 -- Loops that find whether all items have a property.
-use Rattle.std.proofs.Common.{◌≡◌, ◌↔◌, Bool, true, false, None, ℕ, ◌+◌, ◌<◌, ◌≤◌, List, [], ◌∷◌, map, length, drop, get_or, refl, sym, ◌∙◌, subst}
-use Rattle.std.proofs.lemmas.List.{drop_more}
+use Rattle.std.proofs.Common.{◌≡◌, ◌↔◌, Bool, true, false, ℕ, ◌+◌, ◌<◌, ◌≤◌, List, [], ◌∷◌, map, length, drop, get_or, refl, sym, ◌∙◌, subst}
 use Rattle.std.specs.List.{AllByRecursion}
 use Rattle.smith_input.proofs.Rests.{drop_past, rest_at}
-use Rattle.smith_verdict.specs.declared.module_sections.MemoryNode.{MemoryNode}
 
 -- what is left has the property if all have it, and the other way round
 pub record Left {A : Type 0} (P : A → Type 0) (xs : List A) (i : ℕ) : Type 0 where
@@ -34,11 +32,3 @@ module _ {A B : Type 0} (P : B → Type 0) (view : A → B) where
   pub not_all : (xs : List A) (i : ℕ) (x : A) → i < length xs → x ≡ get_or xs i x → (b : Bool) → b ≡ false → (b ≡ true) ↔ P (view x)
       → Left (λ y. P (view y)) xs i → (false ≡ true) ↔ AllByRecursion P (map view xs)
   not_all xs i x l e = fails xs i x (rest_at xs i x l e)
-
-  pub not_all_at : (xs : List A) (i : ℕ) (d : A) → i < length xs → (b : Bool) → b ≡ false → (b ≡ true) ↔ P (view (get_or xs i d))
-      → Left (λ y. P (view y)) xs i → (false ≡ true) ↔ AllByRecursion P (map view xs)
-  not_all_at xs i d l = fails xs i (get_or xs i d) (drop_more xs i d l)
-
--- what is read past the end
-abbrev pub no_memory : MemoryNode
-no_memory = record { ty = record { minimum = 0; maximum = None; shared = false; memory64 = false } }

@@ -8,13 +8,13 @@ use Rattle.smith_tree.specs.Possible.{Possible}
 use Rattle.smith_tree.specs.Tree.{Tree, modules}
 use Rattle.smith_tree.specs.Validates.{ValidTree, Validates}
 use Rattle.smith_tree.specs.WellFormed.{WellFormed}
+use Rattle.smith_read.specs.Framed.{Framed}
 use Rattle.smith_read.specs.Places.{offset_in}
 use Rattle.smith_read.specs.Reads.{most_depth}
 use Rattle.smith_validate.specs.Outcome.{asking}
 use Rattle.smith_validate.specs.declared.error.Demand.{Demand}
 use Rattle.smith_validate.specs.declared.error.Demand.TheVariants.{Named}
 use Rattle.smith_verdict.specs.Contained.{HasNoReferences, KeepsMore}
-use Rattle.smith_verdict.specs.Framed.{Framed}
 use Rattle.smith_verdict.specs.Modules.{BoundedModule, BrokenModule, SoundModule}
 use Rattle.smith_verdict.specs.declared.answers.Answer.{Answer}
 use Rattle.smith_verdict.specs.declared.answers.Answer.TheVariants as answer

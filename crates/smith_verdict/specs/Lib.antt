@@ -1,12 +1,8 @@
 pub mod Answers
 pub mod Contained
-pub mod Framed
-pub mod Gives
 pub mod Shows
 pub mod Validities
 pub mod Verdicts
 pub mod Modules
-pub mod ModuleSections
-pub mod ModuleReading
 pub mod Findings
 pub mod ModuleWalk

@@ -4,19 +4,13 @@ use Rattle.std.specs.Prelude.{◌≡◌, ℕ, ◌≤◌, false, List, length, So
 use Rattle.std.specs.List.{AllByRecursion}
 use Rattle.smith_format.specs.CoreTypes.{Function}
 use Rattle.smith_format.specs.declared.types.MemoryType.{MemoryType}
-use Rattle.smith_format.specs.declared.types.RefType.TheVariants.{Concrete}
-use Rattle.smith_format.specs.declared.types.ValType.{ValType}
-use Rattle.smith_format.specs.declared.types.ValType.TheVariants.{Ref}
 use Rattle.smith_syntax.specs.Possible.{PossibleMemory}
 use Rattle.smith_core.specs.StandInText.{StandIn, stand_in_text}
+use Rattle.smith_verdict.specs.Contained.{IsPlain}
 use Rattle.smith_verdict.specs.declared.modules.ModuleJudgement.{ModuleJudgement}
 use Rattle.smith_verdict.specs.declared.modules.ModuleJudgement.TheVariants.{Sound, Broken, Bounded, Other}
 
--- no reference to a type of the module, of which the standard asks that it is there
-abbrev pub IsPlain : ValType → Type 0
-IsPlain (Ref (Concrete nullable i)) = ⊥
-IsPlain v = Unit {0}
-
+-- no references to types of the module, of which the standard asks that they are there
 abbrev pub IsPlainFunction : Function → Type 0
 IsPlainFunction f = AllByRecursion IsPlain f.0 × AllByRecursion IsPlain f.1
 
@@ -53,3 +47,21 @@ JudgesModule text Sound = SoundModule text
 JudgesModule text Broken = BrokenModule text
 JudgesModule text Bounded = BoundedModule text
 JudgesModule text Other = (¬ SoundModule text) × (¬ BrokenModule text) × (¬ BoundedModule text)
+
+-- ---- the same of the two sections, once they are read
+
+abbrev pub AreSound : StandIn → Type 0
+AreSound s = AllByRecursion IsPlainFunction s.types × AllByRecursion SoundMemory s.memories × IsFew s
+
+abbrev pub AreBroken : StandIn → Type 0
+AreBroken s = AllByRecursion IsPlainFunction s.types × (¬ AllByRecursion PossibleMemory s.memories)
+
+abbrev pub AreBounded : StandIn → Type 0
+AreBounded s = AllByRecursion IsPlainFunction s.types × AllByRecursion PossibleMemory s.memories × (¬ IsFew s)
+
+-- what each judgement says of them
+abbrev pub JudgesSections : StandIn → ModuleJudgement → Type 0
+JudgesSections s Sound = AreSound s
+JudgesSections s Broken = AreBroken s
+JudgesSections s Bounded = AreBounded s
+JudgesSections s Other = (¬ AreSound s) × (¬ AreBroken s) × (¬ AreBounded s)

@@ -81,7 +81,7 @@ fn is_plain(ty: ValType) -> bool
     }
 }
 
-fn are_plain(types: &[ValType]) -> bool
+pub(crate) fn are_plain(types: &[ValType]) -> bool
     ensures { Decides result (AllByRecursion IsPlain types.now) }
 {
     for ty in types {

@@ -18,11 +18,10 @@ ghost use Rattle.smith_verdict.specs.Shows.{IsContained};
 
 use crate::answers::{Answer, Bound, Broken, Outside};
 use crate::contained::{Contained, check_contents};
-use crate::frames::{BrokenFrame, Framing, framed};
 use crate::module_walk::{Modules, check_modules};
 use smith_check::{Asker, Fault, Judgement, judged};
 use smith_core::CORE_PREAMBLE;
-use smith_read::{ComponentTree, ReadError, Reason, offset_of, read};
+use smith_read::{BrokenFrame, ComponentTree, Framing, ReadError, Reason, framed, offset_of, read};
 use smith_validate::{Demand, Shortfall, Validity, validated};
 use std::alloc::{AllocError, Global};
 

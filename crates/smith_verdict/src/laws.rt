@@ -9,7 +9,6 @@ ghost use Rattle.smith_tree.specs.Readable.{CanBeGenerated};
 ghost use Rattle.smith_tree.specs.Tree.{Tree};
 ghost use Rattle.smith_read.specs.Reads.{most_depth};
 ghost use Rattle.smith_verdict.specs.Answers.{IsAnswer, IsSound};
-ghost use Rattle.smith_verdict.specs.Framed.{Framed};
 ghost use Rattle.smith_verdict.specs.Validities.{IsValidity};
 ghost use Rattle.smith_verdict.specs.Verdicts.{IsVerdict};
 
@@ -47,10 +46,4 @@ pub fn generated_components_are_answered_valid()
 pub fn sound_components_are_valid()
     ensures { (tree : Tree) (bytes : List ℕ) (found : Answer) → Spells tree bytes → scope_depth tree ≤ most_depth
         → IsSound tree → IsAnswer bytes found → found ≡ Answer.Valid }
-{}
-
-/// The bytes of a component are framed.
-#[tactic(auto, using(crate::proofs::Spelled::spelled_framed))]
-pub fn spelled_components_are_framed()
-    ensures { (tree : Tree) (bytes : List ℕ) → Spells tree bytes → Framed bytes }
 {}

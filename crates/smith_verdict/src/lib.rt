@@ -5,9 +5,7 @@
 mod answers;
 mod contained;
 mod finding;
-mod frames;
 pub mod laws;
-mod module_sections;
 mod module_walk;
 mod modules;
 mod validity;
@@ -15,7 +13,6 @@ mod verdict;
 
 pub use answers::{Answer, Bound, Broken, Outside};
 pub use finding::answer;
-pub use frames::{BrokenFrame, Framing, framed};
 pub use smith_check::Rule;
 pub use smith_read::Reason;
 pub use smith_validate::Demand;

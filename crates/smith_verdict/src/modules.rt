@@ -2,14 +2,15 @@
 
 ghost use Rattle.std.specs.Prelude.{◌≡◌, ◌↔◌, true, map, IfOk};
 ghost use Rattle.std.specs.List.{AllByRecursion};
+ghost use Rattle.smith_format.specs.Shown.{shown_func};
 ghost use Rattle.smith_syntax.specs.Possible.{PossibleLimits, PossibleMemory};
-ghost use Rattle.smith_verdict.specs.ModuleSections.{JudgesSections, shown_function, shown_memory, shown_sections};
-ghost use Rattle.smith_verdict.specs.Modules.{FewValues, IsFew, IsPlain, IsPlainFunction, JudgesModule};
-ghost use Rattle.smith_verdict.specs.Modules.{SoundMemory, SoundModule};
+ghost use Rattle.smith_read.specs.ModuleSections.{shown_sections};
+ghost use Rattle.smith_verdict.specs.Modules.{FewValues, IsFew, IsPlainFunction, JudgesModule};
+ghost use Rattle.smith_verdict.specs.Modules.{JudgesSections, SoundMemory, SoundModule};
 
-use crate::module_sections::{FunctionNode, MemoryNode, ModuleSections, module_sections_of};
-use smith_format::{MemoryType, RefType, ValType};
-use smith_read::Unread;
+use crate::contained::are_plain;
+use smith_format::{FuncType, MemoryType};
+use smith_read::{ModuleSections, Unread, module_sections_of};
 use std::alloc::{AllocError, Global};
 
 /// What the inside of a core module is to a validator.
@@ -36,26 +37,26 @@ fn are_possible_limits(top: u64, wide: bool, minimum: u64, maximum: Option<u64>)
     }
 }
 
-fn is_possible(memory: &MemoryNode) -> bool
-    ensures { (result ≡ true) ↔ PossibleMemory (shown_memory memory.now) }
+fn is_possible(memory: &MemoryType) -> bool
+    ensures { (result ≡ true) ↔ PossibleMemory memory.now }
 {
     let MemoryType {
         minimum,
         maximum,
         shared,
         memory64,
-    } = memory.ty;
+    } = *memory;
     are_possible_limits(65_536, memory64, minimum, maximum) && (!shared || maximum.is_some())
 }
 
-fn is_sound(memory: &MemoryNode) -> bool
-    ensures { (result ≡ true) ↔ SoundMemory (shown_memory memory.now) }
+fn is_sound(memory: &MemoryType) -> bool
+    ensures { (result ≡ true) ↔ SoundMemory memory.now }
 {
-    is_possible(memory) && !memory.ty.shared && !memory.ty.memory64
+    is_possible(memory) && !memory.shared && !memory.memory64
 }
 
-fn are_possible(memories: &[MemoryNode]) -> bool
-    ensures { (result ≡ true) ↔ AllByRecursion PossibleMemory (map shown_memory memories.now) }
+fn are_possible(memories: &[MemoryType]) -> bool
+    ensures { (result ≡ true) ↔ AllByRecursion PossibleMemory memories.now }
 {
     for memory in memories {
         if !is_possible(memory) {
@@ -65,8 +66,8 @@ fn are_possible(memories: &[MemoryNode]) -> bool
     true
 }
 
-fn are_sound(memories: &[MemoryNode]) -> bool
-    ensures { (result ≡ true) ↔ AllByRecursion SoundMemory (map shown_memory memories.now) }
+fn are_sound(memories: &[MemoryType]) -> bool
+    ensures { (result ≡ true) ↔ AllByRecursion SoundMemory memories.now }
 {
     for memory in memories {
         if !is_sound(memory) {
@@ -76,35 +77,14 @@ fn are_sound(memories: &[MemoryNode]) -> bool
     true
 }
 
-// Is it no concrete reference?
-fn is_plain(value: ValType) -> bool
-    ensures { (result ≡ true) ↔ IsPlain value }
+fn is_plain_function(function: &FuncType) -> bool
+    ensures { (result ≡ true) ↔ IsPlainFunction (shown_func function.now) }
 {
-    match value {
-        ValType::Ref(RefType::Concrete { .. }) => false,
-        _ => true,
-    }
+    are_plain(&function.params) && are_plain(&function.results)
 }
 
-fn are_plain(values: &[ValType]) -> bool
-    ensures { (result ≡ true) ↔ AllByRecursion IsPlain values.now }
-{
-    for value in values {
-        if !is_plain(*value) {
-            return false;
-        }
-    }
-    true
-}
-
-fn is_plain_function(function: &FunctionNode) -> bool
-    ensures { (result ≡ true) ↔ IsPlainFunction (shown_function function.now) }
-{
-    are_plain(&function.ty.params) && are_plain(&function.ty.results)
-}
-
-fn are_plain_functions(types: &[FunctionNode]) -> bool
-    ensures { (result ≡ true) ↔ AllByRecursion IsPlainFunction (map shown_function types.now) }
+fn are_plain_functions(types: &[FuncType]) -> bool
+    ensures { (result ≡ true) ↔ AllByRecursion IsPlainFunction (map shown_func types.now) }
 {
     for function in types {
         if !is_plain_function(function) {
@@ -114,14 +94,14 @@ fn are_plain_functions(types: &[FunctionNode]) -> bool
     true
 }
 
-fn has_few_values(function: &FunctionNode) -> bool
-    ensures { (result ≡ true) ↔ FewValues (shown_function function.now) }
+fn has_few_values(function: &FuncType) -> bool
+    ensures { (result ≡ true) ↔ FewValues (shown_func function.now) }
 {
-    function.ty.params.len() <= 1000 && function.ty.results.len() <= 1000
+    function.params.len() <= 1000 && function.results.len() <= 1000
 }
 
-fn have_few_values(types: &[FunctionNode]) -> bool
-    ensures { (result ≡ true) ↔ AllByRecursion FewValues (map shown_function types.now) }
+fn have_few_values(types: &[FuncType]) -> bool
+    ensures { (result ≡ true) ↔ AllByRecursion FewValues (map shown_func types.now) }
 {
     for function in types {
         if !has_few_values(function) {

@@ -148,7 +148,7 @@ impl fmt::Display for NoScript {
 
 impl core::error::Error for NoScript {}
 
-/// Why no component is returned that is smaller than another, or that two are joined to.
+/// Why no component is returned that is smaller than another, or changed, or that two are joined to.
 #[derive(Clone, Copy, Debug, PartialEq, Eq)]
 #[non_exhaustive]
 pub enum Unreduced {
@@ -279,13 +279,13 @@ pub fn smaller(limits: Option<&Limits>, bytes: &[u8], k: usize) -> Result<Option
     written(bytes.len(), |output| library::smaller_into(limits, bytes, k, output))
 }
 
-/// A step, and the component to which it leads.
+/// A step or a change, and the bytes to which it leads.
 #[derive(Clone, Debug, PartialEq, Eq)]
 #[non_exhaustive]
 pub struct Step {
     /// Its number, from 0 over all steps, including the ones that lead to no wanted component.
     pub number: usize,
-    /// The component in the binary format.
+    /// What it leads to, in the binary format.
     pub bytes: Vec<u8>,
 }
 
@@ -315,6 +315,52 @@ pub fn join(first: &[u8], second: &[u8]) -> Result<Vec<u8>, Unreduced> {
     let room = first.len().saturating_add(second.len());
     let joined = written(room, |output| library::join_into(first, second, output))?;
     Ok(joined.expect("a component that is joined is one"))
+}
+
+/// Returns how many changes the component has: the numbers for `changed` are below this.
+pub fn change_count(bytes: &[u8]) -> Result<usize, Unreduced> {
+    library::change_count(bytes)
+}
+
+/// A component after a change.
+#[derive(Clone, Debug, PartialEq, Eq)]
+#[non_exhaustive]
+pub struct Changed {
+    /// The component in the binary format.
+    pub bytes: Vec<u8>,
+    /// What it is to validators.
+    pub answer: Answer,
+}
+
+/// Returns the component after the change of that number, in which one token, or one list of entries, is another. There
+/// is none if that change leads to nothing.
+///
+/// Nothing is renumbered, so that it is often not valid. Sixteen changes belong to each place, in the order of the bytes.
+pub fn changed(bytes: &[u8], number: usize) -> Result<Option<Changed>, Unreduced> {
+    let mut found = None;
+    let written = written(bytes.len(), |output| {
+        let changed = library::changed_into(bytes, number, output)?;
+        found = changed.map(|(_, answer)| answer);
+        Ok(changed.map(|(len, _)| len))
+    })?;
+    Ok(written.zip(found).map(|(bytes, answer)| Changed { bytes, answer }))
+}
+
+/// Returns the first change from that number on that leads to another component. There is none if no change from there
+/// on does.
+pub fn next_changed(bytes: &[u8], from: usize) -> Result<Option<Step>, Unreduced> {
+    let mut number = from;
+    let found = written(bytes.len(), |output| library::next_changed_into(bytes, &mut number, output))?;
+    Ok(found.map(|bytes| Step { number, bytes }))
+}
+
+/// Returns the first candidate from that number on that no reader of the standard takes for a component. There is none if
+/// there is no such candidate from there on. The candidates, in order: the bytes cut off after each number of bytes; a
+/// section with a wrong length, id or count; and a wrong byte of the preamble.
+pub fn next_miswritten(bytes: &[u8], from: usize) -> Result<Option<Step>, Unreduced> {
+    let mut number = from;
+    let found = written(bytes.len(), |output| library::next_miswritten_into(bytes, &mut number, output))?;
+    Ok(found.map(|bytes| Step { number, bytes }))
 }
 
 // Returns the first of these steps to a component that fails.

@@ -75,6 +75,34 @@ extern "C" {
         output_len: usize,
         joined_len: *mut usize,
     ) -> i32;
+    fn lupinanon_change_count(bytes: *const u8, bytes_len: usize, count: *mut usize) -> i32;
+    fn lupinanon_changed(
+        bytes: *const u8,
+        bytes_len: usize,
+        number: usize,
+        output: *mut u8,
+        output_len: usize,
+        changed_len: *mut usize,
+        answer: *mut i32,
+        rule: *mut usize,
+        offset: *mut usize,
+    ) -> i32;
+    fn lupinanon_next_changed(
+        bytes: *const u8,
+        bytes_len: usize,
+        number: *mut usize,
+        output: *mut u8,
+        output_len: usize,
+        changed_len: *mut usize,
+    ) -> i32;
+    fn lupinanon_next_miswritten(
+        bytes: *const u8,
+        bytes_len: usize,
+        number: *mut usize,
+        output: *mut u8,
+        output_len: usize,
+        miswritten_len: *mut usize,
+    ) -> i32;
 }
 
 /// The version of the static library.
@@ -180,6 +208,11 @@ pub fn validate(bytes: &[u8]) -> Result<Answer, OutOfMemory> {
     // SAFETY: the length is the slice's, and what is written overlaps nothing.
     let status =
         unsafe { lupinanon_validate(bytes.as_ptr(), bytes.len(), &mut number, &mut offset) };
+    answer_of(status, number, offset)
+}
+
+// What a status of a validation says, with the rule of that number.
+fn answer_of(status: i32, number: usize, offset: usize) -> Result<Answer, OutOfMemory> {
     let rule = Rule { number };
     match status {
         0 => Ok(Answer::Valid),
@@ -233,7 +266,7 @@ fn len_of(status: i32, len: usize) -> Result<Option<usize>, Unreduced> {
         4 => Err(Unreduced::TooLong),
         5 => Err(Unreduced::OutOfMemory),
         11 => Err(Unreduced::Unread),
-        13 => Ok(None),
+        13 | 17 => Ok(None),
         other => unexpected(other),
     }
 }
@@ -310,6 +343,85 @@ pub fn join_into(first: &[u8], second: &[u8], output: &mut [u8]) -> Result<Optio
             first.len(),
             second.as_ptr(),
             second.len(),
+            output.as_mut_ptr(),
+            output.len(),
+            &mut len,
+        )
+    };
+    len_of(status, len)
+}
+
+/// How many changes the component has.
+pub fn change_count(bytes: &[u8]) -> Result<usize, Unreduced> {
+    let mut count = 0;
+    // SAFETY: the length is the slice's, and the count overlaps nothing of it.
+    let status = unsafe { lupinanon_change_count(bytes.as_ptr(), bytes.len(), &mut count) };
+    let count = len_of(status, count)?;
+    Ok(count.expect("a component has a number of changes"))
+}
+
+/// How long the component is to which the change of that number leads, if there is one, and what it is to validators if
+/// it is written. It is written as `smaller_into` does.
+pub fn changed_into(
+    bytes: &[u8],
+    number: usize,
+    output: &mut [u8],
+) -> Result<Option<(usize, Answer)>, Unreduced> {
+    let (mut len, mut answer, mut rule, mut offset) = (0, 0, 0, 0);
+    // SAFETY: no reference is null, the lengths are the slices', and nothing written overlaps anything.
+    let status = unsafe {
+        lupinanon_changed(
+            bytes.as_ptr(),
+            bytes.len(),
+            number,
+            output.as_mut_ptr(),
+            output.len(),
+            &mut len,
+            &mut answer,
+            &mut rule,
+            &mut offset,
+        )
+    };
+    let answer = answer_of(answer, rule, offset).map_err(|_| Unreduced::OutOfMemory)?;
+    Ok(len_of(status, len)?.map(|len| (len, answer)))
+}
+
+/// How long the component is to which the first change leads, from that number on, if there is one. It is written as
+/// `smaller_into` does, and the number becomes the change's.
+pub fn next_changed_into(
+    bytes: &[u8],
+    number: &mut usize,
+    output: &mut [u8],
+) -> Result<Option<usize>, Unreduced> {
+    let mut len = 0;
+    // SAFETY: no reference is null, the lengths are the slices', and nothing written overlaps anything.
+    let status = unsafe {
+        lupinanon_next_changed(
+            bytes.as_ptr(),
+            bytes.len(),
+            number,
+            output.as_mut_ptr(),
+            output.len(),
+            &mut len,
+        )
+    };
+    len_of(status, len)
+}
+
+/// How long the first candidate is, from that number on, that is no component to any reader, if there is one. It is
+/// written as `smaller_into` does, and the number becomes the candidate's.
+pub fn next_miswritten_into(
+    bytes: &[u8],
+    number: &mut usize,
+    output: &mut [u8],
+) -> Result<Option<usize>, Unreduced> {
+    let mut len = 0;
+    // SAFETY: no reference is null, the lengths are the slices', and nothing written overlaps anything.
+    let status = unsafe {
+        lupinanon_next_miswritten(
+            bytes.as_ptr(),
+            bytes.len(),
+            number,
             output.as_mut_ptr(),
             output.len(),
             &mut len,

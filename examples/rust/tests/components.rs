@@ -1,6 +1,6 @@
 use lupinanon::{
-    check, generate, join, library_version, next_smaller, reduce, script, smaller, swarm_limits, validate, without, Answer,
-    Limits, NoScript, Refusal, Unreduced, Verdict,
+    change_count, changed, check, generate, join, library_version, next_changed, next_miswritten, next_smaller, reduce,
+    script, smaller, swarm_limits, validate, without, Answer, Limits, NoScript, Refusal, Unreduced, Verdict,
 };
 
 #[test]
@@ -183,6 +183,43 @@ fn smaller_components_by_their_steps() {
     let a_type = Limits { min_types: 1, ..limits };
     let step = next_smaller(Some(&a_type), type_of_u32, 0).unwrap().unwrap();
     assert_eq!(step.number, 3);
+}
+
+#[test]
+fn changed_components() {
+    // Types 0 and 1 are `bool` and a list of type 0: six places.
+    let list = b"\x00asm\x0d\x00\x01\x00\x07\x04\x02\x7f\x70\x00";
+    assert_eq!(change_count(list), Ok(96));
+    let beyond = changed(list, 81).unwrap().unwrap();
+    assert_eq!(beyond.bytes, b"\x00asm\x0d\x00\x01\x00\x07\x04\x02\x7f\x70\x01");
+    assert_eq!(beyond.answer.to_string(), "invalid: no type has that index at offset 12");
+    assert_eq!(changed(list, 64).unwrap().map(|option| option.answer), Some(Answer::Valid));
+    assert_eq!(changed(list, 80), Ok(None));
+    assert_eq!(changed(list, 96), Ok(None));
+    assert_eq!(changed(b"", 0), Err(Unreduced::Unread));
+    assert_eq!(change_count(b""), Err(Unreduced::Unread));
+    let step = next_changed(list, 65).unwrap().unwrap();
+    assert_eq!((step.number, step.bytes), (81, beyond.bytes));
+    assert_eq!(next_changed(list, 86), Ok(None));
+    assert_eq!(next_changed(b"", 0), Err(Unreduced::Unread));
+}
+
+#[test]
+fn miswritten_components() {
+    let type_of_u32 = b"\x00asm\x0d\x00\x01\x00\x07\x02\x01\x79";
+    // Cut after 9 bytes, the section has no length.
+    let cut = next_miswritten(type_of_u32, 9).unwrap().unwrap();
+    assert_eq!((cut.number, &cut.bytes[..]), (9, &type_of_u32[..9]));
+    // Cut after 8, it is a component.
+    assert_eq!(next_miswritten(type_of_u32, 8).unwrap().unwrap().number, 9);
+    // After 12 cuts the section's length, its id and its count, and 8 bytes of the preamble.
+    let numbers = (12..24).map(|from| next_miswritten(type_of_u32, from).unwrap().unwrap());
+    for (from, step) in (12..24).zip(numbers) {
+        assert_eq!(step.number, from);
+        assert!(matches!(validate(&step.bytes), Ok(Answer::Invalid { .. })), "{:?}", step.bytes);
+    }
+    assert_eq!(next_miswritten(type_of_u32, 24), Ok(None));
+    assert_eq!(next_miswritten(b"", 0), Ok(None));
 }
 
 #[test]

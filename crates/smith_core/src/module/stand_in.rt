@@ -1,13 +1,14 @@
 //! The core module that stands for a generated one.
 #![tactic(auto, using(smith_format::proofs::Steps::writing, smith_format::proofs::Sizes::measuring))]
 
-ghost use Rattle.std.specs.Prelude.{◌≡◌, ℕ, ◌<◌, ◌≤◌, ◌^◌, min, length, IfOk, IfErr};
+ghost use Rattle.std.specs.Prelude.{◌≡◌, ℕ, ◌<◌, ◌≤◌, ◌^◌, min, map, length, IfOk, IfErr};
 ghost use Rattle.smith_input.specs.Loops.{Loop, Never};
 ghost use Rattle.smith_input.specs.Reading.{IsTail};
 ghost use Rattle.smith_format.specs.Limits.{configured};
+ghost use Rattle.smith_format.specs.Shown.{shown_func};
 ghost use Rattle.smith_format.specs.Writing.{Puts, Measures};
 ghost use Rattle.smith_core.specs.StandIn.{ReadsFunctionType, ReadsMemoryType, ReadsStandIn, IsStandInRefusal};
-ghost use Rattle.smith_core.specs.StandInText.{listed, stand_in_text};
+ghost use Rattle.smith_core.specs.StandInText.{listed, stand_in, stand_in_text};
 ghost use Rattle.smith_core.specs.Kept.{shown};
 
 use crate::module::{Kept, Module};
@@ -56,14 +57,26 @@ fn listed_len<Format, T: Spelled<Format>>(items: &[T]) -> Result<u64, Error>
     Ok(1 + u64::from(u32_len(length)) + u64::from(length))
 }
 
+/// Writes the core module that has these function types and memories, and no other sections (core specification, Binary
+/// Format, Modules). A list without entries has no section. After an error a part of the module may be there.
+pub fn put_stand_in(
+    out: &mut Vec<u8>,
+    types: &[FuncType],
+    memories: &[MemoryType],
+) -> Result<(), Error>
+    ensures { Puts result out.old out.new (stand_in_text (stand_in (map shown_func types.now) memories.now)) }
+{
+    write_bytes(out, &CORE_PREAMBLE)?;
+    put_listed(out, 1, types)?;
+    put_listed(out, 5, memories)
+}
+
 impl StandIn {
     // The whole module.
     pub(super) fn put(&self, out: &mut Vec<u8>) -> Result<(), Error>
         ensures { Puts result out.old out.new (stand_in_text (shown self.now)) }
     {
-        write_bytes(out, &CORE_PREAMBLE)?;
-        put_listed(out, 1, &self.types)?;
-        put_listed(out, 5, &self.memories)
+        put_stand_in(out, &self.types, &self.memories)
     }
 
     // The length of the whole module.

@@ -3,7 +3,7 @@
 ghost use Rattle.std.specs.Prelude.{◌≡◌, ℕ, List, length, map, refl, string_bytes, IfOk, IsSome, option_map};
 ghost use Rattle.smith_syntax.specs.Signature.{named};
 ghost use Rattle.smith_edit.specs.Names.{Knows};
-ghost use Rattle.smith_edit.specs.Search.{past, sought};
+ghost use Rattle.smith_read.specs.Search.{past, sought};
 ghost use Rattle.smith_edit.specs.Simpler.{label_renamed, member_renamed, pair_renamed, renamed_at};
 
 use crate::names::{Named, Names};

@@ -7,7 +7,7 @@ ghost use Rattle.smith_read.specs.PartNodes.{shown_import_node, shown_part_node}
 ghost use Rattle.smith_tree.specs.Shown.{shown_export};
 ghost use Rattle.smith_edit.specs.Edits.{export_renamed, import_renamed};
 ghost use Rattle.smith_edit.specs.Items.{part_items, row_items, tree_items};
-ghost use Rattle.smith_edit.specs.Search.{past, sought};
+ghost use Rattle.smith_read.specs.Search.{past, sought};
 ghost use Rattle.smith_edit.specs.Simpler.{itself_or, part_simplified, renamed_at, sections_of, simpler_part};
 
 use crate::edits::take_names;

@@ -7,7 +7,7 @@ ghost use Rattle.smith_read.specs.Nodes.{shown_core_node};
 ghost use Rattle.smith_read.specs.TypeNodes.{shown_decl_node, shown_type_node};
 ghost use Rattle.smith_edit.specs.Items.{core_items, decl_items, decls_items, entry_items, row_items};
 ghost use Rattle.smith_edit.specs.Names.{KnowsBoth};
-ghost use Rattle.smith_edit.specs.Search.{past, sought};
+ghost use Rattle.smith_read.specs.Search.{past, sought};
 ghost use Rattle.smith_edit.specs.Simpler.{decl_simplified, decls_simplified, entry_simplified, itself_or};
 ghost use Rattle.smith_edit.specs.Simpler.{simpler_decl, simpler_entry, types_simplified};
 

@@ -3,7 +3,7 @@
 ghost use Rattle.std.specs.Prelude.{◌≡◌, None, IfOk, IsSome, option_map};
 ghost use Rattle.smith_syntax.specs.Shown.{shown_defined};
 ghost use Rattle.smith_edit.specs.Items.{signature_items, value_items};
-ghost use Rattle.smith_edit.specs.Search.{past, sought};
+ghost use Rattle.smith_read.specs.Search.{past, sought};
 ghost use Rattle.smith_edit.specs.Simpler.{signature_simplified, simpler_value, value_simplified};
 
 use crate::members::{edit_defined, enum_of, flags_of, record_of, value_items, variant_of};

@@ -2,7 +2,7 @@ use Rattle.std.proofs.Common.{◌≡◌, drop, map}
 use Rattle.smith_tree.specs.Tree.{tree_of}
 use Rattle.smith_read.specs.PartNodes.{shown_part_node}
 use Rattle.smith_change.specs.Parts.{places}
-use Rattle.smith_change.specs.Search.{past}
+use Rattle.smith_read.specs.Search.{past}
 use Rattle.smith_change.proofs.KindFound.{is_among}
 use Rattle.smith_change.proofs.kinds.+kinds_of_parts.Given as goal
 

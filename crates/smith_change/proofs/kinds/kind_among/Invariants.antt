@@ -1,5 +1,5 @@
 use Rattle.std.proofs.Common.{◌≡◌, ◌-◌, length}
-use Rattle.smith_change.specs.Search.{past}
+use Rattle.smith_read.specs.Search.{past}
 use Rattle.smith_change.proofs.KindFound.{is_among}
 use Rattle.smith_change.proofs.kinds.kind_among.Given as goal
 

@@ -1,6 +1,6 @@
 use Rattle.std.proofs.Common.{◌≡◌, drop, map}
 use Rattle.smith_change.specs.Rows.{row_places}
-use Rattle.smith_change.specs.Search.{past}
+use Rattle.smith_read.specs.Search.{past}
 use Rattle.smith_change.proofs.KindFound.{is_among}
 use Rattle.smith_change.proofs.kinds.kind_in_row.Given as goal
 

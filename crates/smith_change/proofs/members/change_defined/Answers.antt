@@ -7,8 +7,8 @@ use Rattle.smith_syntax.specs.Signature.{named}
 use Rattle.smith_change.specs.Members.{cases_changed, cases_places, fields_changed, fields_places, most_members, new_case, new_field, new_value}
 use Rattle.smith_change.specs.Members.{values_changed, values_places}
 use Rattle.smith_change.specs.Members.{defined_changed, defined_places}
-use Rattle.smith_change.specs.Search.{sought}
-use Rattle.smith_change.specs.declared.search.Search.{Search}
+use Rattle.smith_read.specs.Search.{sought}
+use Rattle.smith_read.specs.declared.search.Search.{Search}
 use Rattle.smith_syntax.specs.declared.types.DefinedType.{DefinedType}
 use Rattle.smith_change.proofs.RowsOf.{same_option}
 use Rattle.smith_change.proofs.Seeking.{found_made}
@@ -23,7 +23,7 @@ returns-in-Primitive-clause-ty c =
     let p = c.in-Primitive.ty in
     subst (λ t. Found t c.map.result c.args.search.now c.args.change.alternative) (sym c.in-Primitive.is)
     (found_made shown_defined primitive_type (λ v. v) _ (λ v r e. ap shown_defined e) 1 (λ k. c.primitive_alternative.result) p c.args.search.now
-    c.token-ty.result c.map.result c.map.ensures.cases (sym (same_option c.token-ty.result) ∙ c.token-ty.ensures.token)
+    c.value_or-ty.result c.map.result c.map.ensures.cases (sym (same_option c.value_or-ty.result) ∙ c.value_or-ty.ensures.value)
     ∙ ap (λ o. sought 1 c.args.search.now (λ k. o) (primitive_type p)) c.primitive_alternative.ensures)
 
 pub returns-in_ok-fields-in-Record-clause-ty : goal.returns-in_ok-fields-in-Record-clause-ty

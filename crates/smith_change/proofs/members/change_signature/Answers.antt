@@ -2,7 +2,7 @@ use Rattle.std.proofs.Common.{◌≡◌, ap, map, refl, rules, subst, sym, ◌�
 use Rattle.std.specs.Option.{IsSome, option_map}
 use Rattle.smith_syntax.specs.Signature.{named}
 use Rattle.smith_change.specs.Members.{fields_changed, fields_places, most_params, new_field, optional_changed, optional_places}
-use Rattle.smith_change.specs.Search.{past, sought}
+use Rattle.smith_read.specs.Search.{past, sought}
 use Rattle.smith_change.proofs.Signatures.{signature_found, signature_moved, signature_of}
 use Rattle.smith_change.proofs.members.change_signature.Goals as goal
 

@@ -1,6 +1,6 @@
 use Rattle.std.proofs.Common.{◌≡◌, drop, map}
 use Rattle.smith_change.specs.Rows.{row_places}
-use Rattle.smith_change.specs.Search.{past}
+use Rattle.smith_read.specs.Search.{past}
 use Rattle.smith_change.proofs.InRow.{after_these, seek}
 use Rattle.smith_change.proofs.RowsOf.{list_row}
 use Rattle.smith_change.proofs.rows.change_row.Given as goal

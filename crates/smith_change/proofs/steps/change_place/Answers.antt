@@ -3,8 +3,8 @@ use Rattle.std.specs.Option.{IsSome}
 use Rattle.smith_tree.specs.Tree.{tree_of}
 use Rattle.smith_read.specs.PartNodes.{shown_part_node, shown_tree}
 use Rattle.smith_change.specs.Parts.{places}
-use Rattle.smith_change.specs.Search.{past}
-use Rattle.smith_change.specs.declared.search.Search.TheVariants.{Ahead}
+use Rattle.smith_read.specs.Search.{past}
+use Rattle.smith_read.specs.declared.search.Search.TheVariants.{Ahead}
 use Rattle.smith_change.proofs.Beyond.{never_reached}
 use Rattle.smith_change.proofs.steps.change_place.Goals as goal
 

@@ -2,7 +2,7 @@ use Rattle.std.proofs.Common.{◌≡◌, drop, map}
 use Rattle.smith_syntax.specs.Entries.{in_order}
 use Rattle.smith_read.specs.TypeNodes.{shown_decl_node}
 use Rattle.smith_change.specs.Owners.{may_import}
-use Rattle.smith_change.specs.Search.{past}
+use Rattle.smith_read.specs.Search.{past}
 use Rattle.smith_change.specs.Types.{decls_places}
 use Rattle.smith_change.proofs.InRow.{after_these, seek}
 use Rattle.smith_change.proofs.RowsOf.{decl_row}

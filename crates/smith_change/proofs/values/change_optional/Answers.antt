@@ -1,7 +1,7 @@
 use Rattle.std.proofs.Common.{◌≡◌, Some, subst, sym, ◌∙◌}
 use Rattle.smith_change.specs.Alternatives.{presence_alternative, value_alternative}
 use Rattle.smith_change.specs.Members.{optional_changed, optional_places}
-use Rattle.smith_change.specs.Search.{sought}
+use Rattle.smith_read.specs.Search.{sought}
 use Rattle.smith_change.proofs.RowsOf.{same_option}
 use Rattle.smith_change.proofs.Seeking.{found_later}
 use Rattle.smith_change.proofs.values.change_optional.Goals as goal

@@ -2,7 +2,7 @@ use Rattle.std.proofs.Common.{◌≡◌, drop, map}
 use Rattle.smith_tree.specs.Tree.{tree_of}
 use Rattle.smith_read.specs.PartNodes.{shown_part_node}
 use Rattle.smith_edit.specs.Items.{tree_items}
-use Rattle.smith_edit.specs.Search.{past}
+use Rattle.smith_read.specs.Search.{past}
 use Rattle.smith_edit.proofs.Nested.{look}
 use Rattle.smith_edit.proofs.simpler.+finding.Given as goal
 

@@ -1,7 +1,7 @@
-use Rattle.smith_verdict.specs.ModuleSections.{shown_function}
+use Rattle.smith_format.specs.Shown.{shown_func}
 use Rattle.smith_verdict.specs.Modules.{IsPlainFunction}
 use Rattle.smith_verdict.proofs.Loops.{Left}
 use Rattle.smith_verdict.proofs.modules.are_plain_functions.Given as goal
 
 abbrev pub invariant-loop-function : goal.invariant-loop-function
-invariant-loop-function l = Left (λ n. IsPlainFunction (shown_function n)) l.types l.function-index
+invariant-loop-function l = Left (λ n. IsPlainFunction (shown_func n)) l.types l.function-index

@@ -1,7 +1,6 @@
-use Rattle.smith_verdict.specs.ModuleSections.{shown_memory}
 use Rattle.smith_syntax.specs.Possible.{PossibleMemory}
 use Rattle.smith_verdict.proofs.Loops.{Left}
 use Rattle.smith_verdict.proofs.modules.are_possible.Given as goal
 
 abbrev pub invariant-loop-memory : goal.invariant-loop-memory
-invariant-loop-memory l = Left (λ n. PossibleMemory (shown_memory n)) l.memories l.memory-index
+invariant-loop-memory l = Left PossibleMemory l.memories l.memory-index

@@ -1,4 +1,4 @@
-use Rattle.smith_verdict.specs.ModuleSections.{shown_sections}
+use Rattle.smith_read.specs.ModuleSections.{shown_sections}
 use Rattle.smith_verdict.proofs.Judging.{found_is, sound_is_found, unread_is_other}
 use Rattle.smith_verdict.proofs.modules.module_of.Goals as goal
 

@@ -2,7 +2,7 @@ use Rattle.std.proofs.Common.{◌≡◌, ap, refl, subst, sym, string_bytes, ◌
 use Rattle.std.specs.Option.{option_map}
 use Rattle.smith_syntax.specs.Signature.{named}
 use Rattle.smith_change.specs.Alternatives.{name_alternative, value_alternative}
-use Rattle.smith_change.specs.Search.{sought}
+use Rattle.smith_read.specs.Search.{sought}
 use Rattle.smith_change.proofs.RowsOf.{same_option}
 use Rattle.smith_change.proofs.Seeking.{found_both}
 use Rattle.smith_change.proofs.values.Tuple2StringComponentValTypeRow.changed.Goals as goal

@@ -3,7 +3,7 @@ use Rattle.std.specs.Option.{option_map}
 use Rattle.smith_syntax.specs.Signature.{named}
 use Rattle.smith_change.specs.Alternatives.{name_alternative}
 use Rattle.smith_change.specs.Members.{optional_changed, optional_places}
-use Rattle.smith_change.specs.Search.{sought}
+use Rattle.smith_read.specs.Search.{sought}
 use Rattle.smith_change.proofs.RowsOf.{same_option}
 use Rattle.smith_change.proofs.Seeking.{found_both, moved_both}
 use Rattle.smith_change.proofs.values.Tuple2StringOptionComponentValTypeRow.changed.Goals as goal

@@ -1,7 +1,7 @@
 use Rattle.std.proofs.Common.{◌≡◌, List, [], map, ap, subst, IfOk, Option}
 use Rattle.std.specs.Option.{option_map}
 use Rattle.smith_edit.specs.Simpler.{member_renamed}
-use Rattle.smith_edit.proofs.Seeking.{by_number}
+use Rattle.smith_read.proofs.Seeking.{by_number}
 use Rattle.smith_edit.proofs.simpler.members.simplify_members.Goals as goal
 
 pub returns-in_ok-add_all-in-Some-clause-members : goal.returns-in_ok-add_all-in-Some-clause-members

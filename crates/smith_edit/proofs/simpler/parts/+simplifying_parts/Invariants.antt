@@ -3,7 +3,7 @@ use Rattle.smith_tree.specs.Tree.{exports_of, imports_of, tree_of}
 use Rattle.smith_tree.specs.WellFormed.{export_names, import_names}
 use Rattle.smith_read.specs.PartNodes.{shown_part_node}
 use Rattle.smith_edit.specs.Items.{tree_items}
-use Rattle.smith_edit.specs.Search.{past}
+use Rattle.smith_read.specs.Search.{past}
 use Rattle.smith_edit.proofs.Seeking.{after_these, seek, part_row}
 use Rattle.smith_edit.proofs.simpler.parts.+simplifying_parts.Given as goal
 

@@ -3,7 +3,7 @@ use Rattle.smith_syntax.specs.Entries.{in_order}
 use Rattle.smith_syntax.specs.WellFormed.{decl_exports, decl_imports, names}
 use Rattle.smith_read.specs.TypeNodes.{shown_decl_node}
 use Rattle.smith_edit.specs.Items.{decls_items}
-use Rattle.smith_edit.specs.Search.{past}
+use Rattle.smith_read.specs.Search.{past}
 use Rattle.smith_edit.proofs.Seeking.{after_these, seek, decl_row}
 use Rattle.smith_edit.proofs.simpler.types.+simplifying.Given as goal
 

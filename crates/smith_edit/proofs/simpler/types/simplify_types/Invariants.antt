@@ -1,7 +1,7 @@
 use Rattle.std.proofs.Common.{◌≡◌, drop, map}
 use Rattle.smith_read.specs.TypeNodes.{shown_type_node}
 use Rattle.smith_edit.specs.Items.{entry_items, row_items}
-use Rattle.smith_edit.specs.Search.{past}
+use Rattle.smith_read.specs.Search.{past}
 use Rattle.smith_edit.proofs.Seeking.{after_these, seek, type_row}
 use Rattle.smith_edit.proofs.simpler.types.simplify_types.Given as goal
 

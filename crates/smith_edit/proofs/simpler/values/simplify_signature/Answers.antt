@@ -1,7 +1,7 @@
 use Rattle.std.proofs.Common.{◌≡◌, true, length, refl, subst, sym, ◌∙◌, ap, rules}
 use Rattle.std.proofs.lemmas.List.{length-map}
 use Rattle.std.specs.Option.{IsSome, is_some, option_to_list}
-use Rattle.smith_edit.specs.Search.{among, past}
+use Rattle.smith_read.specs.Search.{among, past}
 use Rattle.smith_edit.proofs.Renaming.{signature_none}
 use Rattle.smith_edit.proofs.simpler.values.simplify_signature.Goals as goal
 
