@@ -191,6 +191,6 @@ fn show_steps<W: fmt::Write>(
 impl fmt::Display for Shown<'_> {
     fn fmt<W: fmt::Write>(&self, f: &mut fmt::Formatter<W>) -> fmt::Result {
         let mut walk = Walk::new(self.alloc, self.bytes);
-        show_steps(f, &mut walk, Steps::new(self.alloc, self.component)?)
+        show_steps(f, &mut walk, Steps::new(self.alloc, self.component))
     }
 }

@@ -186,7 +186,7 @@ fn item_after(item: usize, step: Step<'_>) -> Result<usize, AllocError>
 pub fn judged(alloc: Global, component: &ComponentTree) -> Result<Judgement, AllocError>
     ensures { IfOk result (Agrees (shown_tree component.now)) }
 {
-    let mut steps = Steps::new(alloc, component)?;
+    let mut steps = Steps::new(alloc, component);
     let mut check = Check::new(alloc);
     let mut item: usize = 0;
     while let Some(step) = steps.next()? {

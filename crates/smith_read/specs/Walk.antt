@@ -1,5 +1,5 @@
 -- The steps of a walk through a component: each item by itself, and that components and lists begin and end.
-use Rattle.std.specs.Prelude.{ℕ, ◌∷◌, ◌++◌, List, [], map, reverse, string_bytes}
+use Rattle.std.specs.Prelude.{ℕ, ◌∷◌, ◌++◌, List, [], Option, None, Some, map, reverse, string_bytes}
 use Rattle.std.specs.List.{flat_map}
 use Rattle.smith_tree.specs.Shown.{shown_canon, shown_export}
 use Rattle.smith_tree.specs.Tree.{Part, Tree, canons, component, core_module, core_types, custom, ends, exports, first, imports, tree_of, types}
@@ -55,8 +55,12 @@ left_steps (kind.Canons fs) = entry_steps canons (map shown_canon fs.now)
 left_steps (kind.Imports is) = entry_steps imports (map shown_import_node is.now)
 left_steps (kind.Exports es) = entry_steps exports (map shown_export es.now)
 
+abbrev pub open_steps : Option Contents → List Contents → List Step
+open_steps None around = []
+open_steps (Some c) around = left_steps c ++ flat_map left_steps around
+
 abbrev pub to_come : Steps → List Step
-to_come s = flat_map left_steps (reverse s.left.items)
+to_come s = open_steps s.innermost (reverse s.around.items)
 
 abbrev pub begins : Contents → Step
 begins (kind.Parts ps) = opens

@@ -104,18 +104,21 @@ impl<'a> Contents<'a> {
 /// The steps of a component that are to come, in order.
 #[derive(Drop)]
 pub struct Steps<'a> {
-    // What is left of the component, of the one that is open in it, and so on, and of the list that is open.
-    left: Vec<Contents<'a>>,
+    // What is left of the component or list that is open innermost. `None` after the last step.
+    innermost: Option<Contents<'a>>,
+    // What is left of each component around it, the root first.
+    around: Vec<Contents<'a>>,
 }
 
 impl<'a> Steps<'a> {
     /// All steps of a component, the last of which ends it.
-    pub fn new(alloc: Global, component: &'a ComponentTree) -> Result<Steps<'a>, AllocError>
-        ensures { IfOk result (λ s. to_come s ≡ steps_of (shown_tree component.now) ++ closes ∷ []) }
+    pub fn new(alloc: Global, component: &'a ComponentTree) -> Steps<'a>
+        ensures { to_come result ≡ steps_of (shown_tree component.now) ++ closes ∷ [] }
     {
-        let mut left = Vec::new(alloc);
-        left.push(Contents::Parts(&component.parts))?;
-        Ok(Steps { left })
+        Steps {
+            innermost: Some(Contents::Parts(&component.parts)),
+            around: Vec::new(alloc),
+        }
     }
 
     /// The next step. `None` if there is none.
@@ -123,15 +126,18 @@ impl<'a> Steps<'a> {
         ensures { IfOk result (λ step. MatchOption step (to_come self.old ≡ [])
             (λ s. to_come self.old ≡ shown_step s ∷ to_come self.new)) }
     {
-        let Some(contents) = self.left.pop() else {
+        let Some(contents) = self.innermost else {
             return Ok(None);
         };
         let Some((step, rest)) = contents.split_first() else {
+            self.innermost = self.around.pop();
             return Ok(Some(Step::End(contents)));
         };
-        self.left.push(rest)?;
         if let Step::Begin(inner) = step {
-            self.left.push(inner)?;
+            self.around.push(rest)?;
+            self.innermost = Some(inner);
+        } else {
+            self.innermost = Some(rest);
         }
         Ok(Some(step))
     }

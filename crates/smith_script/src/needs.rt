@@ -108,7 +108,7 @@ impl Needs {
             ..Needs::default()
         };
         let mut opens = Nest::new(alloc, Own::default());
-        let mut steps = Steps::new(alloc, tree)?;
+        let mut steps = Steps::new(alloc, tree);
         while let Some(step) = steps.next()? {
             needs.add_extent(opens.depth(), step);
             needs.add_step(&mut opens.own, step);

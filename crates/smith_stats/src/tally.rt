@@ -52,7 +52,7 @@ impl Tally {
     pub fn add(&mut self, bytes: usize, component: &ComponentTree) -> Result<(), AllocError> {
         increase(&mut self.files, 1);
         increase(&mut self.bytes, bytes);
-        self.add_steps(Steps::new(self.alloc, component)?)
+        self.add_steps(Steps::new(self.alloc, component))
     }
 
     /// Adds that many things of that sort.

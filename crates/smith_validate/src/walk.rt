@@ -22,7 +22,7 @@ use std::alloc::{AllocError, Global};
 pub fn validated(alloc: Global, component: &ComponentTree) -> Result<Validity, AllocError>
     ensures { IfOk result (IsOutcome (shown_tree component.now)) }
 {
-    let mut steps = Steps::new(alloc, component)?;
+    let mut steps = Steps::new(alloc, component);
     let mut check = Check::new(alloc);
     let mut item: usize = 0;
     while let Some(step) = steps.next()? {

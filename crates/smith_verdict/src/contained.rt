@@ -277,7 +277,7 @@ pub(crate) fn check_contents(
 ) -> Result<Contained, AllocError>
     ensures { IfOk result (IsContained (shown_tree component.now)) }
 {
-    let mut steps = Steps::new(alloc, component)?;
+    let mut steps = Steps::new(alloc, component);
     let mut item: usize = 0;
     while let Some(step) = steps.next()? {
         match check_step(step) {

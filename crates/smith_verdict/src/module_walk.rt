@@ -71,7 +71,7 @@ pub(crate) fn check_modules(alloc: Global, component: &ComponentTree) -> Result<
     ensures { IfOk result
         (AreModules (items (shown_tree component.now)) (modules (shown_tree component.now))) }
 {
-    let mut steps = Steps::new(alloc, component)?;
+    let mut steps = Steps::new(alloc, component);
     let mut found = Modules::Sound;
     let mut item: usize = 0;
     while let Some(step) = steps.next()? {
