@@ -9,7 +9,7 @@ use Rattle.smith_verdict.proofs.contained.check_contents.Goals as goal
 
 pub loop-steps-init : goal.loop-steps-init
 loop-steps-init c = record {
-  plain = walk_first IsPlainContent (shown_tree c.args.component.now) (to_come c.in_ok-steps.steps) c.in_ok-steps.ensures;
-  bounded = walk_first IsWithinBounds (shown_tree c.args.component.now) (to_come c.in_ok-steps.steps) c.in_ok-steps.ensures;
-  count = omega (arith, ap counted c.in_ok-steps.ensures, walk_counted (shown_tree c.args.component.now));
+  plain = walk_first IsPlainContent (shown_tree c.args.component.now) (to_come c.new-steps.result) c.new-steps.ensures;
+  bounded = walk_first IsWithinBounds (shown_tree c.args.component.now) (to_come c.new-steps.result) c.new-steps.ensures;
+  count = omega (arith, ap counted c.new-steps.ensures, walk_counted (shown_tree c.args.component.now));
 }

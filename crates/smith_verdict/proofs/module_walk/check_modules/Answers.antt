@@ -6,7 +6,7 @@ use Rattle.smith_verdict.proofs.ModuleWalk.{finding_first, finding_next}
 use Rattle.smith_verdict.proofs.module_walk.check_modules.Goals as goal
 
 pub loop-steps-init : goal.loop-steps-init
-loop-steps-init c = finding_first (shown_tree c.args.component.now) (to_come c.new.result) c.new.ensures
+loop-steps-init c = finding_first (shown_tree c.args.component.now) (to_come c.new-steps.result) c.new-steps.ensures
 
 pub loop-steps-preserved : goal.loop-steps-preserved
 loop-steps-preserved c =
