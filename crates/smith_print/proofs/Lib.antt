@@ -1,0 +1,2 @@
+-- Lemmas about printers.
+pub mod Printing
