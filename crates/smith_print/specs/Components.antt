@@ -1,5 +1,5 @@
 -- The text of components (Explainer.md, component definitions).
-use Rattle.std.specs.Prelude.{ℕ, ◌+◌, List, [], ◌∷◌, ◌++◌, Option, Some, None, codes, decimal, length}
+use Rattle.std.specs.Prelude.{ℕ, ◌+◌, List, [], ◌∷◌, Option, Some, None, codes, decimal, length}
 use Rattle.smith_core.specs.StandInText.{StandIn}
 use Rattle.smith_format.specs.Piece.{Piece, ◌⊕◌, bytes}
 use Rattle.smith_read.specs.ModuleSections.{stand_in_at}
@@ -11,23 +11,29 @@ use Rattle.smith_print.specs.Externs.{canon_text, import_text}
 use Rattle.smith_print.specs.Lines.{after_all, closed, lines}
 use Rattle.smith_print.specs.Spaces.{after_canon, after_extern, nothing}
 use Rattle.smith_print.specs.Types.{after_type, core_type_text, type_text}
-use Rattle.smith_print.specs.Words.{deeper, line, quoted}
+use Rattle.smith_print.specs.Words.{◌⧺◌, deeper, line, quoted}
 
 -- An export of a component function, which is the next one (Explainer.md, export definitions).
 abbrev pub export_entry_text : ExportEntry → IndexSpaces → List ℕ
 export_entry_text e s =
-    codes "(export (;" ++ decimal s.functions ++ codes ";) " ++ quoted e.name ++ codes " (func " ++ decimal e.func ++ codes "))"
+    codes "(export (;" ⧺ decimal s.functions ⧺ codes ";) " ⧺ quoted e.name ⧺ codes " (func " ⧺ decimal e.func ⧺ codes "))"
 
 -- the index spaces after a section
 
 abbrev pub after_function : IndexSpaces → IndexSpaces
 after_function s = record s { functions = s.functions + 1 }
 
+abbrev pub after_module : IndexSpaces → IndexSpaces
+after_module s = record s { modules = s.modules + 1 }
+
+abbrev pub after_component : IndexSpaces → IndexSpaces
+after_component s = record s { components = s.components + 1 }
+
 abbrev pub after_part : Part → IndexSpaces → IndexSpaces
 after_part (custom name contents) s = s
-after_part (core_module bs) s = record s { modules = s.modules + 1 }
+after_part (core_module bs) s = after_module s
 after_part (core_types ts) s = after_all (λ t. after_core_type) s ts
-after_part (component t) s = record s { components = s.components + 1 }
+after_part (component t) s = after_component s
 after_part (types ts) s = after_all (λ t. after_type) s ts
 after_part (canons fs) s = after_all after_canon s fs
 after_part (imports is) s = after_all (λ i. after_extern i.to) s is
@@ -37,26 +43,37 @@ after_part (exports es) s = after_all (λ e. after_function) s es
 abbrev pub module_text : StandIn → ℕ → List ℕ
 module_text m columns =
     closed columns (lines (λ f _. core_function_line f) (λ f. after_core_type) (deeper columns) nothing m.types
-    ++ lines (λ t _. memory_line t) (λ t. after_memory) (deeper columns) nothing m.memories)
+    ⧺ lines (λ t _. memory_line t) (λ t. after_memory) (deeper columns) nothing m.memories)
+
+-- the head of a core module under its index
+abbrev pub module_head_text : ℕ → IndexSpaces → List ℕ
+module_head_text columns s = line columns ⧺ codes "(core module (;" ⧺ decimal s.modules ⧺ codes ";)"
 
 -- A core module that has no others, under its index. Any other has no text.
 abbrev pub core_module_text : Option StandIn → ℕ → IndexSpaces → Piece
 core_module_text None columns s = None
-core_module_text (Some m) columns s = bytes (line columns ++ codes "(core module (;" ++ decimal s.modules ++ codes ";)" ++ module_text m columns)
+core_module_text (Some m) columns s = bytes (module_head_text columns s ⧺ module_text m columns)
 
 -- what has such contents, if they have a text
 abbrev pub closing : ℕ → Piece → Piece
 closing columns None = None
 closing columns (Some contents) = bytes (closed columns contents)
 
+-- a custom section (core specification, Text Format, Custom Annotations)
+abbrev pub custom_text : List ℕ → List ℕ → ℕ → List ℕ
+custom_text name contents columns = line columns ⧺ codes "(@custom " ⧺ quoted name ⧺ codes " " ⧺ quoted contents ⧺ codes ")"
+
+-- the head of a component under its index
+abbrev pub head_text : ℕ → IndexSpaces → List ℕ
+head_text columns s = line columns ⧺ codes "(component (;" ⧺ decimal s.components ⧺ codes ";)"
+
 abbrev mutual
   pub part_text : Part → ℕ → IndexSpaces → Piece
-  part_text (custom name contents) columns s =
-      bytes (line columns ++ codes "(@custom " ++ quoted name ++ codes " " ++ quoted contents ++ codes ")")
+  part_text (custom name contents) columns s = bytes (custom_text name contents columns)
   part_text (core_module bs) columns s = core_module_text (stand_in_at bs) columns s
   part_text (core_types ts) columns s = bytes (lines core_type_text (λ t. after_core_type) columns s ts)
   part_text (component t) columns s =
-      bytes (line columns ++ codes "(component (;" ++ decimal s.components ++ codes ";)") ⊕ closing columns (parts_text t (deeper columns) nothing)
+      bytes (head_text columns s) ⊕ closing columns (parts_text t (deeper columns) nothing)
   part_text (types ts) columns s = bytes (lines type_text (λ t. after_type) columns s ts)
   part_text (canons fs) columns s = bytes (lines (λ f _. canon_text f) after_canon columns s fs)
   part_text (imports is) columns s = bytes (lines (λ i _. import_text i.name i.to) (λ i. after_extern i.to) columns s is)

@@ -4,17 +4,22 @@ use Rattle.std.specs.Fmt.{digits}
 use Rattle.std.specs.List.{flat_map}
 use Rattle.smith_format.specs.Piece.{Piece, bytes}
 
+infixr 30 ◌⧺◌
+-- one text, and then the next
+abbrev pub ◌⧺◌ : List ℕ → List ℕ → List ℕ
+xs ⧺ ys = xs ++ ys
+
 -- a byte of a string that stands for itself: of ASCII, no control character, no quotation mark and no backslash (Values, Strings)
 abbrev pub stands : ℕ → Bool
 stands b = nat_le 32 b && (nat_lt b 127 && (not (nat_eq b 34) && not (nat_eq b 92)))
 
 -- a byte of a string, or its two hexadecimal digits after a backslash
 abbrev pub character : ℕ → List ℕ
-character b = if stands b then b ∷ [] else (codes "\\" ++ digits 16 false (b / 16) ++ digits 16 false (b % 16))
+character b = if stands b then b ∷ [] else (codes "\\" ⧺ digits 16 false (b / 16) ⧺ digits 16 false (b % 16))
 
 -- a string (Values, Strings)
 abbrev pub quoted : List ℕ → List ℕ
-quoted bs = codes "\"" ++ flat_map character bs ++ codes "\""
+quoted bs = codes "\"" ⧺ flat_map character bs ⧺ codes "\""
 
 -- a line's end, and the next line's indent of so many columns
 abbrev pub line : ℕ → List ℕ

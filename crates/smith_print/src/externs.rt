@@ -5,6 +5,7 @@ ghost use Rattle.smith_print.specs.Externs.{bound_of, canon_text, export_text, i
 ghost use Rattle.smith_print.specs.Printing.{Prints};
 ghost use Rattle.smith_print.specs.Spaces.{after_canon, after_extern, extern_index};
 ghost use Rattle.smith_tree.specs.Shown.{shown_canon};
+ghost use Rattle.smith_tree.specs.Tree.{lift, lower};
 
 use crate::spaces::{IndexSpaces, next};
 use crate::words::Quoted;
@@ -90,6 +91,31 @@ pub(crate) fn print_export(
     write!(out, "(export (;{index};) {name} ({sort} ({bound}{ty})))")
 }
 
+fn print_lift(
+    out: &mut String,
+    spaces: &mut IndexSpaces,
+    core_func: u32,
+    ty: u32,
+) -> Result<(), AllocError>
+    ensures printed { Prints result out.old out.new (canon_text (lift core_func ty) spaces.old) }
+    ensures indexes { IfOk result (λ _. spaces.new ≡ after_canon (lift core_func ty) spaces.old) }
+{
+    let index = next(&mut spaces.functions)?;
+    write!(out, "(func (;{index};) (type {ty}) (canon lift (core func {core_func})))")
+}
+
+fn print_lower(
+    out: &mut String,
+    spaces: &mut IndexSpaces,
+    func: u32,
+) -> Result<(), AllocError>
+    ensures printed { Prints result out.old out.new (canon_text (lower func) spaces.old) }
+    ensures indexes { IfOk result (λ _. spaces.new ≡ after_canon (lower func) spaces.old) }
+{
+    let index = next(&mut spaces.core_functions)?;
+    write!(out, "(core func (;{index};) (canon lower (func {func})))")
+}
+
 /// Prints a canonical function.
 pub(crate) fn print_canon(
     out: &mut String,
@@ -103,17 +129,7 @@ pub(crate) fn print_canon(
         Func::CanonLift {
             core_func_index,
             func_ty,
-        } => {
-            let index = next(&mut spaces.functions)?;
-            write!(
-                out,
-                "(func (;{index};) (type {func_ty}) (canon lift (core func {core_func_index})))"
-            )?;
-        }
-        Func::CanonLower { func_index } => {
-            let index = next(&mut spaces.core_functions)?;
-            write!(out, "(core func (;{index};) (canon lower (func {func_index})))")?;
-        }
+        } => print_lift(out, spaces, *core_func_index, *func_ty),
+        Func::CanonLower { func_index } => print_lower(out, spaces, *func_index),
     }
-    Ok(())
 }

@@ -1,20 +1,22 @@
 //! Core modules as text (core specification, Text Format, Modules).
 
-ghost use Rattle.std.specs.Prelude.{◌≡◌, Some, None, IfErr, OnOk, string_bytes, ◌++◌, decimal, codes};
+ghost use Rattle.std.specs.Prelude.{◌≡◌, IfOk, map};
 ghost use Rattle.smith_format.specs.Shown.{shown_func};
 ghost use Rattle.smith_print.specs.Components.{module_text};
 ghost use Rattle.smith_print.specs.CoreTypes.{after_core_type, after_memory, after_module_decl, core_function_line};
 ghost use Rattle.smith_print.specs.CoreTypes.{memory_line, module_decl_line};
 ghost use Rattle.smith_print.specs.Printing.{Prints};
 ghost use Rattle.smith_print.specs.Types.{core_entry_text, core_type_text};
+ghost use Rattle.smith_print.specs.Spaces.{nothing};
 ghost use Rattle.smith_read.specs.ModuleSections.{shown_sections};
 ghost use Rattle.smith_read.specs.Nodes.{shown_core_node, shown_module_node};
+ghost use Rattle.smith_syntax.specs.Entries.{aliases, core_module, exports, imports};
 
 use crate::core_types::{Memory, print_core_function, print_entity};
 use crate::lines::{Line, print_end, print_lines};
 use crate::spaces::{IndexSpaces, next};
 use crate::words::{Quoted, deeper, print_line};
-use smith_core::{FuncType, MemoryType};
+use smith_core::{EntityType, FuncType, MemoryType};
 use smith_read::{CoreNode, ModuleNode, ModuleSections};
 use std::alloc::AllocError;
 
@@ -53,6 +55,44 @@ impl Line for MemoryType {
     }
 }
 
+// An outer alias of a core type, among the declarations of a module type.
+fn print_alias(
+    out: &mut String,
+    spaces: &mut IndexSpaces,
+    count: u32,
+    index: u32,
+) -> Result<(), AllocError>
+    ensures printed { Prints result out.old out.new (module_decl_line (aliases count index) spaces.old) }
+    ensures indexes { IfOk result (λ _. spaces.new ≡ after_core_type spaces.old) }
+{
+    let own = next(&mut spaces.core_types)?;
+    write!(out, "(alias outer {count} {index} (type (;{own};)))")
+}
+
+fn print_module_import(
+    out: &mut String,
+    from: &str,
+    name: &str,
+    ty: &EntityType,
+) -> Result<(), AllocError>
+    ensures { Prints result out.old out.new (module_decl_line (imports from.now name.now ty.now) nothing) }
+{
+    let from = Quoted(from.as_bytes());
+    let name = Quoted(name.as_bytes());
+    write!(out, "(import {from} {name} ")?;
+    print_entity(out, ty)?;
+    write!(out, ")")
+}
+
+fn print_module_export(out: &mut String, name: &str, ty: &EntityType) -> Result<(), AllocError>
+    ensures { Prints result out.old out.new (module_decl_line (exports name.now ty.now) nothing) }
+{
+    let name = Quoted(name.as_bytes());
+    write!(out, "(export {name} ")?;
+    print_entity(out, ty)?;
+    write!(out, ")")
+}
+
 impl Line for ModuleNode {
     ghost text = { λ d _. module_decl_line (shown_module_node d) };
 
@@ -66,44 +106,33 @@ impl Line for ModuleNode {
     ) -> Result<(), AllocError> {
         match self {
             ModuleNode::Func(ty) => ty.print(out, columns, spaces),
-            ModuleNode::OuterAlias { count, index } => {
-                let own = next(&mut spaces.core_types)?;
-                write!(out, "(alias outer {count} {index} (type (;{own};)))")
-            }
+            ModuleNode::OuterAlias { count, index } => print_alias(out, spaces, *count, *index),
             ModuleNode::Import {
                 module,
                 name,
                 entity,
-            } => {
-                let module = Quoted(module.as_bytes());
-                let name = Quoted(name.as_bytes());
-                write!(out, "(import {module} {name} ")?;
-                print_entity(out, entity)?;
-                write!(out, ")")
-            }
-            ModuleNode::Export { name, entity } => {
-                let name = Quoted(name.as_bytes());
-                write!(out, "(export {name} ")?;
-                print_entity(out, entity)?;
-                write!(out, ")")
-            }
+            } => print_module_import(out, module, name, entity),
+            ModuleNode::Export { name, entity } => print_module_export(out, name, entity),
         }
     }
 }
 
-// The declarations of a module type, which is one level in.
+// A module type, one level in.
 fn print_module_type(
     out: &mut String,
     columns: usize,
     decls: &[ModuleNode],
-) -> Result<(), AllocError> {
-    let columns = deeper(columns);
-    print_line(out, columns)?;
+) -> Result<(), AllocError>
+    ensures { Prints result out.old out.new (core_entry_text (core_module (map shown_module_node decls.now)) columns) }
+{
+    let inner = deeper(columns);
+    print_line(out, inner)?;
     write!(out, "(module")?;
     let start = out.len();
     let mut spaces = IndexSpaces::new();
-    print_lines(out, deeper(columns), &mut spaces, decls)?;
-    print_end(out, columns, start)
+    print_lines(out, deeper(inner), &mut spaces, decls)?;
+    print_end(out, inner, start)?;
+    print_line(out, columns)
 }
 
 fn print_core_entry(out: &mut String, columns: usize, ty: &CoreNode) -> Result<(), AllocError>
@@ -114,10 +143,7 @@ fn print_core_entry(out: &mut String, columns: usize, ty: &CoreNode) -> Result<(
             write!(out, " ")?;
             print_core_function(out, ty)
         }
-        CoreNode::Module(decls) => {
-            print_module_type(out, columns, decls)?;
-            print_line(out, columns)
-        }
+        CoreNode::Module(decls) => print_module_type(out, columns, decls),
     }
 }
 

@@ -5,7 +5,9 @@ ghost use Rattle.smith_print.specs.Externs.{export_text, import_text};
 ghost use Rattle.smith_print.specs.Lines.{lines};
 ghost use Rattle.smith_print.specs.Printing.{Prints};
 ghost use Rattle.smith_print.specs.Spaces.{nothing};
-ghost use Rattle.smith_print.specs.Types.{after_decl, after_type, decl_text, entry_text, type_text};
+ghost use Rattle.smith_print.specs.CoreTypes.{after_core_type};
+ghost use Rattle.smith_print.specs.Types.{after_decl, after_type, alias_text, core_alias_text, decl_text, entry_text};
+ghost use Rattle.smith_print.specs.Types.{nested, type_text};
 ghost use Rattle.smith_read.specs.TypeNodes.{shown_decl_node, shown_type_node};
 
 use crate::externs::{print_export, print_import};
@@ -22,7 +24,10 @@ fn print_alias(
     spaces: &mut IndexSpaces,
     count: u32,
     index: u32,
-) -> Result<(), AllocError> {
+) -> Result<(), AllocError>
+    ensures printed { Prints result out.old out.new (alias_text count index spaces.old.types) }
+    ensures indexes { IfOk result (λ _. spaces.new ≡ after_type spaces.old) }
+{
     let own = next(&mut spaces.types)?;
     write!(out, "(alias outer {count} {index} (type (;{own};)))")
 }
@@ -33,7 +38,10 @@ fn print_core_alias(
     spaces: &mut IndexSpaces,
     count: u32,
     index: u32,
-) -> Result<(), AllocError> {
+) -> Result<(), AllocError>
+    ensures printed { Prints result out.old out.new (core_alias_text count index spaces.old.core_types) }
+    ensures indexes { IfOk result (λ _. spaces.new ≡ after_core_type spaces.old) }
+{
     let own = next(&mut spaces.core_types)?;
     write!(out, "(alias outer {count} {index} (core type (;{own};)))")
 }
@@ -80,7 +88,10 @@ fn print_nested(
     columns: usize,
     word: &str,
     decls: &[DeclNode],
-) -> Result<(), AllocError> {
+) -> Result<(), AllocError>
+    ensures { Prints result out.old out.new (nested word.now (λ c. lines (λ d. decl_text (shown_decl_node d))
+        (λ d. after_decl (shown_decl_node d)) c nothing decls.now) columns) }
+{
     let inner = deeper(columns);
     print_line(out, inner)?;
     write!(out, "{word}")?;

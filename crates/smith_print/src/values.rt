@@ -4,6 +4,7 @@ ghost use Rattle.std.specs.Prelude.{◌≡◌, ◌++◌, Some, codes};
 ghost use Rattle.smith_print.specs.Printing.{Prints};
 ghost use Rattle.smith_print.specs.Values.{defined_text, function_text, maybe_text, primitive_text, value_text};
 ghost use Rattle.smith_syntax.specs.Shown.{shown_defined};
+ghost use Rattle.smith_syntax.specs.Signature.{signature};
 
 use crate::members::{print_group, print_members};
 use smith_syntax::{ComponentValType, DefinedType, FuncType, PrimitiveValType};
@@ -113,16 +114,27 @@ pub(crate) fn print_defined(out: &mut String, ty: &DefinedType) -> Result<(), Al
     }
 }
 
+// The parameters of a function, its result and the end.
+fn print_signature(
+    out: &mut String,
+    params: &[(String, ComponentValType)],
+    ty: Option<ComponentValType>,
+) -> Result<(), AllocError>
+    ensures { Prints result out.old out.new (function_text (signature params.now ty)) }
+{
+    write!(out, "(func")?;
+    print_members(out, " (param ", params)?;
+    let result = Maybe {
+        front: " (result ",
+        ty,
+        behind: ")",
+    };
+    write!(out, "{result})")
+}
+
 /// Prints a type of functions.
 pub(crate) fn print_function(out: &mut String, ty: &FuncType) -> Result<(), AllocError>
     ensures { Prints result out.old out.new (function_text ty.now) }
 {
-    write!(out, "(func")?;
-    print_members(out, " (param ", &ty.params)?;
-    let result = Maybe {
-        front: " (result ",
-        ty: ty.result,
-        behind: ")",
-    };
-    write!(out, "{result})")
+    print_signature(out, &ty.params, ty.result)
 }
