@@ -1,6 +1,6 @@
 -- Loops that print entries, each on a line of its own.
-use Rattle.std.proofs.Common.{◌≡◌, ℕ, suc, ◌+◌, ◌<◌, ◌≤◌, List, [], ◌∷◌, ◌++◌, length, map, drop, get_or, refl, ap, sym, ◌∙◌, append_assoc, append-nil, arith, drop-cons}
-use Rattle.std.proofs.lemmas.List.{drop_all}
+use Rattle.std.proofs.Common.{◌≡◌, ℕ, ◌+◌, ◌<◌, ◌≤◌, List, [], ◌∷◌, ◌++◌, length, map, drop, get_or, refl, ap, sym, ◌∙◌, append_assoc, append-nil}
+use Rattle.smith_input.proofs.Rests.{drop_past, rest_at}
 use Rattle.smith_print.specs.declared.spaces.IndexSpaces.{IndexSpaces}
 use Rattle.smith_print.specs.Lines.{after_all, lines}
 use Rattle.smith_print.specs.Words.{line}
@@ -18,7 +18,7 @@ module _ {A : Type 0} (f : A → ℕ → IndexSpaces → List ℕ) (g : A → In
       → b ≡ a ++ line c → d ≡ b ++ f x c r → t ≡ g x r → Going xs (i + 1) old d s t
   going_next xs i x old a b d s r t h low at ends adds after =
       let rest = drop (i + 1) xs in
-      let front : drop i xs ≡ x ∷ rest = drop-cons xs i x low ∙ ap (λ y. y ∷ rest) (sym at) in
+      let front : drop i xs ≡ x ∷ rest = rest_at xs i x low at in
       record {
         printed = ap (λ q. q ++ lines f g c t rest) (adds ∙ ap (λ z. z ++ f x c r) ends) ∙ append_assoc (a ++ line c) (f x c r) (lines f g c t rest)
         ∙ append_assoc a (line c) (f x c r ++ lines f g c t rest) ∙ ap (λ q. a ++ (line c ++ (f x c r ++ lines f g c q rest))) after
@@ -27,16 +27,17 @@ module _ {A : Type 0} (f : A → ℕ → IndexSpaces → List ℕ) (g : A → In
       }
 
   pub going_printed : (xs : List A) (i : ℕ) (old new : List ℕ) (s r : IndexSpaces) → Going xs i old new s r → length xs ≤ i → new ≡ old ++ lines f g c s xs
-  going_printed xs i old new s r h e = sym (append-nil new) ∙ ap (λ ys. new ++ lines f g c r ys) (sym (drop_all i xs e)) ∙ h.printed
+  going_printed xs i old new s r h e = sym (append-nil new) ∙ ap (λ ys. new ++ lines f g c r ys) (sym (drop_past xs i e)) ∙ h.printed
 
   pub going_indexes : (xs : List A) (i : ℕ) (old new : List ℕ) (s r : IndexSpaces) → Going xs i old new s r → length xs ≤ i → r ≡ after_all g s xs
-  going_indexes xs i old new s r h e = ap (after_all g r) (sym (drop_all i xs e)) ∙ h.indexes
+  going_indexes xs i old new s r h e = ap (after_all g r) (sym (drop_past xs i e)) ∙ h.indexes
 
 module _ {A B : Type 0} (f : B → ℕ → IndexSpaces → List ℕ) (g : B → IndexSpaces → IndexSpaces) (v : A → B) where
   pub lines-map : (c : ℕ) (s : IndexSpaces) (xs : List A) → lines f g c s (map v xs) ≡ lines (λ x. f (v x)) (λ x. g (v x)) c s xs
   lines-map c s [] = refl
-  lines-map c s (x ∷ xs) = ap (λ q. line c ++ f (v x) c s ++ q) (lines-map c (g (v x) s) xs)
+  lines-map c s (x ∷ xs) = ap (λ q. line c ++ (f (v x) c s ++ q)) (lines-map c (g (v x) s) xs)
 
+module _ {A B : Type 0} (g : B → IndexSpaces → IndexSpaces) (v : A → B) where
   pub after_all-map : (s : IndexSpaces) (xs : List A) → after_all g s (map v xs) ≡ after_all (λ x. g (v x)) s xs
   after_all-map s [] = refl
   after_all-map s (x ∷ xs) = after_all-map (g (v x) s) xs

@@ -1,6 +1,6 @@
 -- Loops that print the sections of a component.
-use Rattle.std.proofs.Common.{◌≡◌, ℕ, suc, ◌+◌, ◌<◌, ◌≤◌, List, [], ◌∷◌, ◌++◌, length, map, drop, get_or, refl, ap, sym, subst, ◌∙◌, Some, None, arith, drop-cons, append-nil}
-use Rattle.std.proofs.lemmas.List.{drop_all}
+use Rattle.std.proofs.Common.{◌≡◌, ℕ, ◌+◌, ◌<◌, ◌≤◌, List, [], ◌∷◌, ◌++◌, length, map, drop, get_or, refl, ap, sym, subst, ◌∙◌, Some, None}
+use Rattle.smith_input.proofs.Rests.{drop_past, rest_at}
 use Rattle.std.specs.Prelude.{String, string_bytes}
 use Rattle.std.specs.declared.alloc.Global.{Global}
 use Rattle.smith_format.specs.Piece.{Piece, ◌⊕◌, bytes}
@@ -61,7 +61,7 @@ going_first ns c old s = record { is = refl }
 
 front : (ns : List PartNode) (c : ℕ) (i : ℕ) (n : PartNode) (r : IndexSpaces) → i < length ns → n ≡ get_or ns i n
     → sections (drop i ns) c r ≡ part_text (shown_part_node n) c r ⊕ sections (drop (i + 1) ns) c (after_part (shown_part_node n) r)
-front ns c i n r low at = ap (λ ms. sections ms c r) (drop-cons ns i n low ∙ ap (λ m. m ∷ drop (i + 1) ns) (sym at))
+front ns c i n r low at = ap (λ ms. sections ms c r) (rest_at ns i n low at)
 
 pub going_next : (ns : List PartNode) (c : ℕ) (i : ℕ) (n : PartNode) (old a b : String Global) (s r t : IndexSpaces) → Going ns c i old a s r
     → i < length ns → n ≡ get_or ns i n → Adds a b (part_text (shown_part_node n) c r) → t ≡ after_part (shown_part_node n) r → Going ns c (i + 1) old b s t
@@ -76,7 +76,7 @@ going_next ns c i n old a b s r t h low at adds after =
 pub going_done : (ns : List PartNode) (c : ℕ) (i : ℕ) (old new : String Global) (s r : IndexSpaces) → Going ns c i old new s r → length ns ≤ i
     → Adds old new (sections ns c s)
 going_done ns c i old new s r h e =
-    record { is = sym (right_nil (Some (string_bytes new))) ∙ ap (λ ms. Some (string_bytes new) ⊕ sections ms c r) (sym (drop_all i ns e)) ∙ h.is }
+    record { is = sym (right_nil (Some (string_bytes new))) ∙ ap (λ ms. Some (string_bytes new) ⊕ sections ms c r) (sym (drop_past ns i e)) ∙ h.is }
 
 none_behind : (a : List ℕ) (p : Piece) → None ≡ Some a ⊕ p → p ≡ None
 unfolding ◌⊕◌

@@ -1,16 +1,17 @@
 //! Core modules as text (core specification, Text Format, Modules).
 
-ghost use Rattle.std.specs.Prelude.{◌≡◌, IfOk, map};
+ghost use Rattle.std.specs.Prelude.{◌≡◌, IfOk, codes};
 ghost use Rattle.smith_format.specs.Shown.{shown_func};
 ghost use Rattle.smith_print.specs.Components.{module_text};
 ghost use Rattle.smith_print.specs.CoreTypes.{after_core_type, after_memory, after_module_decl, core_function_line};
 ghost use Rattle.smith_print.specs.CoreTypes.{memory_line, module_decl_line};
+ghost use Rattle.smith_print.specs.Lines.{lines};
 ghost use Rattle.smith_print.specs.Printing.{Prints};
-ghost use Rattle.smith_print.specs.Types.{core_entry_text, core_type_text};
+ghost use Rattle.smith_print.specs.Types.{core_entry_text, core_type_text, nested};
 ghost use Rattle.smith_print.specs.Spaces.{nothing};
 ghost use Rattle.smith_read.specs.ModuleSections.{shown_sections};
 ghost use Rattle.smith_read.specs.Nodes.{shown_core_node, shown_module_node};
-ghost use Rattle.smith_syntax.specs.Entries.{aliases, core_module, exports, imports};
+ghost use Rattle.smith_syntax.specs.Entries.{aliases, exports, imports};
 
 use crate::core_types::{Memory, print_core_function, print_entity};
 use crate::lines::{Line, print_end, print_lines};
@@ -123,7 +124,8 @@ fn print_module_type(
     columns: usize,
     decls: &[ModuleNode],
 ) -> Result<(), AllocError>
-    ensures { Prints result out.old out.new (core_entry_text (core_module (map shown_module_node decls.now)) columns) }
+    ensures { Prints result out.old out.new (nested (codes "(module") (λ c. lines (λ d _. module_decl_line (shown_module_node d))
+        (λ d. after_module_decl (shown_module_node d)) c nothing decls.now) columns) }
 {
     let inner = deeper(columns);
     print_line(out, inner)?;
