@@ -83,12 +83,15 @@ core_function_line f s = codes "(type (;" ⧺ decimal s.core_types ⧺ codes ";)
 abbrev pub memory_line : MemoryType → IndexSpaces → List ℕ
 memory_line m s = codes "(memory (;" ⧺ decimal s.memories ⧺ codes ";) " ⧺ memory_text m ⧺ codes ")"
 
+-- An outer alias of a type, which is next (Explainer.md, alias definitions). In a module type it is of a core type.
+abbrev pub alias_text : ℕ → ℕ → ℕ → List ℕ
+alias_text count i next = codes "(alias outer " ⧺ decimal count ⧺ codes " " ⧺ decimal i ⧺ codes " (type (;" ⧺ decimal next ⧺ codes ";)))"
+
 -- what a module type declares
 abbrev pub module_decl_line : ModuleDecl → IndexSpaces → List ℕ
 module_decl_line (imports m n e) s = codes "(import " ⧺ quoted m ⧺ codes " " ⧺ quoted n ⧺ codes " " ⧺ entity_text e ⧺ codes ")"
 module_decl_line (declares f) s = core_function_line f s
-module_decl_line (aliases count i) s =
-    codes "(alias outer " ⧺ decimal count ⧺ codes " " ⧺ decimal i ⧺ codes " (type (;" ⧺ decimal s.core_types ⧺ codes ";)))"
+module_decl_line (aliases count i) s = alias_text count i s.core_types
 module_decl_line (exports n e) s = codes "(export " ⧺ quoted n ⧺ codes " " ⧺ entity_text e ⧺ codes ")"
 
 -- and the index spaces after it

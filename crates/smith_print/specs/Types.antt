@@ -3,7 +3,7 @@ use Rattle.std.specs.Prelude.{ℕ, ◌+◌, List, [], codes, decimal}
 use Rattle.smith_syntax.specs.Entries.{CoreEntry, core_func, core_module, Entry, defined, function, component_type, instance_type, Decl, Decls, core_type_decl}
 use Rattle.smith_syntax.specs.Entries.{type_decl, type_alias, core_type_alias, import_decl, export_decl, no_decls, then_decls}
 use Rattle.smith_print.specs.declared.spaces.IndexSpaces.{IndexSpaces}
-use Rattle.smith_print.specs.CoreTypes.{after_core_type, after_module_decl, core_function_text, module_decl_line}
+use Rattle.smith_print.specs.CoreTypes.{after_core_type, after_module_decl, alias_text, core_function_text, module_decl_line}
 use Rattle.smith_print.specs.Externs.{export_text, import_text}
 use Rattle.smith_print.specs.Lines.{closed, lines}
 use Rattle.smith_print.specs.Spaces.{after_extern, nothing}
@@ -27,11 +27,7 @@ core_type_text t columns s = codes "(core type (;" ⧺ decimal s.core_types ⧺ 
 abbrev pub after_type : IndexSpaces → IndexSpaces
 after_type s = record s { types = s.types + 1 }
 
--- outer aliases of a type and of a core type, which are next (Explainer.md, alias definitions)
-
-abbrev pub alias_text : ℕ → ℕ → ℕ → List ℕ
-alias_text count i next = codes "(alias outer " ⧺ decimal count ⧺ codes " " ⧺ decimal i ⧺ codes " (type (;" ⧺ decimal next ⧺ codes ";)))"
-
+-- an outer alias of a core type, which is next (Explainer.md, alias definitions)
 abbrev pub core_alias_text : ℕ → ℕ → ℕ → List ℕ
 core_alias_text count i next = codes "(alias outer " ⧺ decimal count ⧺ codes " " ⧺ decimal i ⧺ codes " (core type (;" ⧺ decimal next ⧺ codes ";)))"
 

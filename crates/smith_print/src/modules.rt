@@ -3,7 +3,7 @@
 ghost use Rattle.std.specs.Prelude.{◌≡◌, IfOk, codes};
 ghost use Rattle.smith_format.specs.Shown.{shown_func};
 ghost use Rattle.smith_print.specs.Components.{module_text};
-ghost use Rattle.smith_print.specs.CoreTypes.{after_core_type, after_memory, after_module_decl, core_function_line};
+ghost use Rattle.smith_print.specs.CoreTypes.{after_core_type, after_memory, after_module_decl, alias_text, core_function_line};
 ghost use Rattle.smith_print.specs.CoreTypes.{memory_line, module_decl_line};
 ghost use Rattle.smith_print.specs.Lines.{lines};
 ghost use Rattle.smith_print.specs.Printing.{Prints};
@@ -11,7 +11,7 @@ ghost use Rattle.smith_print.specs.Types.{core_entry_text, core_type_text, neste
 ghost use Rattle.smith_print.specs.Spaces.{nothing};
 ghost use Rattle.smith_read.specs.ModuleSections.{shown_sections};
 ghost use Rattle.smith_read.specs.Nodes.{shown_core_node, shown_module_node};
-ghost use Rattle.smith_syntax.specs.Entries.{aliases, exports, imports};
+ghost use Rattle.smith_syntax.specs.Entries.{exports, imports};
 
 use crate::core_types::{Memory, print_core_function, print_entity};
 use crate::lines::{Line, print_end, print_lines};
@@ -63,7 +63,7 @@ fn print_alias(
     count: u32,
     index: u32,
 ) -> Result<(), AllocError>
-    ensures printed { Prints result out.old out.new (module_decl_line (aliases count index) spaces.old) }
+    ensures printed { Prints result out.old out.new (alias_text count index spaces.old.core_types) }
     ensures indexes { IfOk result (λ _. spaces.new ≡ after_core_type spaces.old) }
 {
     let own = next(&mut spaces.core_types)?;

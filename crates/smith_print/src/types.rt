@@ -5,8 +5,8 @@ ghost use Rattle.smith_print.specs.Externs.{export_text, import_text};
 ghost use Rattle.smith_print.specs.Lines.{lines};
 ghost use Rattle.smith_print.specs.Printing.{Prints};
 ghost use Rattle.smith_print.specs.Spaces.{nothing};
-ghost use Rattle.smith_print.specs.CoreTypes.{after_core_type};
-ghost use Rattle.smith_print.specs.Types.{after_decl, after_type, alias_text, core_alias_text, decl_text, entry_text};
+ghost use Rattle.smith_print.specs.CoreTypes.{after_core_type, alias_text};
+ghost use Rattle.smith_print.specs.Types.{after_decl, after_type, core_alias_text, decl_text, entry_text};
 ghost use Rattle.smith_print.specs.Types.{nested, type_text};
 ghost use Rattle.smith_read.specs.TypeNodes.{shown_decl_node, shown_type_node};
 

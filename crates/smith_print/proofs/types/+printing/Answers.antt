@@ -15,7 +15,7 @@ print_decls-returns t c = rw (c.new-spaces.ensures) at (going_printed _ _ _ _ _ 
 
 pub print_entry-returns-in-Component : goal.print_entry-returns-in-Component
 print_entry-returns-in-Component t c =
-    rw (c.in-Component.is, text_component c.in-Component.decls c.args.columns) (rw c.deref-in-Component.ensures.value at c.print_nested.ensures)
+    rw (c.in-Component.is, text_component c.in-Component.decls c.args.columns) (rw c.deref.ensures.value at c.print_nested.ensures)
 
 pub print_entry-returns-in-Instance : goal.print_entry-returns-in-Instance
 print_entry-returns-in-Instance t c =
