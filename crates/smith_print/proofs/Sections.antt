@@ -1,10 +1,10 @@
 -- Loops that print the sections of a component.
-use Rattle.std.proofs.Common.{◌≡◌, ℕ, ◌+◌, ◌<◌, ◌≤◌, List, [], ◌∷◌, ◌++◌, length, map, drop, get_or, refl, ap, sym, subst, ◌∙◌, Some, None}
+use Rattle.std.proofs.Common.{◌≡◌, ℕ, ◌+◌, ◌<◌, ◌≤◌, List, [], ◌∷◌, ◌++◌, length, map, drop, get_or, refl, ap, sym, subst, ◌∙◌, Some, None, Result, Ok, Err, IsErrAnd, IfErr}
 use Rattle.smith_input.proofs.Rests.{drop_past, rest_at}
 use Rattle.std.specs.Prelude.{String, string_bytes}
 use Rattle.std.specs.declared.alloc.Global.{Global}
 use Rattle.smith_format.specs.Piece.{Piece, ◌⊕◌, bytes}
-use Rattle.smith_format.proofs.Piece.{assoc, joined, left_none, right_none, right_nil}
+use Rattle.smith_format.proofs.Piece.{assoc, joined, left_nil, left_none, right_none, right_nil}
 use Rattle.smith_print.specs.declared.error.PrintError.{PrintError}
 use Rattle.smith_print.specs.declared.error.PrintError.TheVariants.{OtherCoreModule}
 use Rattle.smith_print.specs.declared.spaces.IndexSpaces.{IndexSpaces}
@@ -29,7 +29,7 @@ use Rattle.smith_tree.specs.Shown.{shown_canon, shown_export}
 use Rattle.smith_tree.specs.declared.entries.CustomSection.{CustomSection}
 use Rattle.smith_tree.specs.declared.entries.Export.{Export}
 use Rattle.smith_tree.specs.declared.entries.Func.{Func}
-use Rattle.smith_print.specs.Printing.{Adds, IsRefused}
+use Rattle.smith_print.specs.Printing.{Adds, IsRefused, PrintsPiece}
 use Rattle.smith_read.specs.PartNodes.{shown_import_node, shown_part_node}
 use Rattle.smith_read.specs.declared.nodes.PartNode.{PartNode}
 use Rattle.smith_tree.specs.Tree.{tree_of}
@@ -167,3 +167,27 @@ after_imports is r = ap (λ p. after_part p r) (shown_imports is) ∙ after_all-
 
 pub after_exports : (es : Vec Export) (r : IndexSpaces) → after_part (shown_part_node (node.Exports es)) r ≡ after_all (λ e. after_function) r es.items
 after_exports es r = ap (λ p. after_part p r) (shown_exports es) ∙ after_all-map (λ e. after_function) shown_export r es.items
+
+-- results
+
+pub exits : {A : Type 0} (r : Result A PrintError) (e : PrintError) (old new : String Global) {p : Piece} → IsErrAnd r (λ y. y ≡ e) → IsRefused e p
+    → PrintsPiece r old new p
+exits (Ok x) e old new is d = absurd is
+exits (Err y) e old new {p} is d = subst (λ (z : PrintError). IsRefused z p) (sym is) d
+
+pub prints_behind : {A : Type 0} (r : Result A PrintError) (old mid new : String Global) (p q : Piece) → Adds old mid p → PrintsPiece r mid new q
+    → PrintsPiece r old new (p ⊕ q)
+prints_behind (Ok x) old mid new p q g h = adds_then g h
+prints_behind (Err e) old mid new p q g h = refused_behind p h
+
+pub refused_before : {e : PrintError} {p : Piece} (q : Piece) → IsRefused e p → IsRefused e (p ⊕ q)
+refused_before q r = record { is = λ h. ap (λ x. x ⊕ q) (r.is h) ∙ left_none q }
+
+pub fails : {A : Type 0} (r : Result A PrintError) (e : PrintError) {p : Piece} → IsErrAnd r (λ y. y ≡ e) → IsRefused e p
+    → IfErr r (λ y. y ≡ OtherCoreModule → p ≡ None)
+fails (Ok x) e is d = tt
+fails (Err y) e is d = λ h. d.is (sym is ∙ h)
+
+-- what was added to nothing
+pub whole : (old new : String Global) (p : Piece) → string_bytes old ≡ [] → Adds old new p → p ≡ Some (string_bytes new)
+whole old new p e g = sym (g.is ∙ ap (λ b. Some b ⊕ p) e ∙ left_nil p)
