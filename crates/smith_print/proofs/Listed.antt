@@ -21,8 +21,8 @@ module _ {A : Type 0} (f : A → ℕ → IndexSpaces → List ℕ) (g : A → In
       let front : drop i xs ≡ x ∷ rest = rest_at xs i x low at in
       record {
         printed = ap (λ q. q ++ lines f g c t rest) (adds ∙ ap (λ z. z ++ f x c r) ends) ∙ append_assoc (a ++ line c) (f x c r) (lines f g c t rest)
-        ∙ append_assoc a (line c) (f x c r ++ lines f g c t rest) ∙ ap (λ q. a ++ (line c ++ (f x c r ++ lines f g c q rest))) after
-        ∙ sym (ap (λ ys. a ++ lines f g c r ys) front ∙ refl) ∙ h.printed;
+            ∙ append_assoc a (line c) (f x c r ++ lines f g c t rest) ∙ ap (λ q. a ++ (line c ++ (f x c r ++ lines f g c q rest))) after
+            ∙ sym (ap (λ ys. a ++ lines f g c r ys) front ∙ refl) ∙ h.printed;
         indexes = ap (λ q. after_all g q rest) after ∙ sym (ap (λ ys. after_all g r ys) front ∙ refl) ∙ h.indexes;
       }
 

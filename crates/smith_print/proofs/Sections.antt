@@ -1,5 +1,5 @@
 -- Loops that print the sections of a component.
-use Rattle.std.proofs.Common.{◌≡◌, ℕ, ◌+◌, ◌<◌, ◌≤◌, List, [], ◌∷◌, ◌++◌, length, map, drop, get_or, refl, ap, sym, subst, ◌∙◌, Some, None, Result, Ok, Err, IsErrAnd, IfErr}
+use Rattle.std.proofs.Common.{◌≡◌, ℕ, ◌+◌, ◌<◌, ◌≤◌, List, [], ◌++◌, length, map, drop, get_or, refl, ap, sym, subst, ◌∙◌, Some, None, Result, Ok, Err, IsErrAnd, IfErr}
 use Rattle.smith_input.proofs.Rests.{drop_past, rest_at}
 use Rattle.std.specs.Prelude.{String, string_bytes}
 use Rattle.std.specs.declared.alloc.Global.{Global}
@@ -68,9 +68,9 @@ pub going_next : (ns : List PartNode) (c : ℕ) (i : ℕ) (n : PartNode) (old a 
 going_next ns c i n old a b s r t h low at adds after =
     record {
       is = ap (λ q. Some (string_bytes b) ⊕ sections (drop (i + 1) ns) c q) after
-      ∙ ap (λ p. p ⊕ sections (drop (i + 1) ns) c (after_part (shown_part_node n) r)) adds.is
-      ∙ assoc (Some (string_bytes a)) (part_text (shown_part_node n) c r) (sections (drop (i + 1) ns) c (after_part (shown_part_node n) r))
-      ∙ ap (λ p. Some (string_bytes a) ⊕ p) (sym (front ns c i n r low at)) ∙ h.is;
+          ∙ ap (λ p. p ⊕ sections (drop (i + 1) ns) c (after_part (shown_part_node n) r)) adds.is
+          ∙ assoc (Some (string_bytes a)) (part_text (shown_part_node n) c r) (sections (drop (i + 1) ns) c (after_part (shown_part_node n) r))
+          ∙ ap (λ p. Some (string_bytes a) ⊕ p) (sym (front ns c i n r low at)) ∙ h.is;
     }
 
 pub going_done : (ns : List PartNode) (c : ℕ) (i : ℕ) (old new : String Global) (s r : IndexSpaces) → Going ns c i old new s r → length ns ≤ i
@@ -88,10 +88,10 @@ pub going_refused : (ns : List PartNode) (c : ℕ) (i : ℕ) (n : PartNode) (e :
 going_refused ns c i n e old a s r h low at refused =
     record {
       is = λ other. none_behind (string_bytes old) (sections ns c s)
-      (sym (right_none (Some (string_bytes a)))
-      ∙ ap (λ p. Some (string_bytes a) ⊕ p)
-      (sym (front ns c i n r low at ∙ ap (λ p. p ⊕ sections (drop (i + 1) ns) c (after_part (shown_part_node n) r)) (refused.is other)
-      ∙ left_none (sections (drop (i + 1) ns) c (after_part (shown_part_node n) r)))) ∙ h.is);
+          (sym (right_none (Some (string_bytes a)))
+          ∙ ap (λ p. Some (string_bytes a) ⊕ p)
+          (sym (front ns c i n r low at ∙ ap (λ p. p ⊕ sections (drop (i + 1) ns) c (after_part (shown_part_node n) r)) (refused.is other)
+          ∙ left_none (sections (drop (i + 1) ns) c (after_part (shown_part_node n) r)))) ∙ h.is);
     }
 
 -- contents that were printed, and their end

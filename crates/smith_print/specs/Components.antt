@@ -1,10 +1,9 @@
 -- The text of components (Explainer.md, component definitions).
-use Rattle.std.specs.Prelude.{ℕ, ◌+◌, List, [], ◌∷◌, Option, Some, None, codes, decimal, length}
+use Rattle.std.specs.Prelude.{ℕ, ◌+◌, List, [], Option, Some, None, codes, decimal}
 use Rattle.smith_core.specs.StandInText.{StandIn}
 use Rattle.smith_format.specs.Piece.{Piece, ◌⊕◌, bytes}
 use Rattle.smith_read.specs.ModuleSections.{stand_in_at}
-use Rattle.smith_syntax.specs.Entries.{CoreEntry, Entry, ImportEntry}
-use Rattle.smith_tree.specs.Tree.{Canon, ExportEntry, Part, Tree, ends, first, custom, core_module, core_types, component, types, canons, imports, exports}
+use Rattle.smith_tree.specs.Tree.{ExportEntry, Part, Tree, ends, first, custom, core_module, core_types, component, types, canons, imports, exports}
 use Rattle.smith_print.specs.declared.spaces.IndexSpaces.{IndexSpaces}
 use Rattle.smith_print.specs.CoreTypes.{after_core_type, after_memory, core_function_line, memory_line}
 use Rattle.smith_print.specs.Externs.{canon_text, import_text}

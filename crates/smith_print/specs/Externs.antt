@@ -1,9 +1,8 @@
 -- The text of canonical functions, imports and exports (Explainer.md, canonical definitions, import and export definitions).
 use Rattle.std.specs.Prelude.{ℕ, List, codes, decimal}
-use Rattle.smith_format.specs.Piece.{Piece, bytes}
 use Rattle.smith_syntax.specs.declared.deftype.ComponentTypeRef.{ComponentTypeRef}
 use Rattle.smith_syntax.specs.declared.deftype.ComponentTypeRef.TheVariants as to
-use Rattle.smith_tree.specs.Tree.{Canon, ExportEntry, lift, lower}
+use Rattle.smith_tree.specs.Tree.{Canon, lift, lower}
 use Rattle.smith_print.specs.declared.spaces.IndexSpaces.{IndexSpaces}
 use Rattle.smith_print.specs.Spaces.{extern_index}
 use Rattle.smith_print.specs.Words.{◌⧺◌, quoted}

@@ -1,8 +1,7 @@
 -- Words of the text format (core specification, Text Format, Lexical Format and Values).
-use Rattle.std.specs.Prelude.{ℕ, ◌/◌, ◌%◌, Bool, List, [], ◌∷◌, ◌++◌, codes, decimal, nat_eq, nat_le, nat_lt, not, ◌&&◌, replicate, if◌then◌else◌, ◌+◌, false}
+use Rattle.std.specs.Prelude.{ℕ, ◌/◌, ◌%◌, Bool, List, [], ◌∷◌, ◌++◌, codes, nat_eq, nat_le, nat_lt, not, ◌&&◌, replicate, if◌then◌else◌, ◌+◌, false}
 use Rattle.std.specs.Fmt.{digits}
 use Rattle.std.specs.List.{flat_map}
-use Rattle.smith_format.specs.Piece.{Piece, bytes}
 
 infixr 30 ◌⧺◌
 -- one text, and then the next

@@ -101,14 +101,13 @@ fn print_lift(
     ensures indexes { IfOk result (λ _. spaces.new ≡ after_canon (lift core_func ty) spaces.old) }
 {
     let index = next(&mut spaces.functions)?;
-    write!(out, "(func (;{index};) (type {ty}) (canon lift (core func {core_func})))")
+    write!(
+        out,
+        "(func (;{index};) (type {ty}) (canon lift (core func {core_func})))"
+    )
 }
 
-fn print_lower(
-    out: &mut String,
-    spaces: &mut IndexSpaces,
-    func: u32,
-) -> Result<(), AllocError>
+fn print_lower(out: &mut String, spaces: &mut IndexSpaces, func: u32) -> Result<(), AllocError>
     ensures printed { Prints result out.old out.new (canon_text (lower func) spaces.old) }
     ensures indexes { IfOk result (λ _. spaces.new ≡ after_canon (lower func) spaces.old) }
 {

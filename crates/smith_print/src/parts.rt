@@ -76,11 +76,7 @@ impl Line for Export {
     }
 }
 
-fn print_custom(
-    out: &mut String,
-    columns: usize,
-    section: &CustomSection,
-) -> Result<(), AllocError>
+fn print_custom(out: &mut String, columns: usize, section: &CustomSection) -> Result<(), AllocError>
     ensures { Prints result out.old out.new (custom_text (string_bytes section.now.name) section.now.bytes.items columns) }
 {
     print_line(out, columns)?;
@@ -137,11 +133,7 @@ fn print_list<T: Line>(
 }
 
 // The head of a component under its index.
-fn print_head(
-    out: &mut String,
-    columns: usize,
-    spaces: &mut IndexSpaces,
-) -> Result<(), AllocError>
+fn print_head(out: &mut String, columns: usize, spaces: &mut IndexSpaces) -> Result<(), AllocError>
     ensures printed { Prints result out.old out.new (head_text columns spaces.old) }
     ensures indexes { IfOk result (λ _. spaces.new ≡ after_component spaces.old) }
 {

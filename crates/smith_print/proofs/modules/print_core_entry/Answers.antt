@@ -1,5 +1,3 @@
-use Rattle.std.proofs.Common.{ap, sym, map}
-use Rattle.std.specs.Prelude.{codes}
 use Rattle.smith_print.proofs.Printing.{prints_same}
 use Rattle.smith_print.proofs.Shown.{text_module_type}
 use Rattle.smith_print.proofs.modules.print_core_entry.Goals as goal

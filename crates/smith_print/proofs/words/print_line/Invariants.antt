@@ -1,4 +1,4 @@
-use Rattle.std.proofs.Common.{◌≡◌, ◌++◌, ◌∷◌, replicate}
+use Rattle.std.proofs.Common.{◌≡◌, ◌++◌}
 use Rattle.std.specs.Prelude.{string_bytes}
 use Rattle.smith_print.specs.Words.{line}
 use Rattle.smith_print.proofs.words.print_line.Given as goal
