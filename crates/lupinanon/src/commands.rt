@@ -34,6 +34,11 @@ const AFTER_SHOW: &str = "Status:
   1  the bytes are no component, or memory runs out: what is wrong, and the offset, are on standard error
   2  bad arguments, or a failed read or write";
 
+const AFTER_PRINT: &str = "Status:
+  0  the text is written
+  1  the bytes are no component, a core module in it has no text here, or memory runs out: see standard error
+  2  bad arguments, or a failed read or write";
+
 const AFTER_SCRIPT: &str = "Status:
   0  the script is written
   1  the bytes are no component, it has no script within the limits, or memory runs out: see standard error
@@ -159,6 +164,14 @@ fn show_command<'a>(alloc: Global) -> Result<Command<'a>, AllocError> {
     plain(alloc, "show", about, AFTER_SHOW).arg(component(alloc))
 }
 
+fn print_command<'a>(alloc: Global) -> Result<Command<'a>, AllocError> {
+    let about = "Write a component as text in the text format, which other tools read";
+    let to = "Where the text goes; - is standard output [default: -]";
+    plain(alloc, "print", about, AFTER_PRINT)
+        .arg(component(alloc))?
+        .arg(output(alloc, to))
+}
+
 fn script_command<'a>(alloc: Global) -> Result<Command<'a>, AllocError> {
     let about = "Write an input that produces a component";
     let to = "Where the input goes; - is standard output [default: -, unless it is a terminal]";
@@ -271,6 +284,7 @@ pub fn command<'a>(alloc: Global) -> Result<Command<'a>, AllocError> {
         .subcommand(plain(alloc, "limits", limits, AFTER_LIMITS))?
         .subcommand(check_command(alloc)?)?
         .subcommand(show_command(alloc)?)?
+        .subcommand(print_command(alloc)?)?
         .subcommand(script_command(alloc)?)?
         .subcommand(smaller_command(alloc)?)?
         .subcommand(change_command(alloc)?)?

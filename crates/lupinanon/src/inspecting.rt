@@ -2,7 +2,9 @@
 
 use crate::FAULT;
 use crate::places::{STANDARD_INPUT, Source, print_fault, source_of, status_of_print};
+use crate::scripting::write_bytes;
 use crate::show::Shown;
+use smith_print::print as text_of;
 use smith_read::read;
 use smith_verdict::{Answer, Outside, Verdict, answer, check as check_bytes};
 use std::fmt;
@@ -124,6 +126,23 @@ pub fn show(rt: &HostRuntime, path: Option<&str>) -> Result<ExitCode, ExitCode> 
                 printed => status_of_print(rt, printed),
             }
         }
+        Err(error) => Err(refuse(rt, path, &error, REFUSED)),
+    }
+}
+
+/// Writes the component in the file as text to a file, or to standard output if there is none.
+pub fn print(
+    rt: &HostRuntime,
+    path: Option<&str>,
+    output: Option<&str>,
+) -> Result<ExitCode, ExitCode> {
+    let bytes = bytes_in(rt, path)?;
+    let component = match read(rt.alloc(), &bytes) {
+        Ok(component) => component,
+        Err(error) => return Err(refuse(rt, path, &error, REFUSED)),
+    };
+    match text_of(rt.alloc(), &component) {
+        Ok(text) => write_bytes(rt, output, text.as_bytes()),
         Err(error) => Err(refuse(rt, path, &error, REFUSED)),
     }
 }

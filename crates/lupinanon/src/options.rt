@@ -18,6 +18,11 @@ pub enum Task<'a> {
     Check(Option<&'a str>, bool),
     /// Print the component in a file.
     Show(Option<&'a str>),
+    /// Write the component in a file as text.
+    Print {
+        input: Option<&'a str>,
+        output: Option<&'a str>,
+    },
     /// Write the script of the component in a file.
     Script(Options<'a>),
     /// Write a component that is smaller than the one in a file.
@@ -208,6 +213,10 @@ pub fn task_of<'a, S: AsStr>(alloc: Global, words: &'a [S]) -> Result<Task<'a>, 
         "generate" => Task::Generate(options_of(alloc, found)?),
         "check" => Task::Check(file(found, "input"), found.get_flag("validate")),
         "show" => Task::Show(file(found, "input")),
+        "print" => Task::Print {
+            input: file(found, "input"),
+            output: file(found, "output"),
+        },
         "script" => Task::Script(options_of(alloc, found)?),
         "smaller" => Task::Smaller(options_of(alloc, found)?, choice_of(found)),
         "change" => Task::Change(change_of(found)),

@@ -1,0 +1,5 @@
+-- Lemmas about printers.
+pub mod Listed
+pub mod Printing
+pub mod Sections
+pub mod Shown

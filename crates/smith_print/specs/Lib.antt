@@ -1,0 +1,10 @@
+-- What is printed of components.
+pub mod Components
+pub mod CoreTypes
+pub mod Externs
+pub mod Lines
+pub mod Printing
+pub mod Spaces
+pub mod Types
+pub mod Values
+pub mod Words

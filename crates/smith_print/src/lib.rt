@@ -1,0 +1,18 @@
+//! Components as text in the text format (Explainer.md of the component model; core specification, Text Format).
+#![tactic(auto, using(crate::proofs::Printing::printing))]
+
+mod core_types;
+mod error;
+mod externs;
+mod lines;
+mod members;
+mod modules;
+mod parts;
+mod spaces;
+mod types;
+mod values;
+mod words;
+
+pub use error::PrintError;
+pub use parts::print;
+pub use spaces::IndexSpaces;
