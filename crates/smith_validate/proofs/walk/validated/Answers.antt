@@ -8,7 +8,7 @@ use Rattle.smith_validate.proofs.walk.validated.Goals as goal
 
 pub loop-check-init : goal.loop-check-init
 loop-check-init c =
-    going_first (shown_tree c.args.component.now) c.new-check.result (to_come c.new.result) c.new.ensures c.new-check.ensures
+    going_first (shown_tree c.args.component.now) c.new-check.result (to_come c.new-steps.result) c.new-steps.ensures c.new-check.ensures
 
 pub step-requires : goal.step-requires
 step-requires c = even c.loop-check.check c.loop-check.invariant.at c.loop-check.invariant.stands
