@@ -181,7 +181,7 @@ def script(component, limits=None, **keywords):
     offset = number()
     before = [_copied(limits, keywords), component, len(component)]
     status, found = written(4096, library.lupinanon_script_into, *before, after=[offset])
-    _require(status, offset=offset)
+    _require(status, offset=_known(offset))
     return found
 
 
@@ -273,7 +273,7 @@ def _require(status, answers=(Status.ANSWERED,), offset=None):
     if status == Status.OUT_OF_MEMORY:
         raise MemoryError
     if status not in list(answers):
-        raise Error(Status(status), offset and _known(offset))
+        raise Error(Status(status), offset)
 
 
 def _validated(status, rule, offset):
