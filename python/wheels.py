@@ -1,7 +1,7 @@
-"""Builds the wheel for pip (PEP 517), so that `pip install` needs nothing else, and no network.
+"""Builds the wheel for pip (PEP 517), so that `pip install` needs no other package, and no network.
 
-If liblupinanon.so.0 lies in the package, as in a release archive, or in the folder that LUPINANON_LIB names, the wheel has it, and is for
-Linux on x86-64 alone.
+If liblupinanon.so.0 is in the folder that LUPINANON_LIB names, or in the package, as in a release archive, the wheel has it,
+and is for Linux on x86-64 alone.
 """
 
 import base64
@@ -21,8 +21,9 @@ def project():
 
 def library():
     """Returns the path of the library that the wheel gets, or None."""
-    folders = [Path(os.environ["LUPINANON_LIB"])] if "LUPINANON_LIB" in os.environ else []
-    return next((folder / LIBRARY for folder in [*folders, HERE / "lupinanon"] if (folder / LIBRARY).exists()), None)
+    folders = [os.environ.get("LUPINANON_LIB"), HERE / "lupinanon"]
+    found = [Path(folder) / LIBRARY for folder in folders if folder]
+    return next((path for path in found if path.exists()), None)
 
 
 def metadata(about):

@@ -1,4 +1,4 @@
-# A version serves who asks for one of the same minor version that is not later: another minor version makes other components.
+# A version serves who asks for one of the same minor version that is not later: another one may make other components.
 set(PACKAGE_VERSION "0.1.0")
 string(REGEX MATCH "^[0-9]+\\.[0-9]+" _lupinanon_minor "${PACKAGE_VERSION}")
 if(NOT CMAKE_SIZEOF_VOID_P STREQUAL "" AND NOT CMAKE_SIZEOF_VOID_P EQUAL 8)

@@ -7,8 +7,8 @@
     >>> lupinanon.check(made.component).verdict.name
     'WELL_FORMED'
 
-Bytes are whatever has a buffer. Limits are keywords, and what is not given has its default: help(lupinanon.Limits) says what
-there is. If the library has no memory, MemoryError is raised.
+Bytes are whatever has a buffer. Limits are keywords, or a `Limits`, and what is not given has its default:
+help(lupinanon.Limits) says what there is. If the library has no memory, MemoryError is raised.
 """
 
 from ctypes import c_int32
@@ -188,8 +188,8 @@ def script(component, limits=None, **keywords):
 def smaller(component, k=0, limits=None, **keywords):
     """Returns the k-th, from 0, of the components that are smaller by a step, or None if there are no more than k.
 
-    They can be generated within the limits. If there are neither `limits` nor keywords, they are well formed, whatever the limits.
-    Raises Error if the bytes are no component.
+    They can be generated within the limits. If there are neither `limits` nor keywords, they are well formed, whatever the
+    limits. Raises Error if the bytes are no component.
     """
     component = as_bytes(component)
     before = [_given(limits, keywords), component, len(component), number(k)]
@@ -205,7 +205,7 @@ def next_smaller(component, step=0, limits=None, **keywords):
 
 
 def without(component, k):
-    """Returns the component without its k-th item, from 0, and all that refers to it, or None if there are no more than k."""
+    """Returns the component without its k-th item, from 0, and all that refers to it, or None if it has no more than k."""
     component = as_bytes(component)
     return _found(*written(len(component), library.lupinanon_without, component, len(component), number(k)))
 
@@ -228,7 +228,7 @@ def change_count(component):
 
 
 def changed(component, change):
-    """Returns the component after the change of that number, and what it is to validators, or None if it leads to nothing."""
+    """Returns the component after the change of that number, or None if that leads to nothing."""
     component = as_bytes(component)
     answer, rule, offset = c_int32(), number(), number()
     before = [component, len(component), number(change)]
@@ -244,7 +244,7 @@ def next_changed(component, change=0):
 
 
 def next_miswritten(data, candidate=0):
-    """Returns the first candidate, from that number on, that no reader of the standard takes for a component, or None."""
+    """Returns the first candidate, from that number on, that no reader takes for a component, or None."""
     data = as_bytes(data)
     at = number(candidate)
     return _step(at, *written(len(data), library.lupinanon_next_miswritten, data, len(data), at))

@@ -230,7 +230,7 @@ def number(value=0):
 
 
 def written(room, call, *before, after=()):
-    """Returns how a call ended, and what it writes into an output of that room, or else of the room that it then asks for."""
+    """Returns how a call ended, and what it writes into an output of that room, or of the room that it then asks for."""
     length = c_size_t()
     output = create_string_buffer(room)
     status = call(*before, output, room, length, *after)
