@@ -124,7 +124,12 @@ fn memories(alloc: Global, u: &mut Unstructured, config: &Config) -> Result<Vec<
 {
     let mut types = Vec::new(alloc);
     for done in 0..config.max_memories {
-        if !u.more_of(config.loop_bits, done, config.min_memories, config.max_memories) {
+        if !u.more_of(
+            config.loop_bits,
+            done,
+            config.min_memories,
+            config.max_memories,
+        ) {
             return Ok(types);
         }
         let ty = arbitrary_memtype(u, config);
