@@ -29,7 +29,7 @@ use Rattle.smith_format.proofs.CoreScript.{limits_read}
 
 -- the states
 
-in_front_is : (ds front behind : List ModuleDecl) → ds ≡ front ++ behind → in_front ds behind ≡ front
+pub in_front_is : (ds front behind : List ModuleDecl) → ds ≡ front ++ behind → in_front ds behind ≡ front
 in_front_is ds front behind e =
     let long = ap length e ∙ length-append front behind in
     let count : length ds - length behind ≡ length front = omega (arith, long) in

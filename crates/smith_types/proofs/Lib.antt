@@ -25,6 +25,7 @@ pub mod ModuleScript
 pub mod ModuleTypes
 pub mod Progressing
 pub mod ReadsDeclarations
+pub mod ReadableFronts
 pub mod References
 pub mod ReferencesRead
 pub mod ScopedScript

@@ -25,3 +25,6 @@ loop-done-preserved c =
 
 pub returns-clause-reads : goal.returns-clause-reads
 returns-clause-reads c = ends_full _ _ _ _ _ _ _ _ _ _ _ c.loop-done-test.false c.loop-done.invariant.onward
+
+pub returns-then-not-more_of-clause-tail : goal.returns-then-not-more_of-clause-tail
+returns-then-not-more_of-clause-tail c = tail_trans (more_tail c.more_of.ensures) c.loop-done.invariant.tail

@@ -17,3 +17,10 @@ loop-done-preserved c =
 
 pub returns-clause-reads : goal.returns-clause-reads
 returns-clause-reads c = ends_full _ _ _ _ _ _ _ _ _ _ _ c.loop-done-test.false c.loop-done.invariant.onward
+
+pub returns-then-not-more_of-clause-tail : goal.returns-then-not-more_of-clause-tail
+returns-then-not-more_of-clause-tail c = tail_trans (more_tail c.more_of.ensures) c.loop-done.invariant.tail
+
+pub returns-in_err-push-clause-tail : goal.returns-in_err-push-clause-tail
+returns-in_err-push-clause-tail c =
+    tail_trans c.arbitrary_memtype-ty.ensures.tail (tail_trans (more_tail c.more_of.ensures) c.loop-done.invariant.tail)
