@@ -13,16 +13,16 @@ use Rattle.smith_syntax.specs.Entries.{CoreEntry, ModuleDecl, core_func, core_mo
 use Rattle.smith_syntax.specs.ModuleTypes.{after_front, after_memory, after_realloc}
 use Rattle.smith_syntax.specs.Scope.{Scope}
 use Rattle.smith_syntax.specs.WellFormed.{FormedCore, FormedDecls, core_size}
+use Rattle.smith_tree.proofs.FrontFound.{front_decls, fronted, in_front_is, whole_front}
 use Rattle.smith_types.specs.MadeCore.{MadeCore, MadeModule, EndsModuleType, ReadsDecl, of_module, spent_core}
 use Rattle.smith_tree.specs.CoreTypeOffers.{Declared, with_decl}
 use Rattle.smith_tree.specs.ModuleScript.{front_before, script_decl, script_front, script_module}
 use Rattle.smith_tree.specs.CoreTypeNeeds.{core_cost, core_need}
 use Rattle.smith_tree.specs.CoreTypeScript.{script_core}
 use Rattle.smith_tree.specs.ReadableCoreTypes.{AreReadableModuleDecls, IsReadableCore}
-use Rattle.smith_types.proofs.FrontFound.{fronted, whole_front}
-use Rattle.smith_types.proofs.FrontScript.{asked_read, front_before_is, front_few, front_formed, front_types, in_front_is}
+use Rattle.smith_types.proofs.FrontScript.{asked_read, front_before_is, front_few, front_formed, front_types}
 use Rattle.smith_types.proofs.MadeCore.{core_type_read}
-use Rattle.smith_types.proofs.ModuleFronts.{front_decls, front_state}
+use Rattle.smith_types.proofs.ModuleFronts.{front_state}
 use Rattle.smith_types.proofs.ModuleSaid.{decls_sayable}
 use Rattle.smith_types.proofs.ModuleScript.{IsSayable, decl_read}
 

@@ -30,6 +30,7 @@ use Rattle.smith_syntax.specs.Places.{is_core_func, places}
 use Rattle.smith_syntax.specs.WellFormed.{FormedCore, FormedDecls, FormedEntity, core_size}
 use Rattle.smith_scope.proofs.Places.{place_found}
 use Rattle.smith_scope.proofs.Places.{length-places}
+use Rattle.smith_tree.proofs.FrontFound.{Fronted, fronted, function_decls, memory_decls, whole_front}
 use Rattle.smith_tree.specs.ModuleScript.{alias_place, front_before, may_declare, script_bit, script_decl, script_entity}
 use Rattle.smith_tree.specs.ModuleScript.{script_entity_of, script_front, script_item, script_line, script_module}
 use Rattle.smith_tree.specs.CoreTypeNeeds.{core_need}
@@ -40,10 +41,9 @@ use Rattle.smith_tree.specs.contracts.choices.ModuleItemPartialEq.TheImpl.{ghost
 use Rattle.smith_tree.specs.declared.choices.ModuleItem.{ModuleItem}
 use Rattle.smith_tree.specs.declared.choices.ModuleItem.TheVariants as item
 use Rattle.smith_types.proofs.CoreScript.{begun, behind_sayable, lasting}
-use Rattle.smith_types.proofs.FrontFound.{Fronted, fronted, whole_front}
 use Rattle.smith_types.proofs.FrontScript.{front_formed, line_absent, line_stands}
 use Rattle.smith_types.proofs.MakingCore.{choices_count}
-use Rattle.smith_types.proofs.ModuleFronts.{front_state, function_decls, memory_decls}
+use Rattle.smith_types.proofs.ModuleFronts.{front_state}
 use Rattle.smith_types.proofs.ModuleScript.{IsSayable, alias_at}
 
 -- a choice of an item by its place among the items that pass a test

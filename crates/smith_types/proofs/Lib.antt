@@ -3,7 +3,6 @@ pub mod CoreScriptBytes
 pub mod Declaring
 pub mod Exact
 pub mod Externs
-pub mod FrontFound
 pub mod FrontScript
 pub mod Judged
 pub mod Lifting

@@ -17,9 +17,10 @@ use Rattle.smith_format.specs.declared.types.MemoryType.{MemoryType}
 use Rattle.smith_syntax.specs.Entries.{CoreEntry, ModuleDecl, declares, exports}
 use Rattle.smith_syntax.specs.ModuleTypes.{adds, count_of_kind, free, module_export_names, realloc}
 use Rattle.smith_syntax.specs.WellFormed.{FormedDecl}
+use Rattle.smith_tree.proofs.FrontFound.{front_decls}
 use Rattle.smith_tree.specs.CoreTypeOffers.{Declared}
 use Rattle.smith_tree.specs.ReadableCoreTypes.{AreReadableModuleDecls, IsReadableModuleDecl, IsReadableNewText, IsReadableText}
-use Rattle.smith_types.proofs.ModuleFronts.{HasRoomFor, IsFront, front_decls, front_own}
+use Rattle.smith_types.proofs.ModuleFronts.{HasRoomFor, IsFront, front_own}
 use Rattle.smith_types.proofs.ModuleTypes.{DeclFits, HasNewName, Judged, Within, free_fits, judged_more, realloc_fits, within_more, within_none}
 
 -- names

@@ -5,11 +5,10 @@ use Rattle.smith_format.specs.declared.config.Config.{Config}
 use Rattle.smith_format.specs.declared.types.MemoryType.{MemoryType}
 use Rattle.smith_syntax.specs.Entries.{ModuleDecl}
 use Rattle.smith_syntax.specs.ModuleTypes.{after_front}
+use Rattle.smith_tree.proofs.FrontFound.{front_decls, fronted, in_front_is, whole_front}
 use Rattle.smith_tree.specs.ModuleScript.{in_front}
 use Rattle.smith_tree.specs.ReadableCoreTypes.{AreReadableModuleDecls}
-use Rattle.smith_types.proofs.FrontFound.{fronted, whole_front}
-use Rattle.smith_types.proofs.FrontScript.{in_front_is}
-use Rattle.smith_types.proofs.ModuleFronts.{front_decls, front_size}
+use Rattle.smith_types.proofs.ModuleFronts.{front_size}
 use Rattle.smith_types.proofs.ModuleHolds.{IsReadAfter, readable_back}
 
 -- Of two beginnings of a list, the one with no more behind it begins with the other.
