@@ -4,7 +4,7 @@ use crate::FAULT;
 use crate::inspecting::{REFUSED, bytes_in, refuse};
 use crate::limits_file::{config_of, refuse_both};
 use crate::options::Options;
-use crate::places::{STANDARD_OUTPUT, Sink, print_fault, refuse_terminal};
+use crate::places::{Sink, refuse_terminal, status_of_fault};
 use smith_component::Config;
 use smith_read::offset_of;
 use smith_run::{Form, page};
@@ -48,7 +48,7 @@ fn script_text(
     }
 }
 
-/// Writes bytes to the file, or to standard output if there is none. Returns the status, an error after a message.
+/// Writes bytes to the file, or to standard output if there is none. Returns the status, an error if a write fails.
 pub fn write_bytes(
     rt: &HostRuntime,
     path: Option<&str>,
@@ -56,7 +56,7 @@ pub fn write_bytes(
 ) -> Result<ExitCode, ExitCode> {
     let mut sink = Sink::new(rt, path);
     if sink.write_all(bytes).is_err() || sink.flush().is_err() {
-        return Err(print_fault(rt, path, STANDARD_OUTPUT, sink.fault()));
+        return Err(status_of_fault(rt, path, sink.fault()));
     }
     Ok(ExitCode::SUCCESS)
 }
