@@ -47,8 +47,10 @@ fn refuse_toml<N: fmt::Display + Drop>(rt: &HostRuntime, name: N, error: &Error)
 fn table_of_setting(rt: &HostRuntime, setting: &str) -> Result<Table, ExitCode> {
     match toml::table_from_str(rt.alloc(), setting) {
         Ok(table) if table.len() == 1 => Ok(table),
-        Ok(_) => Err(print_error(rt, format_args!("--limit {setting}: must be KEY=VALUE"))),
-        Err(error) => Err(refuse_toml(rt, format_args!("--limit {setting}"), &error)),
+        Err(error) if setting.contains('=') => {
+            Err(refuse_toml(rt, format_args!("--limit {setting}"), &error))
+        }
+        _ => Err(print_error(rt, format_args!("--limit {setting}: must be KEY=VALUE"))),
     }
 }
 
