@@ -277,7 +277,6 @@ pub fn command<'a>(alloc: Global) -> Result<Command<'a>, AllocError> {
     plain(alloc, "lupinanon", ABOUT, AFTER)
         .bin_name("lupinanon")?
         .version("0.1.0")
-        .disable_help_subcommand(true)
         .subcommand_required(true)
         .subcommand(generate_command(alloc)?)?
         .subcommand(plain(alloc, "limits", limits, AFTER_LIMITS))?
