@@ -1,7 +1,7 @@
 //! Writing the script of a component in a file: the input that produces it.
 
 use crate::FAULT;
-use crate::inspecting::{REFUSED, bytes_in, refuse};
+use crate::inspecting::{REFUSED, bytes_in, refuse, refuse_unread};
 use crate::limits_file::{config_of, refuse_both};
 use crate::options::Options;
 use crate::places::{Sink, refuse_terminal, status_of_fault};
@@ -30,6 +30,7 @@ pub fn refuse_script(
             Err(_) => refuse(rt, path, &"out of memory", REFUSED),
         },
         ScriptError::InconsistentLimits => refuse(rt, path, error, FAULT),
+        ScriptError::Unread { .. } => refuse_unread(rt, path, bytes, error, REFUSED),
         _ => refuse(rt, path, error, REFUSED),
     }
 }
