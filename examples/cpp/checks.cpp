@@ -69,9 +69,11 @@ static bool outputs_grow() {
 }
 
 static bool says_limits() {
-    auto limits = lupinanon::default_limits();
+    auto limits = lupinanon::fuzz_limits();
+    WANT(limits.size == sizeof limits && limits.max_exports == 10 && limits.max_types == 100);
     const auto swarm = lupinanon::swarm_limits(limits, view("\2\0\0\0\0\0\0\21\0\0\0\0\0\0\0\0\0\0\0\0\1"sv));
     WANT(swarm && swarm->limits.max_types == 2 && swarm->limits.max_memories == 1 && swarm->rest.size() == 1);
+    WANT(swarm->limits.max_name_length == 8 && swarm->limits.loop_bits == 2);
     limits.simd_enabled = 2;
     const auto refused = lupinanon::swarm_limits(limits, {});
     WANT(!refused && refused.error() == Error::bad_flag);

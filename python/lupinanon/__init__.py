@@ -32,6 +32,7 @@ __all__ = [
     "change_count",
     "changed",
     "check",
+    "fuzz_limits",
     "generate",
     "join",
     "next_changed",
@@ -132,6 +133,17 @@ def version():
 def rule_text(rule):
     """Returns the rule of a `Validated` in words, as "no type has that index"."""
     return library.lupinanon_rule_text(number(rule)).decode()
+
+
+def fuzz_limits(**keywords):
+    """Returns the limits of the profile `fuzz`, with which a fuzzer's input says more in fewer bytes.
+
+    These limits are set over the ones of the profile.
+    """
+    limits = Limits()
+    _require(library.lupinanon_fuzz_limits(limits, limits.size))
+    limits.replace(**keywords)
+    return limits
 
 
 def swarm_limits(data, limits=None, **keywords):

@@ -1,6 +1,8 @@
 //! The commands of the command line, their arguments and what their help says.
 
+use clap::builder::ValueParser;
 use clap::{Arg, ArgAction, ArgGroup, Command, value_parser};
+use smith_limits::PROFILES;
 use std::alloc::{AllocError, Global};
 
 const ABOUT: &str = "Turns a fuzzer's bytes into a WebAssembly component.";
@@ -136,7 +138,13 @@ fn with_limits<'a>(alloc: Global, command: Command<'a>) -> Result<Command<'a>, A
         "Limits in TOML; - is standard input. The rest are as `lupinanon limits` prints them";
     let limit = "One limit, such as max_types=10, over --limits; can be repeated";
     let limit = option(alloc, "limit", "KEY=VALUE", limit).action(ArgAction::Append);
+    let profile = "Limits by the name of a profile, under --limits";
+    let profile = option(alloc, "profile", "NAME,..", profile)
+        .value_parser(ValueParser::Names(PROFILES))
+        .value_delimiter(',')
+        .action(ArgAction::Append);
     command
+        .arg(profile)?
         .arg(option(alloc, "limits", "FILE", limits))?
         .arg(limit)
 }
@@ -193,7 +201,10 @@ fn smaller_command<'a>(alloc: Global) -> Result<Command<'a>, AllocError> {
     let from =
         "The first one from that step on. The number of its step is printed on standard error";
     let any = "Count each well-formed component, whatever the limits";
-    let any = switch(alloc, "any", any);
+    let any = switch(alloc, "any", any)
+        .conflicts_with("profile")?
+        .conflicts_with("limits")?
+        .conflicts_with("limit")?;
     let which = number(alloc, "number", "K", which).short('k');
     let from = number(alloc, "from", "STEP", from);
     let files = plain(alloc, "smaller", about, AFTER_SMALLER)
@@ -203,7 +214,7 @@ fn smaller_command<'a>(alloc: Global) -> Result<Command<'a>, AllocError> {
         .group(one_of(alloc, &["number", "from"])?)?
         .arg(which)?
         .arg(from)?
-        .arg(any.conflicts_with("limits")?.conflicts_with("limit")?)
+        .arg(any)
 }
 
 fn change_command<'a>(alloc: Global) -> Result<Command<'a>, AllocError> {

@@ -186,6 +186,13 @@ inline Limits default_limits() noexcept {
     return limits;
 }
 
+/* Returns the limits of the profile `fuzz`, with which a fuzzer's input says more in fewer bytes. */
+inline Limits fuzz_limits() noexcept {
+    Limits limits;
+    lupinanon_fuzz_limits(&limits, sizeof limits);
+    return limits;
+}
+
 /* Returns the limits with the ones that the first bytes of the input say, and what follows these bytes. */
 inline Result<Swarm> swarm_limits(Limits limits, BytesView input) {
     std::size_t taken = 0;

@@ -1,5 +1,6 @@
 -- Defined types and function types that are made: they leave a tail of the bytes, are well formed and of what was offered, their names can
 -- be read, they are no larger than their fuel, and determined.
+use Rattle.smith_format.specs.declared.config.Config.{Config}
 use Rattle.std.proofs.Common.{◌≡◌, ℕ, zero, suc, ◌+◌, ◌<◌, ◌≤◌, true, false, List, [], ◌∷◌, map, length, refl, sym, ap, ◌∙◌, subst, arith}
 use Rattle.std.proofs.lemmas.Bool.{and_parts}
 use Rattle.std.specs.Option.{option_to_list}
@@ -63,13 +64,13 @@ maybe_is own b v rest (present {mid = mid} {v = w} f r) = let p = val_is own mid
 pub record DefinedFits (own : Marked) (b : List ℕ) (fuel : ℕ) (t : DefValType) (rest : List ℕ) (left : ℕ) : Type 0 where
   pub tail : IsTail rest b
   pub is : IsDefined own t
-  pub readable : IsReadableDefined t
+  pub readable : IsReadableDefined config t
   pub within : defined_size t + left ≤ fuel
   pub uses : used (defined_size t) ≤ fuel
 
-module _ {own : Marked} {b : List ℕ} {fuel : ℕ} {t : DefValType} {rest : List ℕ} {left : ℕ} where
+module _ {config : Config} {own : Marked} {b : List ℕ} {fuel : ℕ} {t : DefValType} {rest : List ℕ} {left : ℕ} where
   -- a type without members
-  plain_fits : (u : DefValType) → t ≡ u → IsTail rest b → IsDefined own u → IsReadableDefined u → defined_size u ≡ 0 → left ≡ fuel
+  plain_fits : (u : DefValType) → t ≡ u → IsTail rest b → IsDefined own u → IsReadableDefined config u → defined_size u ≡ 0 → left ≡ fuel
       → DefinedFits own b fuel t rest left
   plain_fits u same tail is readable none l = subst (λ z. DefinedFits own b fuel z rest left) (sym same) (record {
     tail = tail;
@@ -82,11 +83,11 @@ module _ {own : Marked} {b : List ℕ} {fuel : ℕ} {t : DefValType} {rest : Lis
   -- a type with members, or bool
   members_fit : {A : Type 0} {Member : List A → List ℕ → A → List ℕ → Type 0} {max : ℕ} (of : List A → DefValType)
       → ((xs : List A) → defined_size (of xs) ≡ length xs) → ((so_far : List A) (c : List ℕ) (x : A) (r : List ℕ) → Member so_far c x r → IsTail r c)
-      → ((xs : List A) → ReadsMembers Member 1 max b fuel xs rest left → 1 ≤ length xs → IsDefined own (of xs) × IsReadableDefined (of xs))
-      → MadeMembers Member max of b fuel t rest left → DefinedFits own b fuel t rest left
+      → ((xs : List A) → ReadsMembers config Member 1 max b fuel xs rest left → 1 ≤ length xs → IsDefined own (of xs) × IsReadableDefined config (of xs))
+      → MadeMembers config Member max of b fuel t rest left → DefinedFits own b fuel t rest left
   members_fit {A} {Member} {max} of size one is (xs, r, same) = subst (λ z. DefinedFits own b fuel z rest left) (sym same) (by xs r)
     where
-      by : (xs : List A) → ReadsMembers Member 1 max b fuel xs rest left → DefinedFits own b fuel (or_bool of xs) rest left
+      by : (xs : List A) → ReadsMembers config Member 1 max b fuel xs rest left → DefinedFits own b fuel (or_bool of xs) rest left
       by [] r = record { tail = members_tail r one; is = (tt, tt); readable = tt; within = (members_take r).0; uses = omega arith }
       by (x ∷ xs) r =
           let here = is (x ∷ xs) r (omega arith) in
@@ -101,11 +102,11 @@ module _ {own : Marked} {b : List ℕ} {fuel : ℕ} {t : DefValType} {rest : Lis
           }
 
   labels_fit : {max : ℕ} (of : List (List ℕ) → DefValType) → ((xs : List (List ℕ)) → defined_size (of xs) ≡ length xs)
-      → ((xs : List (List ℕ)) → Named xs × AreReadableNames xs → 1 ≤ length xs → length xs ≤ max → IsDefined own (of xs) × IsReadableDefined (of xs))
-      → MadeMembers (ReadsNew 100) max of b fuel t rest left → DefinedFits own b fuel t rest left
+      → ((xs : List (List ℕ)) → Named xs × AreReadableNames config xs → 1 ≤ length xs → length xs ≤ max → IsDefined own (of xs) × IsReadableDefined config (of xs))
+      → MadeMembers config (ReadsNew config.max_name_length) max of b fuel t rest left → DefinedFits own b fuel t rest left
   labels_fit of size is m = members_fit of size (λ so_far c x r h. new_tail h) (λ xs r some. is xs (labels_named r) some (members_few r)) m
 
-  as_fits : (k : DefinedKind) → MadeAs own k b fuel t rest left → DefinedFits own b fuel t rest left
+  as_fits : (k : DefinedKind) → MadeAs config own k b fuel t rest left → DefinedFits own b fuel t rest left
   as_fits kind.Primitive (p, r, i, j) = plain_fits (primitive_type p) i (among_tail r) (tt, tt) tt refl j
   as_fits kind.Record m = members_fit record_type (λ xs. refl) (named_tail (val_tail own)) (λ xs r some.
       let all = members_all r (λ f. IsValue own f.1) (λ so_far c x d h. val_is own h.mid x.1 d h.after) in
@@ -128,7 +129,7 @@ module _ {own : Marked} {b : List ℕ} {fuel : ℕ} {t : DefValType} {rest : Lis
       plain_fits (result_type ok err) i (tail_trans (maybe_tail own mid err rest s) (maybe_tail own b ok mid r))
       ((p.0, q.0), all_both (OfferedValue own) (option_to_list ok) (option_to_list err) p.1 q.1) tt refl j
 
-pub defined_fits : {own : Marked} {b : List ℕ} {fuel : ℕ} {t : DefValType} {rest : List ℕ} {left : ℕ} → MadeDefined own b fuel t rest left
+pub defined_fits : {config : Config} {own : Marked} {b : List ℕ} {fuel : ℕ} {t : DefValType} {rest : List ℕ} {left : ℕ} → MadeDefined config own b fuel t rest left
     → DefinedFits own b fuel t rest left
 defined_fits d =
     let f = as_fits d.kind d.made in
@@ -138,7 +139,7 @@ defined_fits d =
 pub record FunctionFits (own : Marked) (b : List ℕ) (fuel : ℕ) (s : Signature) (rest : List ℕ) (left : ℕ) : Type 0 where
   pub tail : IsTail rest b
   pub is : (outer : List Marked) → IsType (function s) own outer
-  pub readable : AreReadableNames (map (λ p. p.0) s.params)
+  pub readable : AreReadableNames config (map (λ p. p.0) s.params)
   pub within : size (function s) + left ≤ fuel
   pub uses : 0 < fuel → size (function s) + 1 ≤ fuel
 
@@ -147,7 +148,7 @@ both_used zero zero fuel held some h k l = omega arith
 both_used (suc n) zero fuel held some h k l = omega (arith, h)
 both_used n (suc r) fuel held some h k l = omega (arith, k, l)
 
-pub function_fits : {own : Marked} {b : List ℕ} {fuel : ℕ} {s : Signature} {rest : List ℕ} {left : ℕ} → MadeFunction own b fuel s rest left
+pub function_fits : {config : Config} {own : Marked} {b : List ℕ} {fuel : ℕ} {s : Signature} {rest : List ℕ} {left : ℕ} → MadeFunction config own b fuel s rest left
     → FunctionFits own b fuel s rest left
 function_fits {own} {fuel = fuel} {s = s} f =
     let params = members_all f.takes (λ p. IsValue own p.1) (λ so_far c x d h. val_is own h.mid x.1 d h.after) in
@@ -204,16 +205,16 @@ maybe_same own b v w r s (present {v = x} f y) (present {mid = m} {v = z} g t) =
     (ap Some u.0, u.1)
 
 -- members of a type, by what each reads
-made_members_same : {A : Type 0} {Member : List A → List ℕ → A → List ℕ → Type 0} {max : ℕ}
+made_members_same : {config : Config} {A : Type 0} {Member : List A → List ℕ → A → List ℕ → Type 0} {max : ℕ}
     (one : (so_far : List A) (b : List ℕ) (x y : A) (r s : List ℕ) → Member so_far b x r → Member so_far b y s → (x ≡ y) × (r ≡ s)) (of : List A → DefValType)
     (b : List ℕ) (fuel : ℕ) (d e : DefValType) (r s : List ℕ) (f g : ℕ)
-    → MadeMembers Member max of b fuel d r f → MadeMembers Member max of b fuel e s g → Same d e r s f g
+    → MadeMembers config Member max of b fuel d r f → MadeMembers config Member max of b fuel e s g → Same d e r s f g
 made_members_same one of b fuel d e r s f g (xs, x, i) (ys, y, k) =
     let u = members_same one x y in
     record { value = i ∙ (ap (or_bool of) u.value ∙ sym k); rest = u.rest; left = u.left }
 
-as_same : (own : Marked) (k : DefinedKind) (b : List ℕ) (fuel : ℕ) (d e : DefValType) (r s : List ℕ) (f g : ℕ) → MadeAs own k b fuel d r f
-    → MadeAs own k b fuel e s g → Same d e r s f g
+as_same : {config : Config} → (own : Marked) (k : DefinedKind) (b : List ℕ) (fuel : ℕ) (d e : DefValType) (r s : List ℕ) (f g : ℕ) → MadeAs config own k b fuel d r f
+    → MadeAs config own k b fuel e s g → Same d e r s f g
 as_same own kind.Primitive b fuel d e r s f g (p, x, i, j) (q, y, k, l) = let u = among_same x y in
     record { value = i ∙ (ap primitive_type u.0 ∙ sym k); rest = u.1; left = j ∙ sym l }
 as_same own kind.Record b fuel d e r s f g x y = made_members_same (named_same (val_same own)) record_type b fuel d e r s f g x y
@@ -231,12 +232,12 @@ as_same own kind.Result b fuel d e r s f g (ok, mid, x, err, z, i, j) (ko, low, 
     let w = maybe_same own low err rre r s (subst P u.1 z) t in
     record { value = i ∙ (ap (λ o. result_type o err) u.0 ∙ ap (result_type ko) w.0) ∙ sym k; rest = w.1; left = j ∙ sym l }
 
-pub defined_same : {own : Marked} {b : List ℕ} {fuel : ℕ} {t u : DefValType} {r s : List ℕ} {f g : ℕ} → MadeDefined own b fuel t r f
-    → MadeDefined own b fuel u s g → Same t u r s f g
-defined_same {own} {b} {fuel} {t} {u} {r} {s} {f} {g} x y =
+pub defined_same : {config : Config} {own : Marked} {b : List ℕ} {fuel : ℕ} {t u : DefValType} {r s : List ℕ} {f g : ℕ} → MadeDefined config own b fuel t r f
+    → MadeDefined config own b fuel u s g → Same t u r s f g
+defined_same {config} {own} {b} {fuel} {t} {u} {r} {s} {f} {g} x y =
     let c = among_same x.choice y.choice in
-    let P : DefinedKind → Type 0 = λ z. MadeAs own z x.mid fuel t r f in
-    let Q : List ℕ → Type 0 = λ z. MadeAs own y.kind z fuel t r f in
+    let P : DefinedKind → Type 0 = λ z. MadeAs config own z x.mid fuel t r f in
+    let Q : List ℕ → Type 0 = λ z. MadeAs config own y.kind z fuel t r f in
     as_same own y.kind y.mid fuel t u r s f g (subst Q c.1 (subst P c.0 x.made)) y.made
 
 one_same : (v w : Option ComponentValType) → option_to_list v ≡ option_to_list w → v ≡ w
@@ -245,12 +246,12 @@ one_same None (Some y) e = absurd (omega (arith, ap length e))
 one_same (Some x) None e = absurd (omega (arith, ap length e))
 one_same (Some x) (Some y) e = let z : x ≡ y = cc in ap Some z
 
-pub function_same : {own : Marked} {b : List ℕ} {fuel : ℕ} {c d : Signature} {r s : List ℕ} {f g : ℕ} → MadeFunction own b fuel c r f
-    → MadeFunction own b fuel d s g → Same c d r s f g
-function_same {own} {c = c} {d = d} {r = r} {f = f} x y =
+pub function_same : {config : Config} {own : Marked} {b : List ℕ} {fuel : ℕ} {c d : Signature} {r s : List ℕ} {f g : ℕ} → MadeFunction config own b fuel c r f
+    → MadeFunction config own b fuel d s g → Same c d r s f g
+function_same {config} {own} {c = c} {d = d} {r = r} {f = f} x y =
     let u = members_same (named_same (val_same own)) x.takes y.takes in
-    let P : List ℕ → Type 0 = λ z. ReadsResult own z x.held c.result r f in
-    let Q : ℕ → Type 0 = λ z. ReadsResult own y.mid z c.result r f in
+    let P : List ℕ → Type 0 = λ z. ReadsResult config own z x.held c.result r f in
+    let Q : ℕ → Type 0 = λ z. ReadsResult config own y.mid z c.result r f in
     let w = members_same (λ so_far. val_same own) (subst Q u.left (subst P u.rest x.gives)) y.gives in
     let v = one_same c.result d.result w.value in
     record { value = λ i. record { params = u.value i; result = v i }; rest = w.rest; left = w.left }

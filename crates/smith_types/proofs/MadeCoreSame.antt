@@ -55,11 +55,11 @@ module _ (config : Config) (s : Declared) where
       let Q : List ℕ → Type 0 = λ z. ReadsEntityOf config s y.kind z d r in
       entity_of_same y.kind y.mid d e r q (subst Q c.1 (subst P c.0 x.is)) y.is
 
-import_names_same : (s : Declared) (bytes m n a b r q : List ℕ) → ReadsImportNames s bytes m a r → ReadsImportNames s bytes n b q → (m ≡ n) × (a ≡ b) × (r ≡ q)
-import_names_same s bytes m n a b r q (mid, t, x) (low, u, y) =
+import_names_same : {config : Config} → (s : Declared) (bytes m n a b r q : List ℕ) → ReadsImportNames config s bytes m a r → ReadsImportNames config s bytes n b q → (m ≡ n) × (a ≡ b) × (r ≡ q)
+import_names_same {config} s bytes m n a b r q (mid, t, x) (low, u, y) =
     let v = text_unique t u in
-    let P : List ℕ → Type 0 = λ z. ReadsNewText 100 (names_from z s.decls) mid a r in
-    let Q : List ℕ → Type 0 = λ z. ReadsNewText 100 (names_from n s.decls) z a r in
+    let P : List ℕ → Type 0 = λ z. ReadsNewText config.max_name_length (names_from z s.decls) mid a r in
+    let Q : List ℕ → Type 0 = λ z. ReadsNewText config.max_name_length (names_from n s.decls) z a r in
     let w = new_text_unique (subst Q v.1 (subst P v.0 x)) y in
     (v.0, w.0, w.1)
 
@@ -113,13 +113,13 @@ module _ (config : Config) (around : Scope) where
   ends_same s b r q t u (no_fuel f e) (no_export g c n none h) = absurd (omega (arith, f, g))
   ends_same s b r q t u (no_import g c n none h) (no_fuel f e) = absurd (omega (arith, f, g))
   ends_same s b r q t u (no_import {mid = mid} {from = m} {name = x} f c n none e) (no_import {mid = low} {from = l} {name = y} g a o some h) =
-      let P : List ℕ → Type 0 = λ z. ReadsImportNames s z m x r in
+      let P : List ℕ → Type 0 = λ z. ReadsImportNames config s z m x r in
       ((import_names_same s low m l x y r q (subst P (among_same c a).1 n) o).2, e ∙ sym h)
   ends_same s b r q t u (no_import f c n none e) (no_export g a o some h) = absurd (item_apart s c a)
   ends_same s b r q t u (no_export g c n none h) (no_fuel f e) = absurd (omega (arith, f, g))
   ends_same s b r q t u (no_export f c n none e) (no_import g a o some h) = absurd (item_apart s a c)
   ends_same s b r q t u (no_export {mid = mid} {name = x} f c n none e) (no_export {mid = low} {name = y} g a o some h) =
-      let P : List ℕ → Type 0 = λ z. ReadsExportName s z x r in
+      let P : List ℕ → Type 0 = λ z. ReadsExportName config s z x r in
       ((new_text_unique (subst P (among_same c a).1 n) o).1, e ∙ sym h)
 
 line_same : {may : _} {Line : List ℕ → List ModuleDecl → List ℕ → Type 0}
@@ -176,7 +176,7 @@ made_core_same (spent_core h i n) (of_function o c x j m) = absurd (omega (arith
 made_core_same (spent_core h i n) (of_module o c x j) = absurd (omega (arith, h, o))
 made_core_same (of_function o c x j m) (spent_core h i n) = absurd (omega (arith, h, o))
 made_core_same {config} {r = r} (of_function {f = f} h c x i n) (of_function {f = g} o a y j m) =
-    let P : List ℕ → Type 0 = λ z. ReadsFunction (configured config) (max_results config) z f r in
+    let P : List ℕ → Type 0 = λ z. ReadsFunction config.loop_bits (configured config) (max_results config) z f r in
     let v = function_unique (subst P (reads_unique c a).1 x) y in
     record { value = i ∙ (ap core_func v.0 ∙ sym j); rest = v.1; left = n ∙ sym m }
 made_core_same (of_function h c x i n) (of_module o a y j) = absurd (other_choice c a)

@@ -37,6 +37,14 @@ impl Default for Limits {
     }
 }
 
+impl Limits {
+    /// The limits of the profile `fuzz`, with which a fuzzer's input says more in fewer bytes: `max_exports` is 10,
+    /// `finish_after` and `max_name_length` are 8, and `loop_bits` is 2. The others are the defaults.
+    pub fn fuzz() -> Limits {
+        library::fuzz_limits()
+    }
+}
+
 /// Limits that the first bytes of an input encode.
 #[derive(Clone, Copy, Debug, PartialEq, Eq)]
 #[non_exhaustive]
@@ -61,7 +69,7 @@ pub struct Generated {
 #[derive(Clone, Copy, Debug, PartialEq, Eq)]
 #[non_exhaustive]
 pub enum Refusal {
-    /// A minimum exceeds its maximum, a maximum 32 bits, or the nesting depth 1000.
+    /// A minimum exceeds its maximum, or a limit the most that it may be.
     InconsistentLimits,
     /// No more imports or functions of a minimum can be added.
     MinimumNotMet,
@@ -149,7 +157,7 @@ impl From<OutOfMemory> for NoText {
 #[derive(Clone, Copy, Debug, PartialEq, Eq)]
 #[non_exhaustive]
 pub enum NoScript {
-    /// A minimum exceeds its maximum, a maximum 32 bits, or the nesting depth 1000.
+    /// A minimum exceeds its maximum, or a limit the most that it may be.
     InconsistentLimits,
     /// They are not a component of the grammar, or are one whose scopes are nested more than 1001 deep, as was found at
     /// this offset.
@@ -184,7 +192,7 @@ impl core::error::Error for NoScript {}
 #[derive(Clone, Copy, Debug, PartialEq, Eq)]
 #[non_exhaustive]
 pub enum Unreduced {
-    /// A minimum exceeds its maximum, a maximum 32 bits, or the nesting depth 1000.
+    /// A minimum exceeds its maximum, or a limit the most that it may be.
     InconsistentLimits,
     /// The bytes are not a component of the grammar, or are one whose scopes are nested more than 1001 deep. `check`
     /// knows where.

@@ -8,6 +8,7 @@ use core::mem::{size_of, MaybeUninit};
 extern "C" {
     fn lupinanon_version() -> *const c_char;
     fn lupinanon_default_limits(limits: *mut RawLimits, size: usize) -> i32;
+    fn lupinanon_fuzz_limits(limits: *mut RawLimits, size: usize) -> i32;
     fn lupinanon_swarm_limits(
         limits: *mut RawLimits,
         input: *const u8,
@@ -119,16 +120,26 @@ pub fn version() -> &'static str {
     version.to_str().expect("a version is ASCII")
 }
 
-/// The default limits.
-pub fn default_limits() -> Limits {
+// The limits that a function of the library writes into a struct of that size.
+fn written(write: unsafe extern "C" fn(*mut RawLimits, usize) -> i32) -> Limits {
     let mut limits = MaybeUninit::uninit();
     // SAFETY: a call that returns 0 has written each byte of the struct, and 0 or 1 to each truth value.
     let limits = unsafe {
-        let status = lupinanon_default_limits(limits.as_mut_ptr(), size_of::<RawLimits>());
+        let status = write(limits.as_mut_ptr(), size_of::<RawLimits>());
         assert_eq!(status, 0, "the size is that of the header's struct");
         limits.assume_init()
     };
     limits.limits()
+}
+
+/// The default limits.
+pub fn default_limits() -> Limits {
+    written(lupinanon_default_limits)
+}
+
+/// The limits of the profile `fuzz`.
+pub fn fuzz_limits() -> Limits {
+    written(lupinanon_fuzz_limits)
 }
 
 /// These limits as overridden by the ones that the first bytes of the input encode, and how many bytes encode them.

@@ -26,8 +26,24 @@ fn limits_arrive() {
 }
 
 #[test]
+fn a_profile_sets_four_limits() {
+    let set = Limits {
+        max_exports: 10,
+        finish_after: 8,
+        max_name_length: 8,
+        loop_bits: 2,
+        ..Limits::default()
+    };
+    assert_eq!(Limits::fuzz(), set);
+    // A loop goes on after 02, and ends after 04.
+    let limits = Limits { finish_after: 0, ..Limits::fuzz() };
+    let made = generate(&limits, b"\x03\x02\x00\x00\x06\x04\x00").unwrap();
+    assert_eq!(made.bytes, b"\x00asm\x0d\x00\x01\x00\x07\x02\x01\x79");
+}
+
+#[test]
 fn limits_are_said_by_the_first_bytes() {
-    let given = Limits { min_types: 1, must_validate: true, ..Limits::default() };
+    let given = Limits { min_types: 1, must_validate: true, loop_bits: 2, ..Limits::default() };
     let front = [2, 0, 0, 255, 0, 0, 0, 17, 33, 64, 31, 16, 200, 1, 2, 3, 4, 5, 6, 18];
     let input = [&front[..], b"\x03\x01\x00\x00\x06\x00\x00\xff"].concat();
     let swarm = swarm_limits(&given, &input);
