@@ -367,7 +367,8 @@ static int words_are_right(void) {
     WANT(!strcmp(lupinanon_status_name(LUPINANON_UNREAD), "unread"));
     WANT(!strcmp(lupinanon_status_name(LUPINANON_NO_SCRIPT), "no script"));
     WANT(!strcmp(lupinanon_status_name(LUPINANON_NO_SMALLER), "no smaller component"));
-    WANT(!strcmp(lupinanon_status_name(LUPINANON_NO_CHANGE + 1), "unknown status"));
+    WANT(!strcmp(lupinanon_status_name(LUPINANON_NO_TEXT), "no text"));
+    WANT(!strcmp(lupinanon_status_name(LUPINANON_NO_TEXT + 1), "unknown status"));
     WANT(!strcmp(lupinanon_status_name(-1), "unknown status"));
     return 1;
 }
