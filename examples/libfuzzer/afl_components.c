@@ -3,8 +3,10 @@
  * an input. So an input that is a component is taken as it is: it is mutated by way of its script, and trimmed by the
  * steps of lupinanon_next_smaller. */
 
-/* A component does not say within which limits it was made, so that they are always the same. */
+/* A component does not say within which limits it was made, so that they are always the same. Each has a script. */
 #undef SWARM
+#undef FINISH_AFTER
+#define FINISH_AFTER 0
 #include "mix.h"
 
 enum { MOST_TRIED = 1000, MOST_CHANGES = 4 };
