@@ -7,12 +7,12 @@ library=$release/lib/liblupinanon.a
 libfuzzer=$release/examples/libfuzzer
 include="-I $release/include -I $release/examples/c"
 # What limits there are: -DSWARM, -DMUST_VALIDATE=0 or nothing.
-limits=
+limits=${LIMITS-}
 
-# What you test is compiled and linked here, with these flags.
+# What you test is compiled and linked here, with these flags. LDLIBS, if it is set, is linked too.
 $CC $CFLAGS $include -c "$SRC/use_component.c" -o "$WORK/use_component.o"
 $CC $CFLAGS $limits $include -c "$libfuzzer/target.c" -o "$WORK/target.o"
-$CXX $CXXFLAGS "$WORK/target.o" "$WORK/use_component.o" "$library" $LIB_FUZZING_ENGINE -o "$OUT/$target"
+$CXX $CXXFLAGS "$WORK/target.o" "$WORK/use_component.o" "$library" ${LDLIBS-} $LIB_FUZZING_ENGINE -o "$OUT/$target"
 
 printf '[libfuzzer]\nmax_len = 4096\n' >"$OUT/$target.options"
 
