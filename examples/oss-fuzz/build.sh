@@ -17,7 +17,7 @@ $CXX $CXXFLAGS "$WORK/target.o" "$WORK/use_component.o" "$library" ${LDLIBS-} $L
 printf '[libfuzzer]\nmax_len = 4096\n' >"$OUT/$target.options"
 
 # What runs here is built without the flags of the engine.
-$CC -O1 $include "$libfuzzer/dictionary.c" "$library" -o "$WORK/dictionary"
+$CC -O1 $limits $include "$libfuzzer/dictionary.c" "$library" -o "$WORK/dictionary"
 "$WORK/dictionary" >"$OUT/$target.dict"
 
 # The first corpus of the archive, which is drawn within the limits of the target.
