@@ -452,6 +452,8 @@ static const Arriving arriving[] = {
                0x00)),
     /* the byte that would finish the component is the choice of a custom section */
     MADE(finish_after, 1, BYTES(0x00), BYTES(PREAMBLE, 0x00, 0x01, 0x00)),
+    REFUSED(max_name_length, 101, TYPE, LUPINANON_INCONSISTENT_LIMITS),
+    REFUSED(loop_bits, 9, TYPE, LUPINANON_INCONSISTENT_LIMITS),
 };
 
 static void set(LupinanonLimits *limits, const Arriving *it) {
