@@ -39,6 +39,36 @@ static int defaults_are_written(void) {
     WANT(limits.bulk_memory_enabled == 1);
     WANT(limits.must_validate == 0);
     WANT(limits.finish_after == 0);
+    WANT(limits.max_name_length == 100);
+    WANT(limits.loop_bits == 1);
+    return 1;
+}
+
+static int the_profile_is_written(void) {
+    static const uint8_t loop[7] = {3, 2, 0, 0, 6, 4, 0}, flags[9] = {3, 1, 0, 5, 1, 1, 0, 0, 0};
+    static const uint8_t labels[] = {PREAMBLE, 0x07, 0x0b, 0x01, 0x6e, 0x03, 0x01,
+                                     0x61,     0x02, 0x61, 0x31, 0x02, 0x61, 0x32};
+    LupinanonLimits limits, profile;
+    uint8_t output[ROOM];
+    size_t len, left;
+    lupinanon_default_limits(&profile, sizeof profile);
+    profile.max_exports = 10;
+    profile.finish_after = profile.max_name_length = 8;
+    profile.loop_bits = 2;
+    memset(&limits, 0xaa, sizeof limits);
+    WANT(lupinanon_fuzz_limits(NULL, sizeof limits) == LUPINANON_BAD_ARGUMENT);
+    WANT(lupinanon_fuzz_limits(&limits, sizeof limits - 1) == LUPINANON_BAD_ARGUMENT);
+    WANT(lupinanon_fuzz_limits(&limits, sizeof limits) == LUPINANON_ANSWERED);
+    WANT(!memcmp(&limits, &profile, sizeof limits));
+    /* a loop goes on after 02 and ends after 04 */
+    limits.finish_after = 0;
+    WANT(lupinanon_generate_into(&limits, loop, 7, output, ROOM, &len, &left) == LUPINANON_ANSWERED);
+    WANT(len == 12 && left == 0 && !memcmp(output, wanted, 12));
+    /* names of no byte are a, a1 and a2 */
+    limits.max_name_length = 0;
+    limits.loop_bits = 1;
+    WANT(lupinanon_generate_into(&limits, flags, 9, output, ROOM, &len, &left) == LUPINANON_ANSWERED);
+    WANT(len == sizeof labels && left == 0 && !memcmp(output, labels, len));
     return 1;
 }
 
@@ -78,6 +108,12 @@ static int refusals_have_their_statuses(void) {
     LupinanonLimits limits;
     lupinanon_default_limits(&limits, sizeof limits);
     limits.max_nesting_depth = 1001;
+    WANT(refusal(&limits, plan, 8) == LUPINANON_INCONSISTENT_LIMITS);
+    lupinanon_default_limits(&limits, sizeof limits);
+    limits.max_name_length = 101;
+    WANT(refusal(&limits, plan, 8) == LUPINANON_INCONSISTENT_LIMITS);
+    lupinanon_default_limits(&limits, sizeof limits);
+    limits.loop_bits = 9;
     WANT(refusal(&limits, plan, 8) == LUPINANON_INCONSISTENT_LIMITS);
     lupinanon_default_limits(&limits, sizeof limits);
     limits.min_imports = 1;
@@ -224,9 +260,9 @@ static int are_bad_arguments(const LupinanonLimits *limits) {
 
 /* Whether the struct of an older header may end there, after a limit of eight bytes, of four or of one. */
 static int is_older_size(size_t size) {
-    size_t of_eight = offsetof(LupinanonLimits, max_type_size);
-    if (size <= of_eight) return size > sizeof(size_t) && size % sizeof(size_t) == 0;
-    return size >= of_eight + sizeof(uint32_t);
+    size_t of_eight = offsetof(LupinanonLimits, max_type_size), reserved = offsetof(LupinanonLimits, reserved);
+    if (size > of_eight && size <= reserved) return size >= of_eight + sizeof(uint32_t);
+    return size > sizeof(size_t) && size % sizeof(size_t) == 0;
 }
 
 /* What follows an older struct in memory is neither written nor read: 0xaa in limits would be refused. */
@@ -235,7 +271,7 @@ static int older_structs_are_taken(void) {
     Overlapping memory;
     size_t size, before = sizeof(size_t);
     lupinanon_default_limits(&defaults, sizeof defaults);
-    for (size = 0; size <= offsetof(LupinanonLimits, reserved); size++) {
+    for (size = 0; size < sizeof defaults; size++) {
         memset(&memory, 0xaa, sizeof memory);
         if (!is_older_size(size)) {
             WANT(lupinanon_default_limits(&memory.limits, size) == LUPINANON_BAD_ARGUMENT);
@@ -331,7 +367,8 @@ static int words_are_right(void) {
     WANT(!strcmp(lupinanon_status_name(LUPINANON_UNREAD), "unread"));
     WANT(!strcmp(lupinanon_status_name(LUPINANON_NO_SCRIPT), "no script"));
     WANT(!strcmp(lupinanon_status_name(LUPINANON_NO_SMALLER), "no smaller component"));
-    WANT(!strcmp(lupinanon_status_name(LUPINANON_NO_CHANGE + 1), "unknown status"));
+    WANT(!strcmp(lupinanon_status_name(LUPINANON_NO_TEXT), "no text"));
+    WANT(!strcmp(lupinanon_status_name(LUPINANON_NO_TEXT + 1), "unknown status"));
     WANT(!strcmp(lupinanon_status_name(-1), "unknown status"));
     return 1;
 }
@@ -415,6 +452,8 @@ static const Arriving arriving[] = {
                0x00)),
     /* the byte that would finish the component is the choice of a custom section */
     MADE(finish_after, 1, BYTES(0x00), BYTES(PREAMBLE, 0x00, 0x01, 0x00)),
+    REFUSED(max_name_length, 101, TYPE, LUPINANON_INCONSISTENT_LIMITS),
+    REFUSED(loop_bits, 9, TYPE, LUPINANON_INCONSISTENT_LIMITS),
 };
 
 static void set(LupinanonLimits *limits, const Arriving *it) {
@@ -464,6 +503,8 @@ static void set_what_stays(LupinanonLimits *limits) {
     limits->min_funcs = 5;
     limits->min_memories = 4;
     limits->must_validate = 1;
+    limits->max_name_length = 3;
+    limits->loop_bits = 2;
 }
 
 /* The numbers of the first thirteen bytes; by hand. */
@@ -826,7 +867,8 @@ static int components_have_scripts(void) {
 }
 
 int main(void) {
-    if (!defaults_are_written() || !nothing_passes_the_room() || !refusals_have_their_statuses()) return 1;
+    if (!defaults_are_written() || !the_profile_is_written()) return 1;
+    if (!nothing_passes_the_room() || !refusals_have_their_statuses()) return 1;
     if (!bad_arguments_are_refused() || !memory_is_refused_in_turn() || !growths_are_refused_in_turn()) return 1;
     if (!older_structs_are_taken() || !newer_structs_are_taken() || !wrong_sizes_are_refused()) return 1;
     if (!limits_overlap_by_their_size() || !limits_arrive()) return 1;

@@ -1,6 +1,7 @@
 /* dictionary: prints words for inputs of the target, as libFuzzer and AFL++ read them. Each is what the input of a
- * component has more if there is one more section, or one more type, and is found by the scripts of both. */
-#include "lupinanon.h"
+ * component has more if there is one more section, or one more type, and is found by the scripts of both. They are words
+ * of the first sections, after which an input may not finish the component yet. */
+#include "input_limits.h"
 #include <stdio.h>
 #include <string.h>
 
@@ -16,12 +17,16 @@ struct Word {
     struct Bytes without, with;
 };
 
-/* After its last section a script has a byte, and after the last type of that section one more. */
-enum { AFTER_SECTION = 1, AFTER_TYPE = 2, ROOM = 256 };
+/* Eight sections without types, each with a script of two bytes: as many sections as a component has at least. */
+#define EMPTY "\x07\x01\x00\x07\x01\x00\x07\x01\x00\x07\x01\x00"
+#define LAST EMPTY EMPTY
+
+/* After them a script has a byte, and after the last type of a section one more. */
+enum { AFTER_SECTION = 2 * 8 + 1, AFTER_TYPE, ROOM = 256 };
 
 #define BYTES(text) {text, sizeof(text) - 1}
-#define SECTION(name, before, section) {name, AFTER_SECTION, BYTES(before), BYTES(before section)}
-#define TYPE(name, len, type) {name, AFTER_TYPE, BYTES("\x07\x02\x01\x7f"), BYTES("\x07" len "\x02\x7f" type)}
+#define SECTION(name, before, section) {name, AFTER_SECTION, BYTES(before LAST), BYTES(before section LAST)}
+#define TYPE(name, len, type) {name, AFTER_TYPE, BYTES("\x07\x02\x01\x7f" LAST), BYTES("\x07" len "\x02\x7f" type LAST)}
 
 #define FUNCTION "\x07\x05\x01\x40\x00\x00\x79"
 #define IMPORT FUNCTION "\x0a\x06\x01\x00\x01" "a\x01\x00"
@@ -58,8 +63,8 @@ static size_t script_of(struct Bytes sections, uint8_t script[ROOM]) {
     uint8_t component[ROOM] = {0x00, 0x61, 0x73, 0x6d, 0x0d, 0x00, 0x01, 0x00};
     LupinanonLimits limits;
     size_t len;
-    lupinanon_default_limits(&limits, sizeof limits);
-    limits.max_exports = 10;
+    lupinanon_fuzz_limits(&limits, sizeof limits);
+    limits.must_validate = MUST_VALIDATE;
     memcpy(component + 8, sections.at, sections.len);
     return lupinanon_script_into(&limits, component, 8 + sections.len, script, ROOM, &len, NULL) ? 0 : len;
 }

@@ -6,7 +6,7 @@ release=$(echo "$SRC"/lupinanon-*-x86_64-linux)
 library=$release/lib/liblupinanon.a
 libfuzzer=$release/examples/libfuzzer
 include="-I $release/include -I $release/examples/c"
-# What limits there are: -DSWARM, -DMUST_VALIDATE=1 or nothing.
+# What limits there are: -DSWARM, -DMUST_VALIDATE=0 or nothing.
 limits=${LIMITS-}
 
 # What you test is compiled and linked here, with these flags. LDLIBS, if it is set, is linked too.

@@ -32,6 +32,7 @@ __all__ = [
     "change_count",
     "changed",
     "check",
+    "fuzz_limits",
     "generate",
     "join",
     "next_changed",
@@ -41,6 +42,7 @@ __all__ = [
     "script",
     "smaller",
     "swarm_limits",
+    "text",
     "validate",
     "version",
     "without",
@@ -133,6 +135,17 @@ def rule_text(rule):
     return library.lupinanon_rule_text(number(rule)).decode()
 
 
+def fuzz_limits(**keywords):
+    """Returns the limits of the profile `fuzz`, with which a fuzzer's input says more in fewer bytes.
+
+    These limits are set over the ones of the profile.
+    """
+    limits = Limits()
+    _require(library.lupinanon_fuzz_limits(limits, limits.size))
+    limits.replace(**keywords)
+    return limits
+
+
 def swarm_limits(data, limits=None, **keywords):
     """Returns the limits with those replaced that the first bytes of the input say, and what follows these bytes."""
     data = as_bytes(data)
@@ -170,6 +183,17 @@ def validate(component):
     rule, offset = number(), number()
     status = library.lupinanon_validate(component, len(component), rule, offset)
     return _validated(status, rule, offset)
+
+
+def text(component):
+    """Returns the component, well formed or not, in the text format, with indexes as comments.
+
+    Raises Error if the bytes are no component, or if a core module in it has more than function types and memories.
+    """
+    component = as_bytes(component)
+    status, found = written(8 * len(component), library.lupinanon_print, component, len(component))
+    _require(status)
+    return found.decode()
 
 
 def script(component, limits=None, **keywords):

@@ -45,6 +45,7 @@ class Status(IntEnum):
     BOUND = 15
     OUTSIDE = 16
     NO_CHANGE = 17
+    NO_TEXT = 18
 
 
 class Limits(Structure):
@@ -104,6 +105,12 @@ class Limits(Structure):
     finish_after=0
         The fewest sections that a component has when the input finishes it. If no input is left, it is finished
         whatever it has.
+    max_name_length=100
+        How many bytes of a name are read at most. Digits that make it new, and an a where a word is missing, come on
+        top. At most 100. The name of a custom section does not count.
+    loop_bits=1
+        How many of the lowest bits of a byte are 0 where a loop ends, as one over types or fields: with 1 every second
+        byte ends it, with 2 every fourth, with 8 one in 256. At most 8; a limit of 0 counts as 1.
     """
 
     _fields_ = [
@@ -134,6 +141,8 @@ class Limits(Structure):
         ("must_validate", c_bool),
         ("reserved", c_uint8 * 5),
         ("finish_after", c_size_t),
+        ("max_name_length", c_size_t),
+        ("loop_bits", c_size_t),
     ]
 
     def __init__(self, **limits):
@@ -176,10 +185,12 @@ FUNCTIONS = {
     "status_name": (c_char_p, [c_int32]),
     "rule_text": (c_char_p, [c_size_t]),
     "default_limits": (c_int32, [POINTER(Limits), c_size_t]),
+    "fuzz_limits": (c_int32, [POINTER(Limits), c_size_t]),
     "swarm_limits": (c_int32, [POINTER(Limits), *BYTES, NUMBER]),
     "generate_into": (c_int32, [POINTER(Limits), *BYTES, *OUTPUT, NUMBER]),
     "check": (c_int32, [*BYTES, NUMBER]),
     "validate": (c_int32, [*BYTES, NUMBER, NUMBER]),
+    "print": (c_int32, [*BYTES, *OUTPUT]),
     "script_into": (c_int32, [POINTER(Limits), *BYTES, *OUTPUT, NUMBER]),
     "smaller": (c_int32, [POINTER(Limits), *BYTES, c_size_t, *OUTPUT]),
     "next_smaller": (c_int32, [POINTER(Limits), *BYTES, NUMBER, *OUTPUT]),

@@ -34,6 +34,14 @@ class LimitsTest(unittest.TestCase):
         self.assertIs(limits.must_validate, False)
         self.assertEqual(limits, Limits(max_types=100))
 
+    def test_profile(self):
+        limits = Limits(max_exports=10, finish_after=8, max_name_length=8, loop_bits=2)
+        self.assertEqual(lupinanon.fuzz_limits(), limits)
+        self.assertEqual(lupinanon.fuzz_limits(loop_bits=3, max_types=4).loop_bits, 3)
+        # A loop goes on after 02, and ends after 04.
+        made = lupinanon.generate(b"\3\2\0\0\6\4\0", lupinanon.fuzz_limits(finish_after=0))
+        self.assertEqual((made.component, made.left), (TYPE_OF_U32, 0))
+
     def test_keywords(self):
         limits = Limits(max_types=2**64 - 1, max_type_size=2**32 - 1, must_validate=True)
         self.assertEqual((limits.max_types, limits.max_type_size), (2**64 - 1, 2**32 - 1))
@@ -85,9 +93,9 @@ class GenerateTest(Refuses):
         self.assertEqual(lupinanon.script(made.component), data)
 
     def test_limits_of_an_input(self):
-        swarm = lupinanon.swarm_limits(bytes([2, 0, 0, 0, 0, 0, 0, 17]) + bytes(12) + b"rest", must_validate=True)
+        swarm = lupinanon.swarm_limits(bytes([2, 0, 0, 0, 0, 0, 0, 17]) + bytes(12) + b"rest", must_validate=True, loop_bits=2)
         self.assertEqual((swarm.limits.max_types, swarm.limits.max_memories), (2, 1))
-        self.assertTrue(swarm.limits.must_validate)
+        self.assertEqual((swarm.limits.must_validate, swarm.limits.loop_bits), (True, 2))
         self.assertEqual(swarm.rest, b"rest")
 
 
@@ -105,6 +113,15 @@ class JudgeTest(Refuses):
         self.assertEqual(lupinanon.rule_text(2**64 - 1), "unknown rule")
         outside = lupinanon.validate(PREAMBLE + b"\7\x82\0\1\x7f")
         self.assertEqual((outside.answer, outside.offset), (Answer.OUTSIDE, 9))
+
+    def test_texts(self):
+        self.assertEqual(lupinanon.text(PREAMBLE), "(component)\n")
+        self.assertEqual(lupinanon.text(OF_ITSELF), "(component\n  (type (;0;) bool)\n  (type (;1;) (list 1))\n)\n")
+        types = PREAMBLE + b"\7\x65\x64" + b"\x7f" * 100
+        lines = [f"  (type (;{index};) bool)" for index in range(100)]
+        self.assertEqual(lupinanon.text(types).splitlines(), ["(component", *lines, ")"])
+        self.refuses(Status.UNREAD, None, lupinanon.text, b"")
+        self.refuses(Status.NO_TEXT, None, lupinanon.text, PREAMBLE + b"\1\x0b\0asm\1\0\0\0\3\1\0")
 
     def test_scripts(self):
         self.assertEqual(lupinanon.script(TYPE_OF_U32), PLAN[:7])

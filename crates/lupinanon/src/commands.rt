@@ -1,6 +1,8 @@
 //! The commands of the command line, their arguments and what their help says.
 
-use clap::{Arg, ArgAction, Command, value_parser};
+use clap::builder::ValueParser;
+use clap::{Arg, ArgAction, ArgGroup, Command, value_parser};
+use smith_limits::PROFILES;
 use std::alloc::{AllocError, Global};
 
 const ABOUT: &str = "Turns a fuzzer's bytes into a WebAssembly component.";
@@ -121,6 +123,11 @@ fn switch<'a>(alloc: Global, name: &'a str, help: &'a str) -> Arg<'a> {
         .help(help)
 }
 
+// That one of these options has to be there, and no more than one.
+fn one_of<'a>(alloc: Global, names: &[&'a str]) -> Result<ArgGroup<'a>, AllocError> {
+    Ok(ArgGroup::new(alloc, "wanted").args(names)?.required(true))
+}
+
 fn output<'a>(alloc: Global, help: &'a str) -> Arg<'a> {
     option(alloc, "output", "OUT", help).short('o')
 }
@@ -131,7 +138,13 @@ fn with_limits<'a>(alloc: Global, command: Command<'a>) -> Result<Command<'a>, A
         "Limits in TOML; - is standard input. The rest are as `lupinanon limits` prints them";
     let limit = "One limit, such as max_types=10, over --limits; can be repeated";
     let limit = option(alloc, "limit", "KEY=VALUE", limit).action(ArgAction::Append);
+    let profile = "Limits by the name of a profile, under --limits";
+    let profile = option(alloc, "profile", "NAME,..", profile)
+        .value_parser(ValueParser::Names(PROFILES))
+        .value_delimiter(',')
+        .action(ArgAction::Append);
     command
+        .arg(profile)?
         .arg(option(alloc, "limits", "FILE", limits))?
         .arg(limit)
 }
@@ -188,16 +201,20 @@ fn smaller_command<'a>(alloc: Global) -> Result<Command<'a>, AllocError> {
     let from =
         "The first one from that step on. The number of its step is printed on standard error";
     let any = "Count each well-formed component, whatever the limits";
-    let any = switch(alloc, "any", any);
+    let any = switch(alloc, "any", any)
+        .conflicts_with("profile")?
+        .conflicts_with("limits")?
+        .conflicts_with("limit")?;
     let which = number(alloc, "number", "K", which).short('k');
     let from = number(alloc, "from", "STEP", from);
     let files = plain(alloc, "smaller", about, AFTER_SMALLER)
         .arg(component(alloc))?
         .arg(output(alloc, TO_COMPONENT))?;
     with_limits(alloc, files)?
-        .arg(which.required_unless_present("from")?)?
-        .arg(from.conflicts_with("number")?)?
-        .arg(any.conflicts_with("limits")?.conflicts_with("limit")?)
+        .group(one_of(alloc, &["number", "from"])?)?
+        .arg(which)?
+        .arg(from)?
+        .arg(any)
 }
 
 fn change_command<'a>(alloc: Global) -> Result<Command<'a>, AllocError> {
@@ -207,20 +224,13 @@ fn change_command<'a>(alloc: Global) -> Result<Command<'a>, AllocError> {
     let list =
         "List the changes that lead to something: the number, what is changed, and what that is";
     let which = number(alloc, "number", "K", which).short('k');
-    let from = number(alloc, "from", "K", from).conflicts_with("number")?;
-    let list = switch(alloc, "list", list)
-        .conflicts_with("number")?
-        .conflicts_with("from")?
-        .conflicts_with("output")?;
+    let list = switch(alloc, "list", list).conflicts_with("output")?;
     plain(alloc, "change", about, AFTER_CHANGE)
+        .group(one_of(alloc, &["number", "from", "list"])?)?
         .arg(component(alloc))?
         .arg(output(alloc, TO_COMPONENT))?
-        .arg(
-            which
-                .required_unless_present("from")?
-                .required_unless_present("list")?,
-        )?
-        .arg(from)?
+        .arg(which)?
+        .arg(number(alloc, "from", "K", from))?
         .arg(list)
 }
 
@@ -235,7 +245,8 @@ fn with_draw<'a>(alloc: Global, command: Command<'a>) -> Result<Command<'a>, All
     let bytes = option(alloc, "bytes", "N", bytes);
     let seed = option(alloc, "seed", "SEED", seed);
     command
-        .arg(count.required_unless_present("from")?)?
+        .group(one_of(alloc, &["count", "from"])?)?
+        .arg(count)?
         .arg(bytes.value_parser(value_parser!(usize).range(..=1_048_576)))?
         .arg(seed.value_parser(value_parser!(u64)))?
         .arg(switch(alloc, "swarm", swarm))?
@@ -247,7 +258,6 @@ fn corpus_command<'a>(alloc: Global) -> Result<Command<'a>, AllocError> {
     let from = "Write the scripts of the components *.wasm in that folder, and no random inputs";
     let to = "The folder where they go, which is made if it is missing";
     let from = option(alloc, "from", "FOLDER", from)
-        .conflicts_with("count")?
         .conflicts_with("bytes")?
         .conflicts_with("seed")?
         .conflicts_with("swarm")?
@@ -278,7 +288,6 @@ pub fn command<'a>(alloc: Global) -> Result<Command<'a>, AllocError> {
     plain(alloc, "lupinanon", ABOUT, AFTER)
         .bin_name("lupinanon")?
         .version("0.1.0")
-        .disable_help_subcommand(true)
         .subcommand_required(true)
         .subcommand(generate_command(alloc)?)?
         .subcommand(plain(alloc, "limits", limits, AFTER_LIMITS))?

@@ -1,11 +1,11 @@
-//! Limits from a file, and settings of the command line over them; and why they are refused, in words: of which line of
-//! the file, or of which setting.
+//! Limits of profiles, from a file over them, and settings of the command line over both; and why they are refused, in
+//! words: of which line of the file, or of which setting.
 
 use crate::options::{Limits, named};
 use crate::places::{STANDARD_INPUT, Source, print_fault};
 use crate::{FAULT, print_error};
 use smith_component::Config;
-use smith_limits::{Fault, limits_of};
+use smith_limits::{Fault, limits_of, profile_text};
 use std::process::ExitCode;
 use std::{fmt, io};
 use toml::Table;
@@ -16,7 +16,7 @@ use toml::de::Error;
 pub struct LimitsTable {
     /// The text of the file, which is empty if there is none.
     pub in_file: String,
-    /// The table of the file, with the settings over it.
+    /// The table of the file, over those of the profiles, with the settings over it.
     pub table: Table,
 }
 
@@ -43,12 +43,43 @@ fn refuse_toml<N: fmt::Display + Drop>(rt: &HostRuntime, name: N, error: &Error)
     ExitCode::from(FAULT)
 }
 
+// The table of a profile, or the status after a message.
+fn table_of_profile(rt: &HostRuntime, name: &str) -> Result<Table, ExitCode> {
+    let Some(text) = profile_text(name) else {
+        return Err(print_error(rt, format_args!("--profile {name}: there is none")));
+    };
+    match toml::table_from_str(rt.alloc(), text) {
+        Ok(table) => Ok(table),
+        Err(error) => Err(refuse_toml(rt, format_args!("--profile {name}"), &error)),
+    }
+}
+
+// Puts what one table sets over what the other does.
+fn put_over(rt: &HostRuntime, table: &mut Table, over: Table) -> Result<(), ExitCode> {
+    let mut over = over;
+    match table.append(&mut over) {
+        Ok(()) => Ok(()),
+        Err(_) => Err(print_error(rt, "out of memory")),
+    }
+}
+
+// The tables of the profiles, each over the ones before it.
+fn table_of_profiles(rt: &HostRuntime, profiles: &[&str]) -> Result<Table, ExitCode> {
+    let mut table = Table::new(rt.alloc());
+    for name in profiles {
+        put_over(rt, &mut table, table_of_profile(rt, name)?)?;
+    }
+    Ok(table)
+}
+
 // The table of a setting, which has one key, or the status after a message.
 fn table_of_setting(rt: &HostRuntime, setting: &str) -> Result<Table, ExitCode> {
     match toml::table_from_str(rt.alloc(), setting) {
         Ok(table) if table.len() == 1 => Ok(table),
-        Ok(_) => Err(print_error(rt, format_args!("--limit {setting}: must be KEY=VALUE"))),
-        Err(error) => Err(refuse_toml(rt, format_args!("--limit {setting}"), &error)),
+        Err(error) if setting.contains('=') => {
+            Err(refuse_toml(rt, format_args!("--limit {setting}"), &error))
+        }
+        _ => Err(print_error(rt, format_args!("--limit {setting}: must be KEY=VALUE"))),
     }
 }
 
@@ -60,10 +91,7 @@ fn table_with_settings(
 ) -> Result<Table, ExitCode> {
     let mut table = table;
     for setting in settings {
-        let mut own = table_of_setting(rt, setting)?;
-        if table.append(&mut own).is_err() {
-            return Err(print_error(rt, "out of memory"));
-        }
+        put_over(rt, &mut table, table_of_setting(rt, setting)?)?;
     }
     Ok(table)
 }
@@ -126,7 +154,9 @@ pub fn refuse_limits(rt: &HostRuntime, limits: &Limits<'_>, text: &str, fault: &
 pub fn table_of(rt: &HostRuntime, limits: &Limits<'_>) -> Result<LimitsTable, ExitCode> {
     let in_file = text_in_file(rt, limits.file)?;
     match toml::table_from_str(rt.alloc(), &in_file) {
-        Ok(table) => {
+        Ok(own) => {
+            let mut table = table_of_profiles(rt, &limits.profiles)?;
+            put_over(rt, &mut table, own)?;
             let table = table_with_settings(rt, table, &limits.settings)?;
             Ok(LimitsTable { in_file, table })
         }

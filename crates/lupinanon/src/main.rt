@@ -45,7 +45,7 @@ fn words_of(rt: &HostRuntime) -> Result<Vec<String>, ExitCode> {
     }
 }
 
-// Does what the words ask for. Returns the status, which is an error after a message.
+// Does what the words ask for. Returns the status, which is an error after a message or a failed write.
 fn run(rt: &HostRuntime) -> Result<ExitCode, ExitCode> {
     let words = words_of(rt)?;
     match options::task_of(rt.alloc(), words.as_slice()) {

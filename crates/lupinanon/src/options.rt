@@ -42,9 +42,11 @@ pub enum Task<'a> {
     },
 }
 
-/// Where limits are from: the file's, or the default ones if there is none, and settings over them.
+/// Where limits are from: the default ones, those of profiles over them, the file's over these, and settings over all.
 #[derive(Drop)]
 pub struct Limits<'a> {
+    /// Each is a name of `smith_limits::PROFILES`.
+    pub profiles: Vec<&'a str>,
     /// `-` is standard input.
     pub file: Option<&'a str>,
     /// Each is `KEY=VALUE`, and of two with the same key the later one holds.
@@ -138,8 +140,10 @@ fn form_of(matches: &ArgMatches<'_>) -> Form {
 
 // What the arguments of `with_limits` ask for.
 fn limits_of<'a>(alloc: Global, matches: &ArgMatches<'a>) -> Result<Limits<'a>, AllocError> {
+    let profiles = matches.get_strs("profile").unwrap_or_default();
     let settings = matches.get_strs("limit").unwrap_or_default();
     Ok(Limits {
+        profiles: Vec::from_slice(alloc, profiles)?,
         file: matches.get_str("limits"),
         settings: Vec::from_slice(alloc, settings)?,
     })

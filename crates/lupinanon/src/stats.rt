@@ -1,7 +1,7 @@
 //! What is in the components of a folder.
 
 use crate::folders::{COMPONENT_ENDING, components_in, path_in};
-use crate::inspecting::{REFUSED, bytes_in, refuse};
+use crate::inspecting::{REFUSED, bytes_in, refuse, refuse_unread};
 use crate::places::status_of_print;
 use smith_read::{ReadError, read};
 use smith_stats::{Json, Tally};
@@ -15,7 +15,7 @@ fn add_file(rt: &HostRuntime, tally: &mut Tally, path: &str) -> Result<(), ExitC
         Ok(component) => tally.add(bytes.len(), &component),
         Err(ReadError::OutOfMemory) => Err(AllocError),
         Err(error) => {
-            let _status = refuse(rt, Some(path), &error, REFUSED);
+            let _status = refuse_unread(rt, Some(path), &bytes, &error, REFUSED);
             tally.add_unread();
             Ok(())
         }

@@ -6,11 +6,14 @@
 /* The proved functions. No pointer is NULL, no memory that is written overlaps any other that is passed, and no length
  * is more than PTRDIFF_MAX. Their limits are a whole LupinanonLimits without the size before them. */
 void lupinanon_proved_default_limits(void *limits);
+void lupinanon_proved_fuzz_limits(void *limits);
 int32_t lupinanon_proved_swarm_limits(void *limits, const uint8_t *input, size_t input_len, size_t *taken);
 int32_t lupinanon_proved_generate_into(const void *limits, const uint8_t *input, size_t input_len, uint8_t *output,
                                        size_t output_len, size_t *bytes_len, size_t *left);
 int32_t lupinanon_proved_check(const uint8_t *bytes, size_t bytes_len, size_t *offset);
 int32_t lupinanon_proved_validate(const uint8_t *bytes, size_t bytes_len, size_t *rule, size_t *offset);
+int32_t lupinanon_proved_print(const uint8_t *bytes, size_t bytes_len, uint8_t *output, size_t output_len,
+                               size_t *text_len);
 int32_t lupinanon_proved_script_into(const void *limits, const uint8_t *bytes, size_t bytes_len, uint8_t *output,
                                      size_t output_len, size_t *script_len, size_t *offset);
 int32_t lupinanon_proved_smaller(const void *limits, const uint8_t *bytes, size_t bytes_len, size_t k, uint8_t *output,
@@ -96,6 +99,8 @@ static const size_t ends[] = {
     END_OF(must_validate),
     END_OF(reserved),
     END_OF(finish_after),
+    END_OF(max_name_length),
+    END_OF(loop_bits),
 };
 
 static int is_limits_size(size_t size) {
@@ -112,12 +117,14 @@ static Memory memory_of_limits(const LupinanonLimits *limits) {
     return is_limits_size(it.len) ? it : none;
 }
 
-/* Writes the defaults. The proved function may write anything after the last limit. */
-static void set_defaults(LupinanonLimits *limits) {
-    lupinanon_proved_default_limits(WITHOUT_SIZE(limits));
+/* Writes the limits that a proved function writes, which may write anything to the reserved bytes. */
+static void set_limits(LupinanonLimits *limits, void (*proved)(void *limits)) {
+    proved(WITHOUT_SIZE(limits));
     memset(limits->reserved, 0, sizeof limits->reserved);
     limits->size = sizeof *limits;
 }
+
+static void set_defaults(LupinanonLimits *limits) { set_limits(limits, lupinanon_proved_default_limits); }
 
 static int is_zero(const uint8_t *bytes, size_t len) {
     while (len)
@@ -179,18 +186,28 @@ const char *lupinanon_status_name(int32_t status) {
     case LUPINANON_BOUND: return "beyond a bound";
     case LUPINANON_OUTSIDE: return "not judged";
     case LUPINANON_NO_CHANGE: return "no change";
+    case LUPINANON_NO_TEXT: return "no text";
     default: return "unknown status";
     }
 }
 
-int32_t lupinanon_default_limits(LupinanonLimits *limits, size_t size) {
+/* Writes what a struct of that size has of those limits. */
+static int32_t write_limits(LupinanonLimits *limits, size_t size, void (*proved)(void *limits)) {
     LupinanonLimits whole;
     if (!limits || !is_limits_size(size)) return LUPINANON_BAD_ARGUMENT;
-    set_defaults(&whole);
+    set_limits(&whole, proved);
     whole.size = size;
     memset(limits, 0, size);
     memcpy(limits, &whole, lesser(size, sizeof whole));
     return LUPINANON_ANSWERED;
+}
+
+int32_t lupinanon_default_limits(LupinanonLimits *limits, size_t size) {
+    return write_limits(limits, size, lupinanon_proved_default_limits);
+}
+
+int32_t lupinanon_fuzz_limits(LupinanonLimits *limits, size_t size) {
+    return write_limits(limits, size, lupinanon_proved_fuzz_limits);
 }
 
 int32_t lupinanon_swarm_limits(LupinanonLimits *limits, const uint8_t *input, size_t input_len, size_t *taken) {
@@ -290,6 +307,18 @@ int32_t lupinanon_validate(const uint8_t *bytes, size_t bytes_len, size_t *rule,
         if (!may_pass(&read, 1, written, 2)) return LUPINANON_BAD_ARGUMENT;
     }
     return lupinanon_proved_validate(bytes ? bytes : &nothing, bytes_len, rule, offset);
+}
+
+int32_t lupinanon_print(const uint8_t *bytes, size_t bytes_len, uint8_t *output, size_t output_len, size_t *text_len) {
+    uint8_t nothing = 0;
+    if (text_len) *text_len = 0;
+    if (!text_len) return LUPINANON_BAD_ARGUMENT;
+    {
+        Memory written[] = {{output, output_len}, MEMORY_OF(text_len)}, read = {bytes, bytes_len};
+        if (!may_pass(&read, 1, written, 2)) return LUPINANON_BAD_ARGUMENT;
+    }
+    return lupinanon_proved_print(bytes ? bytes : &nothing, bytes_len, output ? output : &nothing, output_len,
+                                  text_len);
 }
 
 int32_t lupinanon_script_into(const LupinanonLimits *limits, const uint8_t *bytes, size_t bytes_len, uint8_t *output,

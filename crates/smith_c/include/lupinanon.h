@@ -1,9 +1,10 @@
 /* WebAssembly components from a fuzzer's bytes.
  *
- * Sixteen functions are proved: those that lupinanon_default_limits, lupinanon_swarm_limits, lupinanon_generate_into,
- * lupinanon_check, lupinanon_validate, lupinanon_script_into, lupinanon_smaller, lupinanon_next_smaller,
- * lupinanon_without, lupinanon_join, lupinanon_change_count, lupinanon_changed, lupinanon_next_changed and
- * lupinanon_next_miswritten call after a check of their arguments. That check, and all else, is plain C.
+ * Eighteen functions are proved: those that lupinanon_default_limits, lupinanon_fuzz_limits, lupinanon_swarm_limits,
+ * lupinanon_generate_into, lupinanon_check, lupinanon_validate, lupinanon_print, lupinanon_script_into,
+ * lupinanon_smaller, lupinanon_next_smaller, lupinanon_without, lupinanon_join, lupinanon_change_count,
+ * lupinanon_changed, lupinanon_next_changed and lupinanon_next_miswritten call after a check of their arguments. That
+ * check, and all else, is plain C.
  *
  * What the caller owes, and nothing checks:
  *  - A pointer that is not NULL points to what its type says, and a length says how much lies there. Limits are as many
@@ -96,6 +97,12 @@ typedef struct LupinanonLimits {
     /* The fewest sections that a component has when the input finishes it. If no input is left, it is finished whatever
      * it has. [0] */
     size_t finish_after;
+    /* How many bytes of a name are read at most. Digits that make it new, and an a where a word is missing, come on
+     * top. At most 100. The name of a custom section does not count. [100] */
+    size_t max_name_length;
+    /* How many of the lowest bits of a byte are 0 where a loop ends, as one over types or fields: with 1 every second
+     * byte ends it, with 2 every fourth, with 8 one in 256. At most 8; a limit of 0 counts as 1. [1] */
+    size_t loop_bits;
 } LupinanonLimits;
 
 /* How a call ended. */
@@ -103,7 +110,7 @@ enum LupinanonStatus {
     LUPINANON_ANSWERED = 0,            /* what was asked for is written */
     LUPINANON_WELL_FORMED = 0,         /* of lupinanon_check: the bytes are a component that is well formed */
     LUPINANON_VALID = 0,               /* of lupinanon_validate: the bytes are a valid component */
-    LUPINANON_INCONSISTENT_LIMITS = 1, /* a minimum passes its maximum, a maximum 32 bits, or the depth 1000 */
+    LUPINANON_INCONSISTENT_LIMITS = 1, /* a minimum passes its maximum, or a limit the most that it may be */
     LUPINANON_MINIMUM_NOT_MET = 2,     /* no more imports or functions of a minimum can be added */
     LUPINANON_MODULE_REFUSED = 3,      /* a core module is chosen, and min_memories passes max_memories */
     LUPINANON_TOO_LONG = 4,            /* a length or a count in the bytes would pass 4,294,967,295 */
@@ -123,12 +130,13 @@ enum LupinanonStatus {
     LUPINANON_INVALID = 14,            /* no validator may accept the bytes */
     LUPINANON_BOUND = 15,              /* the bytes are a well-formed component beyond a bound of a validator's own */
     LUPINANON_OUTSIDE = 16,            /* the bytes are not judged: a validator may accept or refuse them */
-    LUPINANON_NO_CHANGE = 17           /* the change leads to nothing, or none from that number on to something */
+    LUPINANON_NO_CHANGE = 17,          /* the change leads to nothing, or none from that number on to something */
+    LUPINANON_NO_TEXT = 18             /* a core module in the component has more than function types and memories */
 };
 
 /* How many bytes of stack a call takes at most, with a fifth to spare: within limits of that max_nesting_depth, and at
- * 1000 also lupinanon_check, lupinanon_validate and lupinanon_script_into of any bytes: theirs grows with how deep the
- * bytes nest, whatever the limits. At 1000, the greatest depth, that is 2 MiB. */
+ * 1000 also lupinanon_check, lupinanon_validate, lupinanon_print and lupinanon_script_into of any bytes: theirs grows
+ * with how deep the bytes nest, whatever the limits. At 1000, the greatest depth, that is 2 MiB. */
 #define LUPINANON_STACK(max_nesting_depth) (49152 + 2048 * (size_t)(max_nesting_depth))
 
 /* What lupinanon_check, lupinanon_validate and lupinanon_script_into write if they know no offset. */
@@ -155,6 +163,11 @@ const char *lupinanon_rule_text(size_t rule);
  * after 4096 bytes. Nothing is written. */
 int32_t lupinanon_default_limits(LupinanonLimits *limits, size_t size);
 
+/* The same with the limits of the profile `fuzz`, with which an input of a fuzzer says more in fewer bytes: max_exports
+ * is 10, finish_after and max_name_length are 8, and loop_bits is 2. Set must_validate too if what takes the components
+ * refuses the others. */
+int32_t lupinanon_fuzz_limits(LupinanonLimits *limits, size_t size);
+
 /* Replaces limits by the ones that the first bytes of the input say, so that one run tries many limits (swarm testing).
  * Twenty limits take one byte each, in this order, and a byte after the end of the input counts as 0:
  *  - max_types, max_imports, max_funcs, max_exports, max_globals, max_tables, max_tags: that byte,
@@ -162,8 +175,8 @@ int32_t lupinanon_default_limits(LupinanonLimits *limits, size_t size);
  *    max_type_size: that byte,
  *  - multi_value_enabled, exceptions_enabled, reference_types_enabled, simd_enabled, allow_floats and
  *    bulk_memory_enabled modulo 2; finish_after modulo 16.
- * The minima and must_validate stay as they are, so that the limits may no longer fit together. Limits that an older
- * header does not have are dropped.
+ * The others stay as they are: the minima, so that the limits may no longer fit together, must_validate,
+ * max_name_length and loop_bits. Limits that an older header does not have are dropped.
  *
  * LUPINANON_ANSWERED: the limits are written, and *taken bytes of the input are theirs: 20, or all of a shorter one. What
  * follows them is the input of a component.
@@ -218,6 +231,17 @@ int32_t lupinanon_check(const uint8_t *bytes, size_t bytes_len, size_t *offset);
  * A number keeps its meaning in all later versions, which may add others at the end of each group.
  * Bytes may be NULL if their length is 0, and `rule` and `offset` if they are not needed. */
 int32_t lupinanon_validate(const uint8_t *bytes, size_t bytes_len, size_t *rule, size_t *offset);
+
+/* Writes the component that bytes are, well formed or not, in the text format to the front of the output, with indexes
+ * as comments. The text ends in a line feed, and no 0 follows it.
+ *
+ * LUPINANON_ANSWERED: *text_len bytes are written.
+ * LUPINANON_NO_ROOM: *text_len is how long the text is, and otherwise it is 0. Nothing is written to the output.
+ * LUPINANON_NO_TEXT: it has no text here, since a core module in it has more than function types and memories.
+ * LUPINANON_UNREAD: as of lupinanon_check.
+ *
+ * Bytes and output may be NULL if their length is 0. */
+int32_t lupinanon_print(const uint8_t *bytes, size_t bytes_len, uint8_t *output, size_t output_len, size_t *text_len);
 
 /* Writes the script of the component that bytes are to the front of the output: an input from which
  * lupinanon_generate_into produces these bytes, within the same limits, with nothing left. Each component

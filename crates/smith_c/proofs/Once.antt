@@ -36,4 +36,6 @@ limits_once c d e = λ i. record {
   bulk_memory_enabled = byte_once c.bulk_memory_enabled d.bulk_memory_enabled (ap (λ l. l.bulk_memory_enabled) e) i;
   must_validate = byte_once c.must_validate d.must_validate (ap (λ l. l.must_validate) e) i;
   finish_after = (e i).finish_after;
+  max_name_length = (e i).max_name_length;
+  loop_bits = (e i).loop_bits;
 }

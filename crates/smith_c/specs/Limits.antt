@@ -37,4 +37,6 @@ limits_of c =
       bulk_memory_enabled = byte_of c.bulk_memory_enabled;
       must_validate = byte_of c.must_validate;
       finish_after = c.finish_after;
+      max_name_length = c.max_name_length;
+      loop_bits = c.loop_bits;
     }

@@ -7,6 +7,7 @@ pub mod check;
 pub mod into;
 pub mod limits;
 pub mod make;
+pub mod print;
 mod put;
 pub mod reduce;
 pub mod rules;

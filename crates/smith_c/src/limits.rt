@@ -3,9 +3,11 @@
 ghost use Rattle.std.specs.Prelude.{◌≡◌, ◌≢◌, Option, IfSome, None};
 ghost use Rattle.smith_format.specs.Consistency.{IsDefault};
 ghost use Rattle.smith_format.specs.declared.config.Config.{Config};
+ghost use Rattle.smith_swarm.specs.Profile.{fuzzed};
 ghost use Rattle.smith_c.specs.Limits.{byte_of, limits_of};
 
 use smith_format::Config;
+use smith_swarm::fuzz_limits;
 
 /// The limits as C lays them out, each as in `Config`. A feature is on if its byte is 1, and off if it is 0.
 #[repr(C)]
@@ -36,6 +38,8 @@ pub struct Limits {
     pub bulk_memory_enabled: u8,
     pub must_validate: u8,
     pub finish_after: usize,
+    pub max_name_length: usize,
+    pub loop_bits: usize,
 }
 
 // Whether a feature is on: 0 or 1, and nothing else.
@@ -81,6 +85,8 @@ impl Limits {
             bulk_memory_enabled: u8::from(config.bulk_memory_enabled),
             must_validate: u8::from(config.must_validate),
             finish_after: config.finish_after,
+            max_name_length: config.max_name_length,
+            loop_bits: config.loop_bits,
         }
     }
 
@@ -115,6 +121,8 @@ impl Limits {
             max_type_size: self.max_type_size,
             finish_after: self.finish_after,
             must_validate: flag(self.must_validate)?,
+            max_name_length: self.max_name_length,
+            loop_bits: self.loop_bits,
         })
     }
 }
@@ -125,4 +133,12 @@ pub extern "C" fn lupinanon_proved_default_limits(limits: &mut Limits)
     ensures { (config : Config) → IsDefault config → limits.new ≡ limits_of config }
 {
     *limits = Limits::of(&Config::default());
+}
+
+/// Writes the limits of the profile `fuzz`.
+#[unsafe(no_mangle)]
+pub extern "C" fn lupinanon_proved_fuzz_limits(limits: &mut Limits)
+    ensures { (default : Config) → IsDefault default → limits.new ≡ limits_of (fuzzed default) }
+{
+    *limits = Limits::of(&fuzz_limits());
 }

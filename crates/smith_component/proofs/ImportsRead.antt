@@ -80,14 +80,15 @@ module _ (config : Config) (stack : Open) (few : length (types_of stack.inner) +
     offered : OfferedRef (marked_at s) true x.to
     lasts : has_room (marked_at s) false ≡ true
     kebab : Kebab x.name
-    reachable : IsReachable 100 (names_at s) x.name
+    reachable : IsReachable config.max_name_length (names_at s) x.name
+    short : config.max_name_length < 2 ^ 64
     room : IsAllowed config (marked_at s) (totals_at s) true false x.to
 
   import_read : (s : List ImportEntry) (x : ImportEntry) (rest : List ℕ) → Sayable s x
       → ReadsImport config stack s (script_import config stack s x ++ rest) x rest (s ++ x ∷ [])
   import_read s x rest h =
       let a : List ℕ = script_ref config (marked_at s) (totals_at s) true false x.to in
-      let n : List ℕ = script_new 100 (length (imports_of stack.inner) + length s) x.name in
+      let n : List ℕ = script_new config.max_name_length (length (imports_of stack.inner) + length s) x.name in
       let whole : (a ++ (n ++ 0 ∷ [])) ++ rest ≡ a ++ (n ++ (0 ∷ rest)) = append_assoc a (n ++ 0 ∷ []) rest ∙ ap (λ z. a ++ z) (append_assoc n (0 ∷ []) rest) in
       let so_far : List NamedExtern = plain_names (names_at s) in
       let same : names so_far ≡ names_at s = plain_names_are (names_at s) in
@@ -100,9 +101,9 @@ module _ (config : Config) (stack : Open) (few : length (types_of stack.inner) +
         names_are = same;
         named = record {
           mid = 0 ∷ rest;
-          name = subst (λ z. ReadsNew 100 z (n ++ (0 ∷ rest)) x.name (0 ∷ rest)) (sym same)
-              (subst (λ c. ReadsNew 100 (names_at s) (script_new 100 c x.name ++ (0 ∷ rest)) x.name (0 ∷ rest)) (names_count s)
-              (new_script_read 100 (names_at s) x.name (0 ∷ rest) (omega arith) h.kebab h.reachable));
+          name = subst (λ z. ReadsNew config.max_name_length z (n ++ (0 ∷ rest)) x.name (0 ∷ rest)) (sym same)
+              (subst (λ c. ReadsNew config.max_name_length (names_at s) (script_new config.max_name_length c x.name ++ (0 ∷ rest)) x.name (0 ∷ rest)) (names_count s)
+              (new_script_read config.max_name_length (names_at s) x.name (0 ∷ rest) (let short = h.short in omega (arith, short)) h.kebab h.reachable));
           url = no_url (flips_zero rest);
         };
         next_is = refl;
@@ -132,11 +133,11 @@ module _ (config : Config) (stack : Open) (few : length (types_of stack.inner) +
   one_allowed s x (to.Component i) e f r = below _ _ (omega (arith, r.components, components_more stack s x, ap (λ z. length (component_of z)) e))
   one_allowed s x (to.Instance i) e f r = below _ _ (omega (arith, r.instances, instances_more stack s x, ap (λ z. length (instance_of z)) e))
 
-  all_sayable : (s xs : List ImportEntry) → AreReachable 100 (names_at s) (import_names xs) → AllByRecursion (FormedImport (scope_of stack.inner)) xs
+  all_sayable : config.max_name_length < 2 ^ 64 → (s xs : List ImportEntry) → AreReachable config.max_name_length (names_at s) (import_names xs) → AllByRecursion (FormedImport (scope_of stack.inner)) xs
       → AllByRecursion Kebab (import_names xs) → OfferedImports xs (marked_at s)
       → Room config (totals_at (s ++ xs)) → Along Sayable (λ t x. t ++ x ∷ []) s xs
-  all_sayable s [] p f k o h = tt
-  all_sayable s (x ∷ xs) p f k o h =
+  all_sayable short s [] p f k o h = tt
+  all_sayable short s (x ∷ xs) p f k o h =
       let next : List ImportEntry = s ++ x ∷ [] in
       let all : Room config (totals_at (next ++ xs)) = subst (λ z. Room config (totals_at z)) (sym (append_assoc s (x ∷ []) xs)) h in (
         record {
@@ -145,25 +146,26 @@ module _ (config : Config) (stack : Open) (few : length (types_of stack.inner) +
           lasts = o.1;
           kebab = k.0;
           reachable = p.0;
+          short = short;
           room = one_allowed s x x.to refl f.0.1 (room_before next xs all);
         },
-        all_sayable next xs
-            (subst (λ z. AreReachable 100 z (import_names xs)) (sym (names_with_more (λ (i : ImportEntry). i.name) (imports_of stack.inner) s x)) p.1)
+        all_sayable short next xs
+            (subst (λ z. AreReachable config.max_name_length z (import_names xs)) (sym (names_with_more (λ (i : ImportEntry). i.name) (imports_of stack.inner) s x)) p.1)
             f.1 k.1 (subst (OfferedImports xs) (sym (imports_marked_more config stack s x)) o.2) all,
       )
 
   -- The script of the imports of a plan is read as them.
-  pub imports_read : (is : List ImportEntry) (rest : List ℕ) → AreReachable 100 (import_names (imports_of stack.inner)) (import_names is)
+  pub imports_read : config.max_name_length < 2 ^ 64 → (is : List ImportEntry) (rest : List ℕ) → AreReachable config.max_name_length (import_names (imports_of stack.inner)) (import_names is)
       → AllByRecursion (FormedImport (scope_of stack.inner)) is
       → Named (import_names (imports_of stack.inner ++ is)) → OfferedImports is (marked_inner config stack.outer stack.inner) → Room config (totals_at is)
       → length is ≤ config.max_imports - length (imports_of stack.inner) → ReadsImports config 0 stack (script_imports config stack is ++ rest) is rest
-  imports_read is rest reachable formed named offered room fits =
+  imports_read short is rest reachable formed named offered room fits =
       let behind = named_behind (λ (i : ImportEntry). i.name) (imports_of stack.inner) is named in
-      let start : AreReachable 100 (names_at []) (import_names is) =
-      subst (λ z. AreReachable 100 (import_names z) (import_names is)) (sym (append-nil (imports_of stack.inner))) reachable in
-      let all = all_sayable [] is start formed behind.0 (subst (OfferedImports is) (sym (imports_marked config stack [])) offered) room in
+      let start : AreReachable config.max_name_length (names_at []) (import_names is) =
+      subst (λ z. AreReachable config.max_name_length (import_names z) (import_names is)) (sym (append-nil (imports_of stack.inner))) reachable in
+      let all = all_sayable short [] is start formed behind.0 (subst (OfferedImports is) (sym (imports_marked config stack [])) offered) room in
       let B : List ℕ = script_imports config stack is ++ rest in
-      let L : List ImportEntry → Type 0 = λ t. Loop (NoImport config stack) (ReadsImport config stack) 0 (config.max_imports - length (imports_of stack.inner))
+      let L : List ImportEntry → Type 0 = λ t. Loop (NoImport config stack) (ReadsImport config stack) config.loop_bits 0 (config.max_imports - length (imports_of stack.inner))
       0 [] B is rest t in
       subst L (all_of_them [] is) (loop_read (script_import config stack) (λ t x. t ++ x ∷ []) Sayable import_read is 0 [] rest all (omega arith)
       (omega (arith, fits)))

@@ -10,7 +10,6 @@ use Rattle.smith_input.proofs.Loops.{loop_gives}
 use Rattle.smith_input.specs.NameScript.{AreReachable}
 use Rattle.smith_input.proofs.NameScript.{new_reachable}
 use Rattle.smith_input.proofs.NewNames.{new_kebab}
-use Rattle.smith_format.specs.declared.config.Config.{Config}
 use Rattle.smith_syntax.specs.Scope.{Scope}
 use Rattle.smith_syntax.specs.WellFormed.{Named}
 use Rattle.smith_input.proofs.DistinctNames.{AreNew, distinct_new, new_back, new_distinct, new_more, none_before}
@@ -48,16 +47,21 @@ module _ {A : Type 0} (name : A → List ℕ) (before : List A) where
         subst (λ z. AreNew (map name z) (map name s)) (sym (append-nil before)) new,
       )
 
+-- The same if at most so many bytes of each name are read.
+module _ {A : Type 0} (longest : ℕ) (name : A → List ℕ) (before : List A) where
+  abbrev with_names : List A → List (List ℕ)
+  with_names s = names_with name before s
+
   -- an entry that is read under a name which is new among them all
   pub record NewEntry (s : List A) (x : A) (t : List A) : Type 0 where
     pub bytes : List ℕ
     pub rest : List ℕ
-    pub read : ReadsNew 100 (names_with s) bytes (name x) rest
+    pub read : ReadsNew longest (with_names s) bytes (name x) rest
     pub next_is : t ≡ s ++ x ∷ []
 
   -- The names stay distinct and in kebab case.
   abbrev KeepsNames : List A → List A → List A → Type 0
-  KeepsNames s xs t = Named (names_with s) → Named (names_with t)
+  KeepsNames s xs t = Named (with_names s) → Named (with_names t)
 
   module _ {Ends : List A → List ℕ → List ℕ → List A → Type 0} {Item : List A → List ℕ → A → List ℕ → List A → Type 0}
       (ends : (s : List A) (b r : List ℕ) (t : List A) → Ends s b r t → t ≡ s)
@@ -66,29 +70,29 @@ module _ {A : Type 0} (name : A → List ℕ) (before : List A) where
     keeps_names s t u b x r xs i later h =
         let new : NewEntry s x t = items s b x r t i in
         let kebab : Kebab (name x) = new_kebab new.read in
-        let named : Named (names_with s ++ name x ∷ []) = named_more (names_with s) (name x) h kebab new.read.unique.is_new in
-        later (subst Named (sym (ap names_with new.next_is ∙ names_with_more s x)) named)
+        let named : Named (with_names s ++ name x ∷ []) = named_more (with_names s) (name x) h kebab new.read.unique.is_new in
+        later (subst Named (sym (ap with_names new.next_is ∙ names_with_more name before s x)) named)
 
     -- The names of the entries that a loop reads are distinct and in kebab case.
-    pub loop_named : {min max : ℕ} {b rest : List ℕ} {xs : List A} → Named (map name before)
-        → Loop Ends Item min max 0 [] b xs rest xs → Named (names_with xs)
+    pub loop_named : {bits min max : ℕ} {b rest : List ℕ} {xs : List A} → Named (map name before)
+        → Loop Ends Item bits min max 0 [] b xs rest xs → Named (with_names xs)
     loop_named {b = b} {rest = rest} {xs = xs} h r =
-        loop_gives KeepsNames (λ s n. n) (λ s c q t e n. subst (λ z. Named (names_with z)) (sym (ends s c q t e)) n) keeps_names 0 [] b xs rest xs r
+        loop_gives KeepsNames (λ s n. n) (λ s c q t e n. subst (λ z. Named (with_names z)) (sym (ends s c q t e)) n) keeps_names 0 [] b xs rest xs r
         (subst (λ z. Named (map name z)) (sym (append-nil before)) h)
 
   -- Each name that a loop reads can be read after the ones before it.
   module _ {Ends : List A → List ℕ → List ℕ → List A → Type 0} {Item : List A → List ℕ → A → List ℕ → List A → Type 0}
       (items : (s : List A) (b : List ℕ) (x : A) (r : List ℕ) (t : List A) → Item s b x r t → NewEntry s x t) where
-    pub loop_reachable : {min max : ℕ} {b rest : List ℕ} {xs : List A} → Loop Ends Item min max 0 [] b xs rest xs
-        → AreReachable 100 (map name before) (map name xs)
+    pub loop_reachable : {bits min max : ℕ} {b rest : List ℕ} {xs : List A} → Loop Ends Item bits min max 0 [] b xs rest xs
+        → AreReachable longest (map name before) (map name xs)
     loop_reachable {b = b} {rest = rest} {xs = xs} r =
-        let all : AreReachable 100 (names_with []) (map name xs) =
-        loop_gives (λ s ys t. AreReachable 100 (names_with s) (map name ys)) (λ s. tt) (λ s c q t e. tt)
+        let all : AreReachable longest (with_names []) (map name xs) =
+        loop_gives (λ s ys t. AreReachable longest (with_names s) (map name ys)) (λ s. tt) (λ s c q t e. tt)
         (λ s t u c x q ys i later.
         let new : NewEntry s x t = items s c x q t i in
-        (new_reachable new.read, subst (λ ns. AreReachable 100 ns (map name ys)) (ap names_with new.next_is ∙ names_with_more s x) later))
+        (new_reachable new.read, subst (λ ns. AreReachable longest ns (map name ys)) (ap with_names new.next_is ∙ names_with_more name before s x) later))
         0 [] b xs rest xs r in
-        subst (λ z. AreReachable 100 (map name z) (map name xs)) (append-nil before) all
+        subst (λ z. AreReachable longest (map name z) (map name xs)) (append-nil before) all
 
 formed_inner : (us : List Tree) (outer : List Scope) (t : Tree) → Formed (tree_so_far us t) outer ends → (around : List Scope) × Formed t around ends
 formed_inner [] outer t f = (outer, f)

@@ -119,7 +119,7 @@ module _ (config : Config) (stack : Open) (rest : List ℕ) where
       let limited : AllByRecursion (CoreLimits config) ts = all_back _ (core_types_of stack.inner) ts fits.within_core_types in (
         ts,
         _,
-        core_types_read config ts (config.max_types - length (core_types_of stack.inner)) (marked_inner config stack.outer stack.inner) rest
+        core_types_read config (omega (arith, consistent.names)) ts (config.max_types - length (core_types_of stack.inner)) (marked_inner config stack.outer stack.inner) rest
             (formed_core_marked config stack.outer stack.inner ts formed) limited stands readable (omega (arith, few))
             (omega (arith, few, consistent.types, ap length (marked_core_types config stack.outer stack.inner))),
         refl,
@@ -136,7 +136,7 @@ module _ (config : Config) (stack : Open) (rest : List ℕ) where
       let count : length outer ≡ length stack.outer = omega (arith, length-marked_from config stack.outer []) in
       let lasts : AllByRecursion (λ e. Lasts e config (suc (length outer)) config.max_type_size) ts =
       subst (λ n. AllByRecursion (λ e. Lasts e config (suc n) config.max_type_size) ts) (sym count) stands in
-      let read = types_read config outer here.few (omega (arith, here.shallow, count)) consistent.nesting ts
+      let read = types_read config outer here.few (omega (arith, here.shallow, count)) consistent.nesting (omega (arith, consistent.names)) ts
       (config.max_types - length (types_of stack.inner)) (marked_inner config stack.outer stack.inner) rest
       (formed_marked config stack.outer stack.inner ts formed) offered limited lasts readable (omega (arith, few))
       (omega (
@@ -169,9 +169,9 @@ module _ (config : Config) (stack : Open) (rest : List ℕ) where
       record { modules = maxima.modules; funcs = limits.functions; components = maxima.components; instances = maxima.instances } in
       let fits : length (imports_of stack.inner) + length is ≤ config.max_imports =
       omega (arith, limits.imports, length-own-add imports_in stack.inner (imports is)) in
-      (add stack.inner (imports is), (is, imports_read config stack few is rest readable formed.0 formed.1 offered room (omega (arith, fits)), refl), refl)
+      (add stack.inner (imports is), (is, imports_read config stack few (omega (arith, consistent.names)) is rest readable formed.0 formed.1 offered room (omega (arith, fits)), refl), refl)
 
-  pub canons_part : IsConsistent config → AllByRecursion Spoken (types_of stack.inner) → (fs : List Canon) → IsRead (canons fs)
+  pub canons_part : IsConsistent config → AllByRecursion (Spoken config) (types_of stack.inner) → (fs : List Canon) → IsRead (canons fs)
   canons_part consistent spoken fs readable stands formed offered limits =
       let inner : Tree = stack.inner in
       let count : function_count inner + length fs ≤ config.max_funcs =
@@ -180,7 +180,7 @@ module _ (config : Config) (stack : Open) (rest : List ℕ) where
       let many : length (types_of inner) ≤ max_u32 = omega (arith, before.types, consistent.types) in
       let spaces = functions_counted inner in
       let read =
-      canons_from fs config (config.max_funcs - function_count inner) 0 (empty_section inner) (spaces_of inner) rest (spaces-add inner (canons [])) formed
+      canons_from fs config (omega (arith, consistent.names)) (config.max_funcs - function_count inner) 0 (empty_section inner) (spaces_of inner) rest (spaces-add inner (canons [])) formed
       spoken (omega (arith, many)) (omega (arith, count, spaces.most, before.exports, consistent.funcs)) (omega (arith, count)) in
       (add inner (canons fs), (map canon_item_of fs, record { before = inner; funcs = fs }, read, refl), refl)
 
@@ -189,10 +189,10 @@ module _ (config : Config) (stack : Open) (rest : List ℕ) where
 
 -- The types of a plan can be said after one more part.
 pub spoken_past : (config : Config) (p : Part) (outer : List Scope) (before : Tree) → IsReadablePart config p before → FormedPart p outer before
-    → AllByRecursion Spoken (types_of before) → AllByRecursion Spoken (types_of (add before p))
+    → AllByRecursion (Spoken config) (types_of before) → AllByRecursion (Spoken config) (types_of (add before p))
 spoken_past config p outer before readable formed h =
-    types_past Spoken before p h
+    types_past (Spoken config) before p h
     (λ ts e. said ts (subst (λ q. FormedPart q outer before) e formed) (subst (λ q. IsReadablePart config q before) e readable))
   where
-    said : (ts : List Entry) → FormedPart (types ts) outer before → IsReadablePart config (types ts) before → AllByRecursion Spoken ts
+    said : (ts : List Entry) → FormedPart (types ts) outer before → IsReadablePart config (types ts) before → AllByRecursion (Spoken config) ts
     said ts f r = types_spoken ts (scope_of before) outer f r

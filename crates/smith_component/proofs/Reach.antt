@@ -23,7 +23,7 @@ use Rattle.smith_scopes.proofs.Plain.{all_back, all_front}
 
 -- The rest of a component that can be generated, when these components are open around it and these parts precede it.
 pub record Known (config : Config) (outer : List Tree) (before t : Tree) : Type 0 where
-  pub spoken : AllByRecursion Spoken (types_of before)
+  pub spoken : AllByRecursion (Spoken config) (types_of before)
   pub readable : IsReadableRest config t before
   pub stands : Stands config (suc (length outer)) t
   pub formed : Formed t (scopes_in outer) before

@@ -83,7 +83,7 @@ pub record Defines (config : Config) (s : Growing) (c : ℕ) (signature : Signat
   pub of : HasSignature (spaces_at s) f lowered
   pub flat : Flat signature lowered
   pub formed : length lowered.params ≤ 16 → (own : Scope) (outer : List Scope) → FormedEntry (function signature) own outer
-  pub readable : IsReadableType (function signature)
+  pub readable : IsReadableType config (function signature)
   pub offered : (own : Marked) (outer : List Marked) → OfferedEntry {N = Unit {0}} {K = Unit {0}} (function signature) own outer
   pub small : size (function signature) ≤ size (function lowered)
   pub room : length (spaces_at s).types < config.max_types

@@ -54,25 +54,25 @@ module _ (config : Config) where
 
   -- A core type may be in a scope, and its script can say it.
   abbrev pub Said : Marked → CoreEntry → Type 0
-  Said s x = FormedCore x s.core_types × CoreLimits config x × (core_need x ≤ config.max_type_size) × IsReadableCore x × (length s.core_types ≤ 2 ^ 63)
+  Said s x = FormedCore x s.core_types × CoreLimits config x × (core_need x ≤ config.max_type_size) × IsReadableCore config x × (length s.core_types ≤ 2 ^ 63)
 
   pub all_said : (xs : List CoreEntry) (own : Marked) → FormedCores xs (scope_in own) → AllByRecursion (CoreLimits config) xs
-      → SmallCoreTypes config xs → AllByRecursion IsReadableCore xs → length own.core_types + length xs ≤ 2 ^ 63 → Along Said with_core_entry own xs
+      → SmallCoreTypes config xs → AllByRecursion (IsReadableCore config) xs → length own.core_types + length xs ≤ 2 ^ 63 → Along Said with_core_entry own xs
   all_said [] own f m l r small = tt
   all_said (x ∷ xs) own f m l r small = (
     (f.0, m.0, l.0, r.0, omega arith),
     all_said xs (with_core_entry own x) f.1 m.1 l.1 r.1 (omega (arith, length-append own.core_types (x ∷ []))),
   )
 
-  one_read : (s : Marked) (x : CoreEntry) (rest : List ℕ) → Said s x
+  one_read : config.max_name_length < 2 ^ 64 → (s : Marked) (x : CoreEntry) (rest : List ℕ) → Said s x
       → ReadsCoreType config s (script_core config (scope_in s) config.max_type_size x ++ rest) x rest (with_core_entry s x)
-  one_read s x rest (formed, limits, lasts, readable, small) =
-      (_, core_read config (scope_in s) config.max_type_size x rest formed limits readable lasts small, refl)
+  one_read short s x rest (formed, limits, lasts, readable, small) =
+      (_, core_read config (scope_in s) config.max_type_size x rest formed limits readable lasts small short, refl)
 
   -- Their script is read as them.
-  pub core_types_read : (xs : List CoreEntry) (max : ℕ) (own : Marked) (rest : List ℕ) → FormedCores xs (scope_in own) → AllByRecursion (CoreLimits config) xs
-      → SmallCoreTypes config xs → AllByRecursion IsReadableCore xs → length xs ≤ max → length own.core_types + length xs ≤ 2 ^ 63
+  pub core_types_read : config.max_name_length < 2 ^ 64 → (xs : List CoreEntry) (max : ℕ) (own : Marked) (rest : List ℕ) → FormedCores xs (scope_in own) → AllByRecursion (CoreLimits config) xs
+      → SmallCoreTypes config xs → AllByRecursion (IsReadableCore config) xs → length xs ≤ max → length own.core_types + length xs ≤ 2 ^ 63
       → ReadsCoreTypes config max own (script_core_types config max own xs ++ rest) xs rest (after_all with_core_entry own xs)
-  core_types_read xs max own rest f m l r few small =
-      loop_read (λ s x. script_core config (scope_in s) config.max_type_size x) with_core_entry Said one_read xs 0 own rest (all_said xs own f m l r small)
+  core_types_read short xs max own rest f m l r few small =
+      loop_read (λ s x. script_core config (scope_in s) config.max_type_size x) with_core_entry Said (one_read short) xs 0 own rest (all_said xs own f m l r small)
       (omega arith) (omega arith)

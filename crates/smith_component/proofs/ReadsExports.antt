@@ -38,7 +38,7 @@ module _ (config : Config) (outer : List Tree) (t : Tree) where
       there (has_room (marked_inner config outer (with_exports t s)) false) (functions_of (with_exports t s)) x.func i.of.below
 
   pub export_new : (s : List ExportEntry) (b : List ℕ) (x : ExportEntry) (r : List ℕ) (u : List ExportEntry) → ReadsExport config outer t s b x r u
-      → NewEntry (λ (e : ExportEntry). e.name) (exports_of t) s x u
+      → NewEntry config.max_name_length (λ (e : ExportEntry). e.name) (exports_of t) s x u
   export_new s b x r u i = record { bytes = i.mid; rest = r; read = i.named; next_is = i.next_is }
 
   module _ {b rest : List ℕ} {es : List ExportEntry} (r : ReadsExports config outer t b es rest) where
@@ -80,7 +80,7 @@ module _ (config : Config) (outer : List Tree) (t : Tree) where
         0 [] b es rest es r))
 
     exports_named : Named (export_names (exports_of t)) → Named (export_names (exports_of t ++ es))
-    exports_named h = loop_named (λ (e : ExportEntry). e.name) (exports_of t) (λ s c q u e. e.2) export_new h r
+    exports_named h = loop_named config.max_name_length (λ (e : ExportEntry). e.name) (exports_of t) (λ s c q u e. e.2) export_new h r
 
 -- What an export section reads may be added.
 pub exports_addable : (config : Config) (stack : Open) {b rest : List ℕ} {es : List ExportEntry} → Sound config stack

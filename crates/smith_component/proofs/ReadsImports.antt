@@ -81,11 +81,11 @@ module _ (config : Config) (stack : Open) where
   )
 
   pub import_new : (s : List ImportEntry) (b : List ℕ) (x : ImportEntry) (r : List ℕ) (t : List ImportEntry) → ReadsImport config stack s b x r t
-      → NewEntry (λ (i : ImportEntry). i.name) (imports_of stack.inner) s x t
+      → NewEntry config.max_name_length (λ (i : ImportEntry). i.name) (imports_of stack.inner) s x t
   import_new s b x r t i = record {
     bytes = i.mid;
     rest = i.named.mid;
-    read = subst (λ ns. ReadsNew 100 ns i.mid x.name i.named.mid) i.names_are i.named.name;
+    read = subst (λ ns. ReadsNew config.max_name_length ns i.mid x.name i.named.mid) i.names_are i.named.name;
     next_is = i.next_is;
   }
 
@@ -110,7 +110,7 @@ module _ (config : Config) (stack : Open) where
 
     -- The names of the component's imports stay distinct and in kebab case.
     imports_named : Named (import_names (imports_of stack.inner)) → Named (import_names (imports_of stack.inner ++ is))
-    imports_named h = loop_named (λ (i : ImportEntry). i.name) (imports_of stack.inner) (λ s c q t e. e.2) import_new h r
+    imports_named h = loop_named config.max_name_length (λ (i : ImportEntry). i.name) (imports_of stack.inner) (λ s c q t e. e.2) import_new h r
 
     -- A count that was within its limit stays within it, if an import that finds room keeps it so.
     count_kept : (count : RefTotals → ℕ) (most : ℕ)

@@ -48,8 +48,8 @@ module _ {config : Config} {own : Marked} {outer : List Marked} {fuel : ℕ} {b 
   pub made_with_declared : length (own ∷ outer) + declaring e ≤ max (length (own ∷ outer)) config.max_nesting_depth
   made_with_declared = omega (arith, ap declaring m.shown, declared_within (plain m.full) config (length (own ∷ outer)) (made_fits m.made).nests)
 
-  pub made_with_readable : IsReadableType e
-  made_with_readable = subst IsReadableType (sym m.shown) (made_fits m.made).readable
+  pub made_with_readable : IsReadableType config e
+  made_with_readable = subst (IsReadableType config) (sym m.shown) (made_fits m.made).readable
 
   -- It is determined.
   pub made_with_same : {f : Entry} {other : List ℕ} → MadeWith config own outer fuel b f other → (e ≡ f) × (rest ≡ other)
@@ -112,33 +112,33 @@ module _ (config : Config) (outer : List Marked) where
   abbrev pub Said : Marked → Entry → Type 0
   Said s x =
       FormedEntry x (scope_in s) (scopes_in_marked outer) × OfferedEntry x s outer × EntryLimits config x
-      × Lasts x config (suc (length outer)) config.max_type_size × IsReadableType x × IsFew s
+      × Lasts x config (suc (length outer)) config.max_type_size × IsReadableType config x × IsFew s
 
   pub all_said : (xs : List Entry) (own : Marked) → FormedTypes xs (scope_in own) (scopes_in_marked outer) → OfferedTypes xs outer own
       → AllByRecursion (EntryLimits config) xs → AllByRecursion (λ e. Lasts e config (suc (length outer)) config.max_type_size) xs
-      → AllByRecursion IsReadableType xs → length own.types + length own.core_types + length xs ≤ 2 ^ 64 → Along Said (with_type_entry outer) own xs
+      → AllByRecursion (IsReadableType config) xs → length own.types + length own.core_types + length xs ≤ 2 ^ 64 → Along Said (with_type_entry outer) own xs
   all_said [] own f o m l r small = tt
   all_said (x ∷ xs) own f o m l r small = (
     (f.0, o.0, m.0, l.0, r.0, omega arith),
     all_said xs (with_type_entry outer own x) f.1 o.1 m.1 l.1 r.1 (omega (arith, length-append own.types (x ∷ []))),
   )
 
-  pub sayable : AllByRecursion IsFew outer → suc (length outer) ≤ 1000 → (s : Marked) (x : Entry) → Said s x
+  pub sayable : AllByRecursion IsFew outer → suc (length outer) ≤ 1000 → config.max_name_length < 2 ^ 64 → (s : Marked) (x : Entry) → Said s x
       → IsSayable config s outer config.max_type_size x
-  sayable around shallow s x (formed, offered, limits, lasts, readable, small) =
+  sayable around shallow short s x (formed, offered, limits, lasts, readable, small) =
       let fit : Fit (s ∷ outer) = record { many = omega (arith, shallow); each = (small, around) } in
-      record { formed = formed; offered = offered; limits = limits; readable = readable; lasts = lasts; fit = fit; shallow = shallow }
+      record { formed = formed; offered = offered; limits = limits; readable = readable; lasts = lasts; fit = fit; shallow = shallow; names = short }
 
   -- Their script is read as them.
-  pub types_read : AllByRecursion IsFew outer → suc (length outer) ≤ 1000 → config.max_nesting_depth ≤ 1000
+  pub types_read : AllByRecursion IsFew outer → suc (length outer) ≤ 1000 → config.max_nesting_depth ≤ 1000 → config.max_name_length < 2 ^ 64
       → (xs : List Entry) (max : ℕ) (own : Marked) (rest : List ℕ) → FormedTypes xs (scope_in own) (scopes_in_marked outer) → OfferedTypes xs outer own
       → AllByRecursion (EntryLimits config) xs → AllByRecursion (λ e. Lasts e config (suc (length outer)) config.max_type_size) xs
-      → AllByRecursion IsReadableType xs → length xs ≤ max → length own.types + length own.core_types + length xs ≤ 2 ^ 64
+      → AllByRecursion (IsReadableType config) xs → length xs ≤ max → length own.types + length own.core_types + length xs ≤ 2 ^ 64
       → ReadsTypes config outer 0 max own (script_types config max own outer xs ++ rest) xs rest (after_all (with_type_entry outer) own xs)
-  types_read around shallow deep xs max own rest f o m l r few small =
+  types_read around shallow deep short xs max own rest f o m l r few small =
       loop_read (λ s e. script_type e config config.max_type_size s outer) (with_type_entry outer) Said one xs 0 own rest (all_said xs own f o m l r small)
       (omega arith) (omega arith)
     where
       one : (s : Marked) (x : Entry) (rest : List ℕ) → Said s x
           → ReadsType config outer s (script_type x config config.max_type_size s outer ++ rest) x rest (with_type_entry outer s x)
-      one s x rest said = (type_read config deep s outer config.max_type_size x rest (sayable around shallow s x said), refl)
+      one s x rest said = (type_read config short deep s outer config.max_type_size x rest (sayable around shallow short s x said), refl)

@@ -102,10 +102,10 @@ turn_of config stack item place said rest next named does =
 
 -- the types of a plan can be said
 spoken_in : (t : Tree) (config : Config) (outer : List Scope) (before : Tree) → IsReadableRest config t before → Formed t outer before
-    → AllByRecursion Spoken (types_of before) → AllByRecursion Spoken (types_of (join before t))
-spoken_in ends config outer before readable formed spoken = subst (λ x. AllByRecursion Spoken (types_of x)) (sym (join-ends before)) spoken
+    → AllByRecursion (Spoken config) (types_of before) → AllByRecursion (Spoken config) (types_of (join before t))
+spoken_in ends config outer before readable formed spoken = subst (λ x. AllByRecursion (Spoken config) (types_of x)) (sym (join-ends before)) spoken
 spoken_in (first p t) config outer before readable formed spoken =
-    subst (λ x. AllByRecursion Spoken (types_of x)) (join-add before p t)
+    subst (λ x. AllByRecursion (Spoken config) (types_of x)) (join-add before p t)
     (spoken_in t config outer (add before p) readable.1 formed.1 (spoken_past config p outer before readable.0 formed.0 spoken))
 
 module _ (config : Config) (consistent : IsConsistent config) (stack : Open) where
@@ -114,7 +114,7 @@ module _ (config : Config) (consistent : IsConsistent config) (stack : Open) whe
       → IsReadablePart config p stack.inner → PartStands config (suc (length stack.outer)) p → FormedPart p (scopes_in stack.outer) stack.inner
       → OfferedPart p config (spaces_of stack.inner) (marked_in config stack.outer) (marked_inner config stack.outer stack.inner)
       → OwnLimits config (add stack.inner p)
-      → AllByRecursion Spoken (types_of stack.inner) → Turn config stack
+      → AllByRecursion (Spoken config) (types_of stack.inner) → Turn config stack
       ((script_item config stack.outer stack.inner (item_of p) ++ script_part p config stack.outer stack.inner) ++ rest) (with_part stack p) rest
   flat_turn rest (custom name contents) flat m readable stands formed offered own spoken =
       let last = offers_found (item_offers config stack) 1 true Custom refl refl in

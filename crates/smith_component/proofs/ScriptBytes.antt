@@ -70,29 +70,29 @@ use Rattle.smith_component.proofs.ReadsCoreTypes as core_sections
 use Rattle.smith_component.proofs.ReadsTypes as type_sections
 
 -- Imports.
-small_imports : (config : Config) (stack : Open) → length (types_of stack.inner) + length (core_types_of stack.inner) ≤ 2 ^ 64 → (s is : List ImportEntry)
+small_imports : (config : Config) (stack : Open) → config.max_name_length < 2 ^ 64 → length (types_of stack.inner) + length (core_types_of stack.inner) ≤ 2 ^ 64 → (s is : List ImportEntry)
     → AllByRecursion (FormedImport (scope_of stack.inner)) is → AllByRecursion Kebab (import_names is) → OfferedImports is (marked_with_imports config stack s)
     → Along (λ u x. Small (script_import config stack u x)) (λ u x. u ++ x ∷ []) s is
-small_imports config stack few s [] f k o = tt
-small_imports config stack few s (x ∷ is) f k o =
+small_imports config stack short few s [] f k o = tt
+small_imports config stack short few s (x ∷ is) f k o =
     let own : Marked = marked_with_imports config stack s in
     let same = imports_scope config stack s in
     let formed : FormedRef (scope_in own) x.to = subst (λ d. FormedRef d x.to) (sym same) f.0.0 in (
       small_join (small_ref config own (totals_of (with_imports stack s)) true false (few_at config stack few s) x.to formed o.0)
-          (small_extern (length (imports_of stack.inner) + length s) x.name k.0),
-      small_imports config stack few (s ++ x ∷ []) is f.1 k.1 (subst (OfferedImports is) (sym (imports_marked_more config stack s x)) o.2),
+          (small_extern config short (length (imports_of stack.inner) + length s) x.name k.0),
+      small_imports config stack short few (s ++ x ∷ []) is f.1 k.1 (subst (OfferedImports is) (sym (imports_marked_more config stack s x)) o.2),
     )
 
 -- Exports.
 
-small_exports : (t : Tree) (s xs : List ExportEntry) → FormedExports xs (spaces_of (with_exports t s))
+small_exports : (config : Config) → config.max_name_length < 2 ^ 64 → (t : Tree) (s xs : List ExportEntry) → FormedExports xs (spaces_of (with_exports t s))
     → AllByRecursion Kebab (export_names xs) → function_count t + (length (exports_of t) + (length s + length xs)) ≤ 2 ^ 64
-    → Along (λ u x. Small (script_export t u x)) (λ u x. u ++ x ∷ []) s xs
-small_exports t s [] f k few = tt
-small_exports t s (x ∷ xs) f k few = (
+    → Along (λ u x. Small (script_export config t u x)) (λ u x. u ++ x ∷ []) s xs
+small_exports config short t s [] f k few = tt
+small_exports config short t s (x ∷ xs) f k few = (
   small_join (small_pick (length (functions_of (with_exports t s))) x.func (few_functions t s (omega (arith, few))) f.0)
-      (small_new 100 (length (exports_of t) + length s) x.name (omega arith) k.0),
-  small_exports t (s ++ x ∷ []) xs (subst (FormedExports xs) (sym (spaces_export t s x)) f.1) k.1
+      (small_new config.max_name_length (length (exports_of t) + length s) x.name (omega (arith, short)) k.0),
+  small_exports config short t (s ++ x ∷ []) xs (subst (FormedExports xs) (sym (spaces_export t s x)) f.1) k.1
       (omega (arith, few, length-append s (x ∷ []))),
 )
 
@@ -101,25 +101,25 @@ small_exports t s (x ∷ xs) f k few = (
 small_canon_item : (s : Spaces) (item : CanonItem) → Small (script_among canon_equal.eq (canon_items s) item)
 small_canon_item s item = grind (arith, offers_few, small_few)
 
-small_canon : (s : Spaces) (c : Canon) → FormedCanon s c → AllByRecursion Spoken s.types → functions_at s ≤ 2 ^ 64 → length s.types ≤ 2 ^ 64
-    → Small (script_canon s c)
-small_canon s (lower f) (signature, has, scalar) spoken few many = grind (arith, small_join, small_canon_item, small_place)
-small_canon s (lift c t) (signature, lowered, f, is, lowers, has, flat) spoken few many =
+small_canon : {config : Config} → config.max_name_length < 2 ^ 64 → (s : Spaces) (c : Canon) → FormedCanon s c → AllByRecursion (Spoken config) s.types → functions_at s ≤ 2 ^ 64 → length s.types ≤ 2 ^ 64
+    → Small (script_canon config s c)
+small_canon short s (lower f) (signature, has, scalar) spoken few many = grind (arith, small_join, small_canon_item, small_place)
+small_canon {config} short s (lift c t) (signature, lowered, f, is, lowers, has, flat) spoken few many =
     let below : c < length s.core_functions = slice_get_within s.core_functions c f lowers in
-    let said : Spoken (function signature) = all_at Spoken s.types t (function signature) spoken is in
-    let type : Small (script_lift s t (Some (function signature))) =
-    small_join (small_lifted signature said.0.0)
+    let said : Spoken config (function signature) = all_at (Spoken config) s.types t (function signature) spoken is in
+    let type : Small (script_lift config s t (Some (function signature))) =
+    small_join (small_lifted config short signature said.0.0)
     (small_place (is_of_signature signature) s.types t (function signature) many is ((same_signature_Decides signature signature).1 refl)) in
     small_join (small_canon_item s (canon_item_of (lift c t))) (small_join (small_pick (length s.core_functions) c (omega (arith, few)) below)
-    (subst (λ o. Small (script_lift s t o)) (sym is) type))
+    (subst (λ o. Small (script_lift config s t o)) (sym is) type))
 
-small_canons : (cs : List Canon) (s : Spaces) → FormedCanons cs s → AllByRecursion Spoken s.types → length s.types ≤ 2 ^ 64
-    → functions_at s + length cs ≤ 2 ^ 64 → Along (λ u c. Small (script_canon u c)) after_canon s cs
-small_canons [] s f spoken many few = tt
-small_canons (c ∷ cs) s f spoken many few =
+small_canons : {config : Config} → config.max_name_length < 2 ^ 64 → (cs : List Canon) (s : Spaces) → FormedCanons cs s → AllByRecursion (Spoken config) s.types → length s.types ≤ 2 ^ 64
+    → functions_at s + length cs ≤ 2 ^ 64 → Along (λ u c. Small (script_canon config u c)) after_canon s cs
+small_canons short [] s f spoken many few = tt
+small_canons short (c ∷ cs) s f spoken many few =
     let keep = canon_keeps s c in (
-      small_canon s c f.0 spoken (omega (arith, few)) many,
-      small_canons cs (after_canon s c) f.1 (subst (AllByRecursion Spoken) (sym keep.types) spoken) (omega (arith, many, ap length keep.types))
+      small_canon short s c f.0 spoken (omega (arith, few)) many,
+      small_canons short cs (after_canon s c) f.1 (subst (AllByRecursion (Spoken config)) (sym keep.types) spoken) (omega (arith, many, ap length keep.types))
           (omega (arith, few, functions_after s c)),
     )
 
@@ -174,7 +174,8 @@ module _ (config : Config) (consistent : IsConsistent config) (outer : List Tree
       said.known.readable.0 (omega (arith, few, consistent.types, ap length (marked_core_types config outer before))))
     where
       one : (s : Marked) (x : CoreEntry) → core_sections.Said config s x → Small (script_core config (scope_in s) config.max_type_size x)
-      one s x (formed, limits, lasts, readable, small) = small_core config (scope_in s) config.max_type_size x formed limits readable lasts small
+      one s x (formed, limits, lasts, readable, small) =
+          small_core config (scope_in s) config.max_type_size x formed limits readable lasts small (omega (arith, consistent.names))
 
   small_type_part : (ts : List Entry) (t : Tree) → Said config outer before (first (types ts) t) → Small (script_part (types ts) config outer before)
   small_type_part ts t said =
@@ -188,7 +189,7 @@ module _ (config : Config) (consistent : IsConsistent config) (outer : List Tree
       let lasts : AllByRecursion (λ e. Lasts e config (suc (length around)) config.max_type_size) ts =
       subst (λ n. AllByRecursion (λ e. Lasts e config (suc n) config.max_type_size) ts) (sym count) said.known.stands.0 in
       let here = few_open config consistent outer (add before (types ts)) (with_next config outer before (types ts) t said.known) in
-      let can = type_sections.sayable config around here.few (omega (arith, here.shallow, count)) in
+      let can = type_sections.sayable config around here.few (omega (arith, here.shallow, count)) (omega (arith, consistent.names)) in
       small_said (λ s e. script_type e config config.max_type_size s around) (with_type_entry around) (type_sections.Said config around)
       (λ s e h. record { are = type_bytes config s around config.max_type_size e consistent.nesting (can s e h) }) 0
       (config.max_types - length (types_of before)) 0 own ts
@@ -210,7 +211,7 @@ module _ (config : Config) (consistent : IsConsistent config) (outer : List Tree
       let stack : Open = record { outer = outer; inner = before } in
       let front = own_limits-front config before (imports is) (limits_with (imports is) t said) in
       small_loop (script_import config stack) (λ s x. s ++ x ∷ []) 0 (config.max_imports - length (imports_of before)) 0 [] is
-      (small_imports config stack (omega (arith, front.types, front.core_types, consistent.types)) [] is said.known.formed.0.0 behind.0
+      (small_imports config stack (omega (arith, consistent.names)) (omega (arith, front.types, front.core_types, consistent.types)) [] is said.known.formed.0.0 behind.0
       (subst (OfferedImports is) (sym (imports_marked config stack [])) said.known.offered.0))
 
   small_canon_part : (fs : List Canon) (t : Tree) → Said config outer before (first (canons fs) t) → Small (script_part (canons fs) config outer before)
@@ -219,8 +220,8 @@ module _ (config : Config) (consistent : IsConsistent config) (outer : List Tree
       let front = own_limits-front config before (canons fs) limits in
       let count : function_count before + length fs ≤ config.max_funcs = omega (arith, limits.functions, function_count-add before (canons fs)) in
       let spaces = functions_counted before in
-      small_loop script_canon after_canon 0 (config.max_funcs - function_count before) 0 (spaces_of before) fs
-      (small_canons fs (spaces_of before) said.known.formed.0 said.known.spoken (omega (arith, front.types, consistent.types))
+      small_loop (script_canon config) after_canon 0 (config.max_funcs - function_count before) 0 (spaces_of before) fs
+      (small_canons (omega (arith, consistent.names)) fs (spaces_of before) said.known.formed.0 said.known.spoken (omega (arith, front.types, consistent.types))
       (omega (arith, count, spaces.most, front.exports, consistent.funcs)))
 
   small_export_part : (es : List ExportEntry) (t : Tree) → Said config outer before (first (exports es) t)
@@ -232,8 +233,8 @@ module _ (config : Config) (consistent : IsConsistent config) (outer : List Tree
       let behind = named_behind (λ (e : ExportEntry). e.name) (exports_of before) es said.known.formed.0.1 in
       let start : FormedExports es (spaces_of (with_exports before [])) =
       subst (FormedExports es) (sym (spaces-add before (exports []))) said.known.formed.0.0 in
-      small_loop (script_export before) (λ u x. u ++ x ∷ []) 0 (config.max_exports - length (exports_of before)) 0 [] es
-      (small_exports before [] es start behind.0 (omega (arith, most, front.functions, consistent.funcs)))
+      small_loop (script_export config before) (λ u x. u ++ x ∷ []) 0 (config.max_exports - length (exports_of before)) 0 [] es
+      (small_exports config (omega (arith, consistent.names)) before [] es start behind.0 (omega (arith, most, front.functions, consistent.funcs)))
 
 -- The text determines the module that it is of.
 small_module : (config : Config) → IsConsistent config → (text : List ℕ) → (s : StandIn) × IsStandIn config s × (stand_in_text s ≡ Some text)

@@ -29,13 +29,13 @@ use Rattle.smith_tree.specs.declared.choices.CanonItem.{CanonItem}
 use Rattle.smith_tree.specs.declared.choices.CanonItem.TheVariants.{Lower, Lift}
 
 -- What a URL leaves does not depend on those that were used.
-url_left : {used others : List (List ℕ)} {b r s : List ℕ} {u v : Option (List ℕ)} → ReadsMaybeUrl used b u r → ReadsMaybeUrl others b v s → r ≡ s
+url_left : {config : Config} {used others : List (List ℕ)} {b r s : List ℕ} {u v : Option (List ℕ)} → ReadsMaybeUrl config used b u r → ReadsMaybeUrl config others b v s → r ≡ s
 url_left (no_url f) (no_url g) = (flips_unique f g).1
 url_left (no_url f) (a_url g n e) = absurd (let z : false ≡ true = (flips_unique f g).0 in cc)
 url_left (a_url g n e) (no_url f) = absurd (let z : true ≡ false = (flips_unique g f).0 in cc)
-url_left {used = used} {r = r} (a_url {name = a} f n e) (a_url g m h) =
-    let P : List ℕ → Type 0 = λ z. ReadsNew 100 used z a r in
-    let w : ReadsNew 100 used _ a r = subst P (flips_unique f g).1 n in
+url_left {config} {used = used} {r = r} (a_url {name = a} f n e) (a_url g m h) =
+    let P : List ℕ → Type 0 = λ z. ReadsNew config.max_name_length used z a r in
+    let w : ReadsNew config.max_name_length used _ a r = subst P (flips_unique f g).1 n in
     (kebab_unique w.reads m.reads).1
 
 module _ (config : Config) (stack : Open) where
@@ -44,12 +44,12 @@ module _ (config : Config) (stack : Open) where
   import_same s b x y r q t u i j =
       let ns : List (List ℕ) = import_names (imports_of stack.inner ++ s) in
       let o = ref_same config (marked_with_imports config stack s) (totals_of (with_imports stack s)) true false b x.to y.to i.mid j.mid i.of j.of in
-      let A : List ℕ → Type 0 = λ z. ReadsNew 100 ns z x.name i.named.mid in
-      let read : ReadsNew 100 ns i.mid x.name i.named.mid = subst (λ z. ReadsNew 100 z i.mid x.name i.named.mid) i.names_are i.named.name in
-      let other : ReadsNew 100 ns j.mid y.name j.named.mid = subst (λ z. ReadsNew 100 z j.mid y.name j.named.mid) j.names_are j.named.name in
+      let A : List ℕ → Type 0 = λ z. ReadsNew config.max_name_length ns z x.name i.named.mid in
+      let read : ReadsNew config.max_name_length ns i.mid x.name i.named.mid = subst (λ z. ReadsNew config.max_name_length z i.mid x.name i.named.mid) i.names_are i.named.name in
+      let other : ReadsNew config.max_name_length ns j.mid y.name j.named.mid = subst (λ z. ReadsNew config.max_name_length z j.mid y.name j.named.mid) j.names_are j.named.name in
       let n = new_unique (subst A o.1 read) other in
       let same : x ≡ y = λ k. record { name = n.0 k; to = o.0 k } in
-      let left = url_left (subst (λ z. ReadsMaybeUrl (url_names i.so_far) z i.url r) n.1 i.named.url) j.named.url in
+      let left = url_left (subst (λ z. ReadsMaybeUrl config (url_names i.so_far) z i.url r) n.1 i.named.url) j.named.url in
       (same, left, i.next_is ∙ (ap (λ z. s ++ z ∷ []) same ∙ sym j.next_is))
 
   pub imports_same : {min : ℕ} {b r q : List ℕ} {is js : List ImportEntry} → ReadsImports config min stack b is r → ReadsImports config min stack b js q
@@ -63,7 +63,7 @@ module _ (config : Config) (outer : List Tree) (t : Tree) where
       → ReadsExport config outer t s b y q v → (x ≡ y) × (r ≡ q) × (u ≡ v)
   export_same s b x y r q u v i j =
       let o = reads_unique i.of j.of in
-      let A : List ℕ → Type 0 = λ z. ReadsNew 100 (export_names (exports_of t ++ s)) z x.name r in
+      let A : List ℕ → Type 0 = λ z. ReadsNew config.max_name_length (export_names (exports_of t ++ s)) z x.name r in
       let n = new_unique (subst A o.1 i.named) j.named in
       let same : x ≡ y = λ k. record { name = n.0 k; func = o.0 k } in
       (same, n.1, i.next_is ∙ (ap (λ z. s ++ z ∷ []) same ∙ sym j.next_is))

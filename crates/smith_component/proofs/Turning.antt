@@ -116,14 +116,14 @@ module _ (config : Config) (Holds : Open → Type 0) (stays : Stays config Holds
       subst (λ u. Holds (with_inner stack u)) (sym e)
       (stays.part stack (types xs) (λ s. types_addable config least stack s r) (record {
         offered = types_read_offered config (marked_in config stack.outer) r;
-        readable = loop_all IsReadableType (λ s c x q u (made, same). made_with_readable made) 0 _ b xs rest scope r;
+        readable = loop_all (IsReadableType config) (λ s c x q u (made, same). made_with_readable made) 0 _ b xs rest scope r;
         flat = refl;
       }) h)
   adds_keep counted.Imports least stack b t rest (is, r, e) h =
       subst (λ u. Holds (with_inner stack u)) (sym e)
       (stays.part stack (imports is) (λ s. imports_addable config stack r s) (record {
         offered = imports_offered config stack r;
-        readable = loop_reachable (λ (i : ImportEntry). i.name) (imports_of stack.inner) (import_new config stack) r;
+        readable = loop_reachable config.max_name_length (λ (i : ImportEntry). i.name) (imports_of stack.inner) (import_new config stack) r;
         flat = refl;
       }) h)
   adds_keep counted.Functions least stack b t rest (turns, next, r, e) h =
@@ -200,7 +200,7 @@ module _ {config : Config} {Holds Ready : Open → Type 0} {Full Answer : Tree �
   does_keep CoreTypes stack b next rest offered ready (xs, scope, read, e) h =
       part_keeps stack (core_types xs) next e (λ s. core_types_addable config stack s read) (record {
         offered = tt;
-        readable = loop_all IsReadableCore (λ s c x q u (left, made, same). (core_fits made).readable) 0 _ b xs rest scope read;
+        readable = loop_all (IsReadableCore config) (λ s c x q u (left, made, same). (core_fits made).readable) 0 _ b xs rest scope read;
         flat = refl;
       }) h
   does_keep Types stack b next rest offered ready (t, a, e) h = adding_keeps counted.Types stack b next t rest a e h
@@ -217,7 +217,7 @@ module _ {config : Config} {Holds Ready : Open → Type 0} {Full Answer : Tree �
         offered = exports_offered config stack.outer stack.inner read;
         readable = (
           export_some config (offered.2 refl),
-          loop_reachable (λ (x : ExportEntry). x.name) (exports_of stack.inner) (export_new config stack.outer stack.inner) read,
+          loop_reachable config.max_name_length (λ (x : ExportEntry). x.name) (exports_of stack.inner) (export_new config stack.outer stack.inner) read,
         );
         flat = refl;
       }) h

@@ -1,5 +1,6 @@
 -- What can be generated within some limits can be within wider ones.
-use Rattle.std.proofs.Common.{◌≡◌, ℕ, ◌≤◌, Bool, true, false, if◌then◌else◌, List, [], ◌∷◌, ◌++◌, inl, inr, refl, sym, ◌∙◌, subst, arith}
+use Rattle.std.proofs.Common.{◌≡◌, ℕ, ◌+◌, ◌≤◌, Bool, true, false, if◌then◌else◌, nat_le, List, [], ◌∷◌, ◌++◌, length, map, inl, inr, refl, sym, ◌∙◌, subst, arith}
+use Rattle.std.proofs.lemmas.Bool.{leb-true, le-leb}
 use Rattle.std.proofs.lemmas.List.Elements.{Contains-append_left, Contains-append_right, Contains-append_cases}
 use Rattle.std.specs.List.{Contains}
 use Rattle.std.specs.Prelude.{◌⊎◌}
@@ -12,20 +13,30 @@ use Rattle.smith_format.specs.declared.types.EntityType.TheVariants.{Func, Table
 use Rattle.smith_format.specs.declared.types.RefType.TheVariants.{FuncRef, ExternRef}
 use Rattle.smith_format.specs.declared.types.ValType.{ValType}
 use Rattle.smith_format.specs.declared.types.ValType.TheVariants.{I32, I64, F32, F64, V128, Ref}
+use Rattle.smith_input.specs.NameScript.{AreReachable, IsReachable, is_short, is_within, last_word_is_a}
 use Rattle.smith_input.specs.Offers.{offered}
 use Rattle.smith_tree.proofs.Everything.{everything_offered}
 use Rattle.smith_syntax.specs.CoreLimits.{CoreLimits, EntityLimits}
 use Rattle.smith_syntax.specs.Entries.{CoreEntry, Entry, core_func, core_module as module_type, defined, function, component_type, instance_type}
-use Rattle.smith_syntax.specs.Entries.{Decl, Decls, core_type_decl, type_decl, no_decls, then_decls}
+use Rattle.smith_syntax.specs.Entries.{Decl, Decls, core_type_decl, type_decl, type_alias, core_type_alias, import_decl, export_decl, no_decls, then_decls}
+use Rattle.smith_syntax.specs.Entries.{DefValType, primitive_type, record_type, variant_type, list_type, tuple_type, flags_type, enum_type, option_type}
+use Rattle.smith_syntax.specs.Entries.{result_type, ModuleDecl, imports as imports_one, declares, aliases, exports as exports_one}
 use Rattle.smith_syntax.specs.Marked.{Marked, empty_marked}
+use Rattle.smith_syntax.specs.ModuleTypes.{after_front, module_export_names, names_from}
+use Rattle.smith_syntax.specs.WellFormed.{export_of, import_of, names}
 use Rattle.smith_syntax.specs.TypeLimits.{DeclLimits, DeclsLimits, EntryLimits}
 use Rattle.smith_tree.specs.CoreTypeNeeds.{core_need}
 use Rattle.smith_tree.specs.Limits.{Maxima, Minima, OwnLimits, OwnSizes, max_depth}
 use Rattle.smith_tree.specs.Marking.{marked_after_part}
 use Rattle.smith_tree.specs.Offered.{IsOffered, OfferedPart, OfferedParts}
+use Rattle.smith_tree.specs.ModuleScript.{in_front}
+use Rattle.smith_tree.specs.ReadableCoreTypes.{AreReadableModuleDecls, IsReadableCore, IsReadableModuleDecl, IsReadableNewText}
+use Rattle.smith_tree.specs.ReadableTypes.{AreReadableDecls, IsReadableDecl, IsReadableDefined, IsReadableType}
+use Rattle.smith_tree.specs.WellFormed.{export_names, import_names}
 use Rattle.smith_tree.specs.Readable.{AreFinishable, CanBeGenerated, IsFinishable, IsReadablePart, IsReadableRest, StandsForModule}
 use Rattle.smith_tree.specs.Spaces.{Spaces, after_part, no_spaces}
-use Rattle.smith_tree.specs.Tree.{Tree, Part, add, ends, first, core_module, component, types, canons, imports, exports}
+use Rattle.smith_tree.specs.Tree.{Tree, Part, add, ends, first, custom, core_module, core_types, component, types, canons, imports, exports}
+use Rattle.smith_tree.specs.Tree.{exports_of, imports_of}
 use Rattle.smith_tree.specs.Tree.{inside}
 use Rattle.smith_tree.specs.TypeNeeds.{need}
 use Rattle.smith_component.specs.Wider.{AreWider}
@@ -156,6 +167,76 @@ module _ {wide narrow : Config} (wider : AreWider wide narrow) where
   module_wider : (text : List ℕ) → StandsForModule narrow text → StandsForModule wide text
   module_wider text (s, is, e) = grind (arith, all_weaker, function_wider)
 
+  within_wider : (name : List ℕ) → is_within narrow.max_name_length name ≡ true → is_within wide.max_name_length name ≡ true
+  within_wider name = by_end (last_word_is_a name)
+    where
+      by_end : (b : Bool) → nat_le (length name) (if b then narrow.max_name_length + 1 else narrow.max_name_length) ≡ true
+          → nat_le (length name) (if b then wide.max_name_length + 1 else wide.max_name_length) ≡ true
+      by_end true e = le-leb (length name) (wide.max_name_length + 1)
+          (omega (arith, leb-true (length name) (narrow.max_name_length + 1) e, wider.max_name_length))
+      by_end false e = le-leb (length name) wide.max_name_length
+          (omega (arith, leb-true (length name) narrow.max_name_length e, wider.max_name_length))
+
+  short_wider : (text : List ℕ) → is_short narrow.max_name_length text ≡ true → is_short wide.max_name_length text ≡ true
+  short_wider text e = le-leb (length text) wide.max_name_length (omega (arith, leb-true (length text) narrow.max_name_length e, wider.max_name_length))
+
+  name_wider : (names : List (List ℕ)) (name : List ℕ) → IsReachable narrow.max_name_length names name → IsReachable wide.max_name_length names name
+  name_wider names name (text, can, made) = (text, within_wider text can, made)
+
+  names_wider : (before ns : List (List ℕ)) → AreReachable narrow.max_name_length before ns → AreReachable wide.max_name_length before ns
+  names_wider before [] h = tt
+  names_wider before (n ∷ ns) h = (name_wider before n h.0, names_wider (before ++ n ∷ []) ns h.1)
+
+  new_text_wider : (names : List (List ℕ)) (text : List ℕ) → IsReadableNewText narrow names text → IsReadableNewText wide names text
+  new_text_wider names name (utf8, (text, can, made)) = (utf8, (text, short_wider text can, made))
+
+  module_decl_wider : (before : List ModuleDecl) (d : ModuleDecl) → IsReadableModuleDecl narrow before d → IsReadableModuleDecl wide before d
+  module_decl_wider before (imports_one from name e) ((utf8, short), new) =
+      ((utf8, omega (arith, short, wider.max_name_length)), new_text_wider (names_from from before) name new)
+  module_decl_wider before (declares f) h = tt
+  module_decl_wider before (aliases count i) h = tt
+  module_decl_wider before (exports_one name e) h = new_text_wider (module_export_names before) name h
+
+  module_decls_wider : (before ds : List ModuleDecl) → AreReadableModuleDecls narrow before ds → AreReadableModuleDecls wide before ds
+  module_decls_wider before [] h = tt
+  module_decls_wider before (d ∷ ds) h = (module_decl_wider before d h.0, module_decls_wider (before ++ d ∷ []) ds h.1)
+
+  core_names_wider : (e : CoreEntry) → IsReadableCore narrow e → IsReadableCore wide e
+  core_names_wider (core_func f) h = tt
+  core_names_wider (module_type ds) h = module_decls_wider (in_front ds (after_front ds)) (after_front ds) h
+
+  defined_names_wider : (t : DefValType) → IsReadableDefined narrow t → IsReadableDefined wide t
+  defined_names_wider (record_type fs) h = names_wider [] (map (λ f. f.0) fs) h
+  defined_names_wider (variant_type cs) h = names_wider [] (map (λ c. c.0) cs) h
+  defined_names_wider (flags_type ns) h = names_wider [] ns h
+  defined_names_wider (enum_type ns) h = names_wider [] ns h
+  defined_names_wider (primitive_type p) h = tt
+  defined_names_wider (list_type v) h = tt
+  defined_names_wider (tuple_type vs) h = tt
+  defined_names_wider (option_type v) h = tt
+  defined_names_wider (result_type ok err) h = tt
+
+  mutual
+    type_names_wider : (e : Entry) → IsReadableType narrow e → IsReadableType wide e
+    type_names_wider (defined t) h = defined_names_wider t h
+    type_names_wider (function s) h = names_wider [] (map (λ p. p.0) s.params) h
+    type_names_wider (component_type ds) h = decls_names_wider ds [] [] h
+    type_names_wider (instance_type ds) h = decls_names_wider ds [] [] h
+
+    decl_names_wider : (d : Decl) (imported exported : List (List ℕ)) → IsReadableDecl narrow d imported exported → IsReadableDecl wide d imported exported
+    decl_names_wider (core_type_decl t k) imported exported h = core_names_wider t h
+    decl_names_wider (type_decl e) imported exported h = type_names_wider e h
+    decl_names_wider (type_alias count i k) imported exported h = tt
+    decl_names_wider (core_type_alias count i k) imported exported h = tt
+    decl_names_wider (import_decl name n r) imported exported h = name_wider imported name h
+    decl_names_wider (export_decl name n r) imported exported h = name_wider exported name h
+
+    decls_names_wider : (ds : Decls) (imported exported : List (List ℕ)) → AreReadableDecls narrow ds imported exported
+        → AreReadableDecls wide ds imported exported
+    decls_names_wider no_decls imported exported h = tt
+    decls_names_wider (then_decls d ds) imported exported h =
+        (decl_names_wider d imported exported h.0, decls_names_wider ds (imported ++ names (import_of d)) (exported ++ names (export_of d)) h.1)
+
   mutual
     rest_wider : (t before : Tree) → IsReadableRest narrow t before → IsReadableRest wide t before
     rest_wider ends before h = tt
@@ -165,8 +246,11 @@ module _ {wide narrow : Config} (wider : AreWider wide narrow) where
     part_wider (core_module text) before h = module_wider text h
     part_wider (component t) before h = rest_wider t ends h
     part_wider (canons fs) before h = tt
-    part_wider (exports es) before h = (omega (arith, h.0, wider.max_exports), h.1)
-    part_wider _ before h = h
+    part_wider (core_types ts) before h = all_weaker (IsReadableCore narrow) (IsReadableCore wide) core_names_wider ts h
+    part_wider (types ts) before h = all_weaker (IsReadableType narrow) (IsReadableType wide) type_names_wider ts h
+    part_wider (imports is) before h = names_wider (import_names (imports_of before)) (import_names is) h
+    part_wider (exports es) before h = (omega (arith, h.0, wider.max_exports), names_wider (export_names (exports_of before)) (export_names es) h.1)
+    part_wider (custom name contents) before h = h
 
   -- what is offered
 

@@ -22,7 +22,7 @@ ReadsType config outer own b x rest next = MadeWith config own outer config.max_
 
 -- at least and at most that many types, which lead from one scope to another
 abbrev pub ReadsTypes : Config → List Marked → ℕ → ℕ → Marked → List ℕ → List Entry → List ℕ → Marked → Type 0
-ReadsTypes config outer min max own b xs rest next = Loop Never (ReadsType config outer) min max 0 own b xs rest next
+ReadsTypes config outer min max own b xs rest next = Loop Never (ReadsType config outer) config.loop_bits min max 0 own b xs rest next
 
 -- A core type of a core type section, with fresh fuel. It is in the scope that the core types before it leave.
 abbrev pub ReadsCoreType : Config → Marked → List ℕ → CoreEntry → List ℕ → Marked → Type 0
@@ -31,7 +31,7 @@ ReadsCoreType config own b x rest next =
 
 -- at most that many core types, which lead from one scope to another
 abbrev pub ReadsCoreTypes : Config → ℕ → Marked → List ℕ → List CoreEntry → List ℕ → Marked → Type 0
-ReadsCoreTypes config max own b xs rest next = Loop Never (ReadsCoreType config) 0 max 0 own b xs rest next
+ReadsCoreTypes config max own b xs rest next = Loop Never (ReadsCoreType config) config.loop_bits 0 max 0 own b xs rest next
 
 -- What the sections with a minimum do on the bytes b, if at least that many are to be added: they lead to the inner component t.
 

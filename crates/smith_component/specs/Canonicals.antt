@@ -67,7 +67,7 @@ pub record ReadsLift (config : Config) (s : Growing) (bytes rest : List ℕ) (ne
   pub lowers : slice_get (spaces_at s).core_functions c ≡ Some f
   pub of : HasSignature (spaces_at s) f lowered
   pub flattens : Flattens lowered core
-  pub reads : ReadsLiftedType core mid signature low
+  pub reads : ReadsLiftedType config.max_name_length core mid signature low
   pub lifts : LiftsTo config s c signature low rest next
 
 -- a turn by what was chosen
@@ -88,5 +88,5 @@ empty_section t = record { before = t; funcs = [] }
 
 -- at least that many turns, and at most as many as the component may still have functions
 abbrev pub ReadsCanons : Config → ℕ → Tree → List ℕ → List CanonItem → List ℕ → Growing → Type 0
-ReadsCanons config min t bytes turns rest next = Loop NoCanon (CanonTurn config) min (config.max_funcs - function_count t) 0 (empty_section t) bytes turns rest
-    next
+ReadsCanons config min t bytes turns rest next =
+    Loop NoCanon (CanonTurn config) config.loop_bits min (config.max_funcs - function_count t) 0 (empty_section t) bytes turns rest next

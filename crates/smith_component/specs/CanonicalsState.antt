@@ -85,12 +85,12 @@ abbrev pub IsLowered : Scope → Tables → ℕ → Type 0
 IsLowered own tables c = (signature : Signature) × LowersAs own tables c signature × (is_scalar signature ≡ true)
 
 -- A signature is read that flattens as the signature of the function which the core function lowers.
-pub record ReadsLiftedTypeOf (own : Scope) (tables : Tables) (c : ℕ) (bytes : List ℕ) (signature : Signature) (rest : List ℕ) : Type 0 where
+pub record ReadsLiftedTypeOf (config : Config) (own : Scope) (tables : Tables) (c : ℕ) (bytes : List ℕ) (signature : Signature) (rest : List ℕ) : Type 0 where
   pub lowered : Signature
   pub core : Function
   pub of : LowersAs own tables c lowered
   pub flattens : Flattens lowered core
-  pub reads : ReadsLiftedType core bytes signature rest
+  pub reads : ReadsLiftedType config.max_name_length core bytes signature rest
 
 -- a turn that is made, or none because no function can be lowered or lifted
 abbrev pub IsDrafted : Config → Growing → List ℕ → Bool → List ℕ → Growing → Type 0

@@ -14,7 +14,7 @@ pub record ReadsExport (config : Config) (outer : List Tree) (t : Tree) (es : Li
     (rest : List ℕ) (next : List ExportEntry) : Type 0 where
   pub mid : List ℕ
   pub of : Reads (length (export_functions config outer t es)) bytes x.func mid
-  pub named : ReadsNew 100 (export_names (exports_of t ++ es)) mid x.name rest
+  pub named : ReadsNew config.max_name_length (export_names (exports_of t ++ es)) mid x.name rest
   pub next_is : next ≡ es ++ x ∷ []
 
 -- The section ends when there is no component function, or no room for one more.
@@ -24,4 +24,4 @@ NoExport config outer t es bytes rest next = (export_functions config outer t es
 -- a section of at most as many exports as the component may still have
 abbrev pub ReadsExports : Config → List Tree → Tree → List ℕ → List ExportEntry → List ℕ → Type 0
 ReadsExports config outer t bytes es rest =
-    Loop (NoExport config outer t) (ReadsExport config outer t) 0 (config.max_exports - length (exports_of t)) 0 [] bytes es rest es
+    Loop (NoExport config outer t) (ReadsExport config outer t) config.loop_bits 0 (config.max_exports - length (exports_of t)) 0 [] bytes es rest es

@@ -20,7 +20,7 @@ pub record ReadsImport (config : Config) (stack : Open) (is : List ImportEntry) 
   pub url : Option (List ℕ)
   pub of : ReadsRef config (marked_with_imports config stack is) (totals_of (with_imports stack is)) true false bytes x.to mid
   pub names_are : names so_far ≡ import_names (imports_of stack.inner ++ is)
-  pub named : ReadsNamedExtern so_far mid (x.name, url) rest
+  pub named : ReadsNamedExtern config so_far mid (x.name, url) rest
   pub next_is : next ≡ is ++ x ∷ []
 
 -- The section ends when nothing can be imported.
@@ -30,4 +30,4 @@ NoImport config stack is bytes rest next = (import_kinds config stack is ≡ [])
 -- a section of at least that many imports, and of at most as many as the component may still have
 abbrev pub ReadsImports : Config → ℕ → Open → List ℕ → List ImportEntry → List ℕ → Type 0
 ReadsImports config min stack bytes is rest =
-    Loop (NoImport config stack) (ReadsImport config stack) min (config.max_imports - length (imports_of stack.inner)) 0 [] bytes is rest is
+    Loop (NoImport config stack) (ReadsImport config stack) config.loop_bits min (config.max_imports - length (imports_of stack.inner)) 0 [] bytes is rest is

@@ -65,7 +65,7 @@ pub record ReadsImportValue (config : Config) (stack : Open) (before : List Name
   pub mid : List ℕ
   pub of : ReadsRef config (marked_with_imports config stack (map import_shown is)) (totals_of (with_imports stack (map import_shown is))) true false
       bytes x.ty mid
-  pub named : ReadsNamedExtern (before ++ map extern_of is) mid (extern_of x) rest
+  pub named : ReadsNamedExtern config (before ++ map extern_of is) mid (extern_of x) rest
   pub next_is : next ≡ is ++ x ∷ []
 
 -- The section ends when nothing can be imported.
@@ -79,7 +79,7 @@ pub record AddsTypeSection (config : Config) (min : ℕ) (old : Building) (b : L
   pub section : TypeSection
   pub scope : Marked
   pub added : new.inner ≡ old.inner ++ Types section ∷ []
-  pub reads : Loop Never (ReadsTypeValue config (marked_in config (open_of old).outer)) min (config.max_types - length (types_of (open_of old).inner)) 0
+  pub reads : Loop Never (ReadsTypeValue config (marked_in config (open_of old).outer)) config.loop_bits min (config.max_types - length (types_of (open_of old).inner)) 0
       (marked_inner config (open_of old).outer (open_of old).inner) b section.types.items rest scope
 
 -- a core type section
@@ -87,14 +87,14 @@ pub record AddsCoreTypeSection (config : Config) (old : Building) (b : List ℕ)
   pub section : CoreTypeSection
   pub scope : Marked
   pub added : new.inner ≡ old.inner ++ CoreTypes section ∷ []
-  pub reads : Loop Never (ReadsCoreTypeValue config) 0 (config.max_types - length (core_types_of (open_of old).inner)) 0
+  pub reads : Loop Never (ReadsCoreTypeValue config) config.loop_bits 0 (config.max_types - length (core_types_of (open_of old).inner)) 0
       (marked_inner config (open_of old).outer (open_of old).inner) b section.types.items rest scope
 
 -- an import section of at least that many imports, unless nothing can be imported
 pub record AddsImportSection (config : Config) (min : ℕ) (old : Building) (b : List ℕ) (new : Building) (rest : List ℕ) : Type 0 where
   pub section : ImportSection
   pub added : new.inner ≡ old.inner ++ Imports section ∷ []
-  pub reads : Loop (NoImportValue config (open_of old)) (ReadsImportValue config (open_of old) (externs_of old.inner)) min
+  pub reads : Loop (NoImportValue config (open_of old)) (ReadsImportValue config (open_of old) (externs_of old.inner)) config.loop_bits min
       (config.max_imports - length (imports_of (open_of old).inner)) 0 [] b section.imports.items rest section.imports.items
 
 -- a core module that stands for a generated one, by its parts

@@ -71,7 +71,7 @@ ExportsOne config outer t es own tables b (Some e) rest =
 -- at most that many exports that are read and added
 pub record ExportsAll (config : Config) (outer : List Tree) (t : Tree) (max : ℕ) (own : Marked) (tables : Tables) (b : List ℕ) (es : List ExportEntry)
     (rest : List ℕ) : Type 0 where
-  pub reads : Loop (NoExport config outer t) (ReadsExport config outer t) 0 max 0 [] b es rest es
+  pub reads : Loop (NoExport config outer t) (ReadsExport config outer t) config.loop_bits 0 max 0 [] b es rest es
   pub state : ExportsState config outer t es own tables
 
 -- At most one function is added, the types of all are there, and the names of imports stay.

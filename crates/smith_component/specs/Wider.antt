@@ -22,6 +22,7 @@ pub record AreWider (wide narrow : Config) : Type 0 where
   pub max_instances : narrow.max_instances ≤ wide.max_instances
   pub max_nesting_depth : narrow.max_nesting_depth ≤ wide.max_nesting_depth
   pub max_type_size : narrow.max_type_size ≤ wide.max_type_size
+  pub max_name_length : narrow.max_name_length ≤ wide.max_name_length
   pub multi_value : narrow.multi_value_enabled ≡ true → wide.multi_value_enabled ≡ true
   pub exceptions : narrow.exceptions_enabled ≡ true → wide.exceptions_enabled ≡ true
   pub reference_types : narrow.reference_types_enabled ≡ true → wide.reference_types_enabled ≡ true

@@ -30,7 +30,7 @@ stand_in_made config b m rest r =
     let fs : List Function = map function_at m.types.items in
     let ms : List MemoryType = m.memories.items in
     let most : ℕ = min config.max_types 20 in
-    let types : Loop Never (ReadsShown config) 0 most 0 tt b fs r.mid tt =
+    let types : Loop Never (ReadsShown config) config.loop_bits 0 most 0 tt b fs r.mid tt =
     loop_map function_at (shown_read config) 0 tt b m.types.items r.mid tt r.types in
     let count : 0 + length fs ≤ most = loop_few 0 tt b fs r.mid tt (omega arith) types in
     let some : config.min_memories ≤ 0 + length ms = loop_enough (λ s c v p e. e) r.ordered 0 tt r.mid ms rest tt r.memories in

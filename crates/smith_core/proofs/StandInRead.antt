@@ -77,19 +77,19 @@ module _ (config : Config) where
       }
 
   types_read : (most : ℕ) (ts : List SubType) (rest : List ℕ) → AllByRecursion IsReadable ts → length ts ≤ most
-      → Loop Never (ReadsSubType config) 0 most 0 tt
+      → Loop Never (ReadsSubType config) config.loop_bits 0 most 0 tt
       (script_loop (λ (u : Unit {0}) f. script_function (configured config) (max_results config) f) (λ u f. u) 0 most 0 tt (map function_at ts) ++ rest)
       ts rest tt
   types_read most ts rest all few =
       let script : Function → List ℕ = λ f. script_function (configured config) (max_results config) f in
-      let said = loop_read {Ends = Never} {Item = ReadsSubType config} {min = 0} {max = most} (λ (u : Unit {0}) t. script (function_at t)) (λ u t. u)
+      let said = loop_read {Ends = Never} {Item = ReadsSubType config} {bits = config.loop_bits} {min = 0} {max = most} (λ (u : Unit {0}) t. script (function_at t)) (λ u t. u)
       (λ u t. IsReadable t) sub_type_read ts 0 tt rest (along_all IsReadable (λ u t. u) tt ts all) (omega arith) (omega (arith, few)) in
-      subst (λ b. Loop Never (ReadsSubType config) 0 most 0 tt (b ++ rest) ts rest tt) (script_shown script function_at 0 most 0 tt ts) said
+      subst (λ b. Loop Never (ReadsSubType config) config.loop_bits 0 most 0 tt (b ++ rest) ts rest tt) (script_shown script function_at 0 most 0 tt ts) said
 
   memories_read : (least most : ℕ) (ms : List MemoryType) (rest : List ℕ) → AllByRecursion FormedMemory ms → least ≤ length ms → length ms ≤ most
-      → Loop Never ReadsMemoryType least most 0 tt (script_loop (λ (u : Unit {0}) m. script_memory m) (λ u m. u) least most 0 tt ms ++ rest) ms rest tt
+      → Loop Never ReadsMemoryType config.loop_bits least most 0 tt (script_loop (λ (u : Unit {0}) m. script_memory m) (λ u m. u) least most 0 tt ms ++ rest) ms rest tt
   memories_read least most ms rest all enough few =
-      loop_read {Ends = Never} {Item = ReadsMemoryType} {min = least} {max = most} (λ (u : Unit {0}) m. script_memory m) (λ u m. u) (λ u m. FormedMemory m)
+      loop_read {Ends = Never} {Item = ReadsMemoryType} {bits = config.loop_bits} {min = least} {max = most} (λ (u : Unit {0}) m. script_memory m) (λ u m. u) (λ u m. FormedMemory m)
       (λ u m rest h. memory_read m rest h) ms 0 tt rest (along_all FormedMemory (λ u m. u) tt ms all) (omega (arith, enough)) (omega (arith, few))
 
   pub stand_in_read : (s : StandIn) → IsStandIn config s → length s.memories < 2 ^ 63 → (rest : List ℕ)
@@ -104,9 +104,9 @@ module _ (config : Config) where
       let shown : map function_at ts ≡ s.types = types_shown s.types h.types in
       let a : List ℕ = script_loop (λ (u : Unit {0}) f. script_function (configured config) (max_results config) f) (λ u f. u) 0 most 0 tt s.types in
       let b : List ℕ = script_loop (λ (u : Unit {0}) m. script_memory m) (λ u m. u) config.min_memories config.max_memories 0 tt ms in
-      let types : Loop Never (ReadsSubType config) 0 most 0 tt (a ++ (b ++ rest)) ts (b ++ rest) tt =
+      let types : Loop Never (ReadsSubType config) config.loop_bits 0 most 0 tt (a ++ (b ++ rest)) ts (b ++ rest) tt =
       subst
-      (λ fs. Loop Never (ReadsSubType config) 0 most 0 tt
+      (λ fs. Loop Never (ReadsSubType config) config.loop_bits 0 most 0 tt
       (script_loop (λ (u : Unit {0}) f. script_function (configured config) (max_results config) f) (λ u f. u) 0 most 0 tt fs ++ (b ++ rest)) ts (b ++ rest) tt)
       shown (types_read most ts (b ++ rest) (types_readable s.types h.types) count) in
       let parts : HasTypesAndMemories m = parts_listed config.bulk_memory_enabled ts ms few_types few in
@@ -115,7 +115,7 @@ module _ (config : Config) where
         record {
           mid = b ++ rest;
           ordered = omega (arith, h.enough_memories, h.few_memories);
-          types = subst (λ z. Loop Never (ReadsSubType config) 0 most 0 tt z ts (b ++ rest) tt) (sym (append_assoc a b rest)) types;
+          types = subst (λ z. Loop Never (ReadsSubType config) config.loop_bits 0 most 0 tt z ts (b ++ rest) tt) (sym (append_assoc a b rest)) types;
           memories = memories_read config.min_memories config.max_memories ms rest h.memories h.enough_memories h.few_memories;
           bulk_memory = refl;
           parts = parts;

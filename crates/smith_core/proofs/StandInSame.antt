@@ -62,10 +62,10 @@ module _ (config : Config) where
 
   -- a function type of the loop, as it is shown
   abbrev pub ReadsShown : Unit {0} → List ℕ → Function → List ℕ → Unit {0} → Type 0
-  ReadsShown s b f r z = ReadsFunction (configured config) (max_results config) b f r
+  ReadsShown s b f r z = ReadsFunction config.loop_bits (configured config) (max_results config) b f r
 
   pub shown_read : (s : Unit {0}) (b : List ℕ) (t : SubType) (r : List ℕ) (z : Unit {0}) → ReadsSubType config s b t r z → ReadsShown s b (function_at t) r z
-  shown_read s b t r z i = subst (λ f. ReadsFunction (configured config) (max_results config) b f r)
+  shown_read s b t r z i = subst (λ f. ReadsFunction config.loop_bits (configured config) (max_results config) b f r)
       (sym (as_function_is t.composite_type i.function i.composite)) i.reads
 
 -- the types after others, each in a group by itself
@@ -165,7 +165,7 @@ stand_in_same {config} {b} {m} {n} {r} {q} x y =
     let gs = loop_map function_at (shown_read config) 0 tt b n.types.items y.mid tt y.types in
     let types = loop_same {Item = F} (λ s c v p t w e f. absurd e) (λ s c k v p t w e i. e) (λ s c f g v p t w i j. let d = function_unique i j in
     (d.0, d.1, refl)) 0 tt b (map function_at m.types.items) (map function_at n.types.items) x.mid y.mid tt tt fs gs in
-    let M : List ℕ → Type 0 = λ z. Loop Never ReadsMemoryType config.min_memories config.max_memories 0 tt z m.memories.items r tt in
+    let M : List ℕ → Type 0 = λ z. Loop Never ReadsMemoryType config.loop_bits config.min_memories config.max_memories 0 tt z m.memories.items r tt in
     let memories = loop_same {Item = ReadsMemoryType} (λ s c v p t w e f. absurd e) (λ s c k v p t w e i. e)
     (λ s c f g v p t w i j. let d = memory_unique i j in (d.0, d.1, refl)) 0 tt y.mid m.memories.items n.memories.items r q tt tt
     (subst M types.1 x.memories) y.memories in

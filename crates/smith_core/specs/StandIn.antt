@@ -25,14 +25,14 @@ IsFunction (Struct ts) f = ⊥
 -- a type of the loop: a function type of the configured value types, which is final and has no supertype
 pub record ReadsSubType (config : Config) (s : Unit {0}) (bytes : List ℕ) (t : SubType) (rest : List ℕ) (r : Unit {0}) : Type 0 where
   pub function : Function
-  pub reads : ReadsFunction (configured config) (max_results config) bytes function rest
+  pub reads : ReadsFunction config.loop_bits (configured config) (max_results config) bytes function rest
   pub is_final : t.is_final ≡ true
   pub supertype : t.supertype ≡ None
   pub composite : IsFunction t.composite_type function
 
 -- a function type of the loop, of the configured value types
 abbrev pub ReadsFunctionType : Config → Unit {0} → List ℕ → FuncType → List ℕ → Unit {0} → Type 0
-ReadsFunctionType config s bytes f rest r = ReadsFunction (configured config) (max_results config) bytes (shown_func f) rest
+ReadsFunctionType config s bytes f rest r = ReadsFunction config.loop_bits (configured config) (max_results config) bytes (shown_func f) rest
 
 -- a memory of the loop
 abbrev pub ReadsMemoryType : Unit {0} → List ℕ → MemoryType → List ℕ → Unit {0} → Type 0
@@ -63,8 +63,8 @@ pub record HasTypesAndMemories (m : ModuleParts) : Type 0 where
 pub record ReadsStandIn (config : Config) (bytes : List ℕ) (m : ModuleParts) (rest : List ℕ) : Type 0 where
   pub mid : List ℕ
   pub ordered : config.min_memories ≤ config.max_memories
-  pub types : Loop Never (ReadsSubType config) 0 (min config.max_types 20) 0 tt bytes m.types.items mid tt
-  pub memories : Loop Never ReadsMemoryType config.min_memories config.max_memories 0 tt mid m.memories.items rest tt
+  pub types : Loop Never (ReadsSubType config) config.loop_bits 0 (min config.max_types 20) 0 tt bytes m.types.items mid tt
+  pub memories : Loop Never ReadsMemoryType config.loop_bits config.min_memories config.max_memories 0 tt mid m.memories.items rest tt
   pub bulk_memory : m.bulk_memory_enabled ≡ config.bulk_memory_enabled
   pub parts : HasTypesAndMemories m
 

@@ -29,12 +29,12 @@ element_tail : {references : Bool} {bytes : List ℕ} {t : RefType} {rest : List
 element_tail (only_functions {bytes = bytes}) = tail_same bytes
 element_tail (either r) = among_tail r
 
-values_tail : {valtypes : List ValType} {max : ℕ} {bytes : List ℕ} {xs : List ValType} {rest : List ℕ} → ReadsValues valtypes max bytes xs rest
+values_tail : {bits : ℕ} {valtypes : List ValType} {max : ℕ} {bytes : List ℕ} {xs : List ValType} {rest : List ℕ} → ReadsValues bits valtypes max bytes xs rest
     → IsTail rest bytes
 values_tail {bytes = bytes} {xs = xs} {rest = rest} l = loop_tail (λ s b r t e. absurd e) (λ s b x r t i. among_tail i) 0 tt bytes xs rest tt l
 
-pub function_tail : {valtypes : List ValType} {max_results : ℕ} {bytes : List ℕ} {f : Function} {rest : List ℕ}
-    → ReadsFunction valtypes max_results bytes f rest → IsTail rest bytes
+pub function_tail : {bits : ℕ} {valtypes : List ValType} {max_results : ℕ} {bytes : List ℕ} {f : Function} {rest : List ℕ}
+    → ReadsFunction bits valtypes max_results bytes f rest → IsTail rest bytes
 function_tail r = tail_trans (values_tail r.results) (values_tail r.params)
 
 -- what a call for a number in a range returns
@@ -65,15 +65,15 @@ pub element_formed : {references : Bool} {bytes : List ℕ} {t : RefType} {rest 
 element_formed (only_functions) = inl refl
 element_formed (either {t = t} r) = elim (element_is r.place t r.named) [ inl e ↦ inl e | inr e ↦ inr (refl, e) ]
 
-values_few : {valtypes : List ValType} {max : ℕ} {bytes : List ℕ} {xs : List ValType} {rest : List ℕ} → ReadsValues valtypes max bytes xs rest → length xs ≤ max
+values_few : {bits : ℕ} {valtypes : List ValType} {max : ℕ} {bytes : List ℕ} {xs : List ValType} {rest : List ℕ} → ReadsValues bits valtypes max bytes xs rest → length xs ≤ max
 values_few {max = max} {bytes = bytes} {xs = xs} {rest = rest} l = let few : 0 + length xs ≤ max = loop_few 0 tt bytes xs rest tt (omega arith) l in omega arith
 
-values_formed : {valtypes : List ValType} {max : ℕ} {bytes : List ℕ} {xs : List ValType} {rest : List ℕ} → ReadsValues valtypes max bytes xs rest
+values_formed : {bits : ℕ} {valtypes : List ValType} {max : ℕ} {bytes : List ℕ} {xs : List ValType} {rest : List ℕ} → ReadsValues bits valtypes max bytes xs rest
     → AllByRecursion (Contains valtypes) xs
-values_formed {valtypes} {bytes = bytes} {xs = xs} {rest = rest} l = loop_all (Contains valtypes) (λ s b x r t i. among_contains i) 0 tt bytes xs rest tt l
+values_formed {bits} {valtypes} {bytes = bytes} {xs = xs} {rest = rest} l = loop_all (Contains valtypes) (λ s b x r t i. among_contains i) 0 tt bytes xs rest tt l
 
-pub function_formed : {valtypes : List ValType} {max_results : ℕ} {bytes : List ℕ} {f : Function} {rest : List ℕ}
-    → ReadsFunction valtypes max_results bytes f rest → FormedFunction valtypes max_results f
+pub function_formed : {bits : ℕ} {valtypes : List ValType} {max_results : ℕ} {bytes : List ℕ} {f : Function} {rest : List ℕ}
+    → ReadsFunction bits valtypes max_results bytes f rest → FormedFunction valtypes max_results f
 function_formed r = record {
   few_params = values_few r.params;
   few_results = values_few r.results;
@@ -125,15 +125,15 @@ pub tag_unique : {candidates bytes : List ℕ} {t o : TagType} {left rest : List
     → (t ≡ o) × (left ≡ rest)
 tag_unique r s = let d = among_same r s in (λ i. record { func_type_idx = d.0 i }, d.1)
 
-values_unique : {valtypes : List ValType} {max : ℕ} {bytes : List ℕ} {xs ys : List ValType} {left rest : List ℕ} → ReadsValues valtypes max bytes xs left
-    → ReadsValues valtypes max bytes ys rest → (xs ≡ ys) × (left ≡ rest)
+values_unique : {bits : ℕ} {valtypes : List ValType} {max : ℕ} {bytes : List ℕ} {xs ys : List ValType} {left rest : List ℕ} → ReadsValues bits valtypes max bytes xs left
+    → ReadsValues bits valtypes max bytes ys rest → (xs ≡ ys) × (left ≡ rest)
 values_unique {bytes = bytes} {xs = xs} {ys = ys} {left = left} {rest = rest} l m =
     let d = loop_same (λ s b r q t u e f. absurd e) (λ s b x r q t u e i. e) (λ s b x y r q t u i j. let c = among_same i j in (c.0, c.1, refl)) 0 tt bytes xs
     ys left rest tt tt l m in
     (d.0, d.1)
 
-pub function_unique : {valtypes : List ValType} {max_results : ℕ} {bytes : List ℕ} {f g : Function} {left rest : List ℕ}
-    → ReadsFunction valtypes max_results bytes f left → ReadsFunction valtypes max_results bytes g rest → (f ≡ g) × (left ≡ rest)
-function_unique {valtypes} {max_results} {g = g} {rest = rest} r s =
+pub function_unique : {bits : ℕ} {valtypes : List ValType} {max_results : ℕ} {bytes : List ℕ} {f g : Function} {left rest : List ℕ}
+    → ReadsFunction bits valtypes max_results bytes f left → ReadsFunction bits valtypes max_results bytes g rest → (f ≡ g) × (left ≡ rest)
+function_unique {bits} {valtypes} {max_results} {g = g} {rest = rest} r s =
     let p = values_unique r.params s.params in
-    let q = values_unique r.results (subst (λ b. ReadsValues valtypes max_results b g.1 rest) (sym p.1) s.results) in (λ i. (p.0 i, q.0 i), q.1)
+    let q = values_unique r.results (subst (λ b. ReadsValues bits valtypes max_results b g.1 rest) (sym p.1) s.results) in (λ i. (p.0 i, q.0 i), q.1)

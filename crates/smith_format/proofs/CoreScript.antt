@@ -40,30 +40,30 @@ same_val_Decides V128 V128 = (λ _. refl, λ _. refl)
 same_val_Decides (Ref r) (Ref o) = let d = ref_Decides r o in (λ e. ap Ref (d.0 e), λ e. d.1 cc)
 same_val_Decides x y = (λ e. absurd (false≢true e), λ e. cc)
 
-values_read : (valtypes : List ValType) (max : ℕ) (xs : List ValType) (rest : List ℕ) → length valtypes ≤ 2 ^ 64 → length xs ≤ max
-    → AllByRecursion (Contains valtypes) xs → ReadsValues valtypes max (script_values valtypes max xs ++ rest) xs rest
+values_read : {bits : ℕ} (valtypes : List ValType) (max : ℕ) (xs : List ValType) (rest : List ℕ) → length valtypes ≤ 2 ^ 64 → length xs ≤ max
+    → AllByRecursion (Contains valtypes) xs → ReadsValues bits valtypes max (script_values valtypes max xs ++ rest) xs rest
 values_read valtypes max xs rest many few all =
     loop_read _ (λ s x. tt) (λ s x. Contains valtypes x) (λ s x rest c. among_written same_val same_val_Decides valtypes x rest many c) xs 0 tt rest
     (along_all (Contains valtypes) (λ s x. tt) tt xs all) (omega arith) (omega arith)
 
-pub function_read : (valtypes : List ValType) (max_results : ℕ) (f : Function) (rest : List ℕ) → FormedFunction valtypes max_results f
-    → length valtypes ≤ 2 ^ 64 → ReadsFunction valtypes max_results (script_function valtypes max_results f ++ rest) f rest
-function_read valtypes max_results f rest h many =
+pub function_read : {bits : ℕ} (valtypes : List ValType) (max_results : ℕ) (f : Function) (rest : List ℕ) → FormedFunction valtypes max_results f
+    → length valtypes ≤ 2 ^ 64 → ReadsFunction bits valtypes max_results (script_function valtypes max_results f ++ rest) f rest
+function_read {bits} valtypes max_results f rest h many =
     let params = script_values valtypes 20 f.0 in
     let results = script_values valtypes max_results f.1 in
     record {
       mid = results ++ rest;
-      params = subst (λ b. ReadsValues valtypes 20 b f.0 (results ++ rest)) (sym (append_assoc params results rest))
+      params = subst (λ b. ReadsValues bits valtypes 20 b f.0 (results ++ rest)) (sym (append_assoc params results rest))
           (values_read valtypes 20 f.0 (results ++ rest) many h.few_params h.params);
       results = values_read valtypes max_results f.1 rest many h.few_results h.results;
     }
 
 -- what is read from a script
-pub function_scripted : (valtypes : List ValType) (max_results : ℕ) (f g : Function) (bytes rest left : List ℕ) → FormedFunction valtypes max_results f
-    → length valtypes ≤ 2 ^ 64 → bytes ≡ script_function valtypes max_results f ++ rest → ReadsFunction valtypes max_results bytes g left
+pub function_scripted : {bits : ℕ} (valtypes : List ValType) (max_results : ℕ) (f g : Function) (bytes rest left : List ℕ) → FormedFunction valtypes max_results f
+    → length valtypes ≤ 2 ^ 64 → bytes ≡ script_function valtypes max_results f ++ rest → ReadsFunction bits valtypes max_results bytes g left
     → (g ≡ f) × (left ≡ rest)
-function_scripted valtypes max_results f g bytes rest left h many e r =
-    function_unique r (subst (λ b. ReadsFunction valtypes max_results b f rest) (sym e) (function_read valtypes max_results f rest h many))
+function_scripted {bits} valtypes max_results f g bytes rest left h many e r =
+    function_unique r (subst (λ b. ReadsFunction bits valtypes max_results b f rest) (sym e) (function_read valtypes max_results f rest h many))
 
 -- limits
 

@@ -2,13 +2,14 @@ pub mod Clear
 pub mod CoreReading
 pub mod CoreScript
 pub mod CoreTypes
+pub mod Digits
 pub mod Entities
 pub mod Framing
 pub mod LawLemmas
 pub mod Many
-pub mod Digits
 pub mod Piece
+pub mod Results
+pub mod ScriptBytes
 pub mod Sizes
 pub mod Steps
 pub mod TooLong
-pub mod ScriptBytes

@@ -15,7 +15,8 @@ pub record AreCountsValid (config : Config) : Type 0 where
   pub instances : config.max_instances ≤ 1000
   pub memories : config.max_memories ≤ 100
 
--- No minimum exceeds its maximum, what is counted in the written bytes fits 32 bits, and components nest at most 1000 deep.
+-- No minimum exceeds its maximum, what is counted in the written bytes fits 32 bits, components nest at most 1000 deep, names have
+-- at most 100 bytes, and a byte has as many bits as a loop looks at.
 pub record IsConsistent (config : Config) : Type 0 where
   pub types_cross : config.min_types ≤ config.max_types
   pub imports_cross : config.min_imports ≤ config.max_imports
@@ -27,6 +28,8 @@ pub record IsConsistent (config : Config) : Type 0 where
   pub components : config.max_components ≤ max_u32
   pub instances : config.max_instances ≤ max_u32
   pub nesting : config.max_nesting_depth ≤ 1000
+  pub names : config.max_name_length ≤ 100
+  pub loops : config.loop_bits ≤ 8
   pub valid : config.must_validate ≡ true → AreCountsValid config
 
 -- the default limits
@@ -59,4 +62,6 @@ IsDefault c =
       max_type_size = 1000;
       finish_after = 0;
       must_validate = false;
+      max_name_length = 100;
+      loop_bits = 1;
     }

@@ -55,12 +55,12 @@ ReadsTag candidates bytes t rest = ReadsAmong candidates bytes t.func_type_idx r
 abbrev pub ReadsValue : List ValType → Unit {0} → List ℕ → ValType → List ℕ → Unit {0} → Type 0
 ReadsValue valtypes s bytes x rest t = ReadsAmong valtypes bytes x rest
 
--- at most max value types, each one of these
-abbrev pub ReadsValues : List ValType → ℕ → List ℕ → List ValType → List ℕ → Type 0
-ReadsValues valtypes max bytes xs rest = Loop Never (ReadsValue valtypes) 0 max 0 tt bytes xs rest tt
+-- at most max value types, each one of these, by a loop of so many bits
+abbrev pub ReadsValues : ℕ → List ValType → ℕ → List ℕ → List ValType → List ℕ → Type 0
+ReadsValues bits valtypes max bytes xs rest = Loop Never (ReadsValue valtypes) bits 0 max 0 tt bytes xs rest tt
 
 -- a function type (Types, Composite Types): at most 20 parameters, and then the results
-pub record ReadsFunction (valtypes : List ValType) (max_results : ℕ) (bytes : List ℕ) (f : Function) (rest : List ℕ) : Type 0 where
+pub record ReadsFunction (bits : ℕ) (valtypes : List ValType) (max_results : ℕ) (bytes : List ℕ) (f : Function) (rest : List ℕ) : Type 0 where
   pub mid : List ℕ
-  pub params : ReadsValues valtypes 20 bytes f.0 mid
-  pub results : ReadsValues valtypes max_results mid f.1 rest
+  pub params : ReadsValues bits valtypes 20 bytes f.0 mid
+  pub results : ReadsValues bits valtypes max_results mid f.1 rest

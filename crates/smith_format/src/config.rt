@@ -2,7 +2,10 @@
 
 ghost use Rattle.std.specs.Prelude.{◌≡◌, ◌↔◌, true, IsOk, IfErr};
 
-use smith_input::Error;
+use smith_input::{Error, MOST_NAME_LEN};
+
+/// The most bits of a byte that a loop looks at: all of them. Public only for the crates above.
+pub const MOST_LOOP_BITS: usize = 8;
 
 /// The limits of what is built. Every number counts things, except `max_type_size`, which is the fuel of a type.
 ///
@@ -63,6 +66,12 @@ pub struct Config {
     /// Whether a validator accepts each component: what it imports and exports is of types that it names, and effective
     /// sizes and counts are below the bounds of wasmparser.
     pub must_validate: bool,
+    /// How many bytes of a name are read at most. Digits that make it new, and an `a` where a word is missing, come on
+    /// top. At most 100. The name of a custom section does not count.
+    pub max_name_length: usize,
+    /// How many of the lowest bits of a byte are 0 where a loop ends, as one over types or fields: with 1 every second
+    /// byte ends it, with 2 every fourth, with 8 one in 256. At most 8; a limit of 0 counts as 1.
+    pub loop_bits: usize,
 }
 
 impl Default for Config {
@@ -71,7 +80,8 @@ impl Default for Config {
     ghost is_default = { IsDefault };
 
     /// Minima of 0, counts of 100 within a component and of 10 over the tree, no exports, one memory, a depth of
-    /// 10, a fuel of 1000, every feature on, and components that may be finished at once.
+    /// 10, a fuel of 1000, every feature on, components that may be finished at once, names of 100 bytes, and loops of
+    /// one bit.
     fn default() -> Config {
         Config {
             min_types: 0,
@@ -99,6 +109,8 @@ impl Default for Config {
             max_type_size: 1000,
             finish_after: 0,
             must_validate: false,
+            max_name_length: MOST_NAME_LEN,
+            loop_bits: 1,
         }
     }
 }
@@ -119,8 +131,8 @@ impl Config {
     }
 
     /// Accepts limits that fit together: no minimum exceeds its maximum, written counts are at most 4,294,967,295,
-    /// functions and exports counted together, and the nesting depth is at most 1000. If components must validate,
-    /// there are at most 500,000 types, 1,000,000 functions and exports together, 1,000 modules, components and
+    /// functions and exports counted together, the nesting depth is at most 1000, names have at most 100 bytes, and
+    /// loops look at 8 bits at most. If components must validate, there are at most 500,000 types, 1,000,000 functions and exports together, 1,000 modules, components and
     /// instances each, and 100 memories. Others are refused with `InconsistentLimits`.
     pub fn check(&self) -> Result<(), Error>
         ensures accepts { IsOk result ↔ IsConsistent self.now }
@@ -135,7 +147,9 @@ impl Config {
             || self.max_modules > 0xffff_ffff
             || self.max_components > 0xffff_ffff
             || self.max_instances > 0xffff_ffff;
-        if crossed || wide || self.max_nesting_depth > 1000 {
+        let deep = self.max_nesting_depth > 1000;
+        let long = self.max_name_length > MOST_NAME_LEN || self.loop_bits > MOST_LOOP_BITS;
+        if crossed || wide || deep || long {
             return Err(Error::InconsistentLimits);
         }
         if self.must_validate && !self.are_counts_valid() {

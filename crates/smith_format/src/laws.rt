@@ -111,16 +111,17 @@ pub fn core_types_are_decided()
     ensures memories { IsDecided ReadsMemory }
     ensures tables { (references : Bool) → IsDecided (ReadsTable references) }
     ensures tags { (candidates : List ℕ) → IsDecided (ReadsTag candidates) }
-    ensures functions { (valtypes : List ValType) (max_results : ℕ) → IsDecided (ReadsFunction valtypes max_results) }
+    ensures functions { (bits : ℕ) (valtypes : List ValType) (max_results : ℕ)
+        → IsDecided (ReadsFunction bits valtypes max_results) }
 {}
 
 /// The script of a function type of these value types is read as that type, and the script of a memory type as that
 /// memory type.
 pub fn core_scripts_are_read()
-    ensures functions { (valtypes : List ValType) (max_results : ℕ) (f : Function)
+    ensures functions { (bits : ℕ) (valtypes : List ValType) (max_results : ℕ) (f : Function)
         → FormedFunction valtypes max_results f
         → length valtypes ≤ 2 ^ 64
-        → IsReadAs (ReadsFunction valtypes max_results) (script_function valtypes max_results f) f }
+        → IsReadAs (ReadsFunction bits valtypes max_results) (script_function valtypes max_results f) f }
     ensures memories { (m : MemoryType) → FormedMemory m → IsReadAs ReadsMemory (script_memory m) m }
 {}
 

@@ -15,7 +15,7 @@ mod sections;
 mod types;
 
 pub use buffer::{CoreFormat, Spelled, settled, write_byte, write_bytes, write_spelled};
-pub use config::Config;
+pub use config::{Config, MOST_LOOP_BITS};
 pub use encode::{core_val_len, func_type_len, write_core_val, write_func_type};
 pub use entity::{core_import_len, entity_len, write_core_import, write_entity};
 pub use fuel::burn;

@@ -86,21 +86,22 @@ pub fn arbitrary_tag_type(u: &mut Unstructured, candidates: &[u32]) -> TagType
     TagType { func_type_idx }
 }
 
-// At most that many value types.
+// At most that many value types, by a loop of so many bits.
 #[inline(always)]
 fn make_values(
     alloc: Global,
     u: &mut Unstructured,
+    bits: usize,
     valtypes: &[ValType],
     max: usize,
 ) -> Result<Vec<ValType>, Error>
     requires { 0 < length valtypes.now }
-    ensures reads { IfOk result (λ v. ReadsValues valtypes.now max u.old v.items u.new) }
+    ensures reads { IfOk result (λ v. ReadsValues bits valtypes.now max u.old v.items u.new) }
     ensures input { Consumes result u.old u.new }
 {
     let mut types = Vec::new(alloc);
     for done in 0..max {
-        if !u.more(done, 0, max) {
+        if !u.more_of(bits, done, 0, max) {
             return Ok(types);
         }
         let ty = *u.choose(valtypes);
@@ -109,8 +110,26 @@ fn make_values(
     Ok(types)
 }
 
-/// A function type of at most 20 parameters and `max_results` results, each of one of the value types. It fails only
-/// when out of memory.
+// A function type of at most 20 parameters and `max_results` results, by loops of so many bits.
+#[inline(always)]
+fn make_func_type(
+    alloc: Global,
+    u: &mut Unstructured,
+    bits: usize,
+    valtypes: &[ValType],
+    max_results: usize,
+) -> Result<FuncType, Error>
+    requires { 0 < length valtypes.now }
+    ensures reads { IfOk result (λ t. ReadsFunction bits valtypes.now max_results u.old (shown_func t) u.new) }
+    ensures input { Consumes result u.old u.new }
+{
+    let params = make_values(alloc, u, bits, valtypes, 20)?;
+    let results = make_values(alloc, u, bits, valtypes, max_results)?;
+    Ok(FuncType { params, results })
+}
+
+/// A function type of at most 20 parameters and `max_results` results, each of one of the value types. Its loops go on
+/// by the lowest bit of a byte. It fails only when out of memory.
 pub fn arbitrary_func_type(
     alloc: Global,
     u: &mut Unstructured,
@@ -119,16 +138,14 @@ pub fn arbitrary_func_type(
 ) -> Result<FuncType, Error>
     requires some { 0 < length valtypes.now }
     requires few { max_results ≤ 20 }
-    ensures reads { IfOk result (λ t. ReadsFunction valtypes.now max_results u.old (shown_func t) u.new) }
+    ensures reads { IfOk result (λ t. ReadsFunction 1 valtypes.now max_results u.old (shown_func t) u.new) }
     ensures formed { IfOk result (λ t. FormedFunction valtypes.now max_results (shown_func t)) }
     ensures script { (f : Function) (rest : List ℕ) → FormedFunction valtypes.now max_results f
         → length valtypes.now ≤ 2 ^ 64 → u.old ≡ script_function valtypes.now max_results f ++ rest
         → IfOk result (λ t. (shown_func t ≡ f) × (u.new ≡ rest)) }
     ensures input { Consumes result u.old u.new }
 {
-    let params = make_values(alloc, u, valtypes, 20)?;
-    let results = make_values(alloc, u, valtypes, max_results)?;
-    Ok(FuncType { params, results })
+    make_func_type(alloc, u, 1, valtypes, max_results)
 }
 
 /// A function type of the configured value types, with at most as many results as the limits allow. It fails only when
@@ -141,10 +158,10 @@ pub fn configured_func_type(
     valtypes: &[ValType],
 ) -> Result<FuncType, Error>
     requires { valtypes.now ≡ configured config.now }
-    ensures reads { IfOk result (λ t. ReadsFunction (configured config.now) (max_results config.now) u.old
-        (shown_func t) u.new) }
+    ensures reads { IfOk result (λ t. ReadsFunction config.now.loop_bits (configured config.now)
+        (max_results config.now) u.old (shown_func t) u.new) }
     ensures input { Consumes result u.old u.new }
 {
     let max_results = if config.multi_value_enabled { 20 } else { 1 };
-    arbitrary_func_type(alloc, u, valtypes, max_results)
+    make_func_type(alloc, u, config.loop_bits, valtypes, max_results)
 }

@@ -5,6 +5,7 @@ pub mod Kebab
 pub mod LawLemmas
 pub mod Lists
 pub mod Loops
+pub mod LowBits
 pub mod NameScript
 pub mod NameSets
 pub mod NameShapes

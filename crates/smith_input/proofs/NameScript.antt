@@ -13,7 +13,7 @@ use Rattle.smith_input.specs.Texts.{ReadsNewText, ReadsText}
 use Rattle.smith_input.specs.NameScript.{script_within, script_new, script_new_text}
 use Rattle.smith_input.specs.Script.{script_name, script_text}
 use Rattle.smith_input.proofs.Digits.{are_digits, digits_ascii, some_digits}
-use Rattle.smith_input.proofs.NameShapes.{kebab_less, kebab_within, short_within, within_read}
+use Rattle.smith_input.proofs.NameShapes.{kebab_less, longer_read, kebab_within, short_within, within_read}
 use Rattle.smith_input.proofs.ReadsTexts.{text_read}
 use Rattle.std.proofs.lemmas.Bool.{leb-true, le-leb}
 
@@ -127,6 +127,13 @@ new_script_read max names name rest h k made =
     let text = stem_of (is_within max) (length names) name in
     let m = made_of (is_within max) names name made in
     record { text = text; reads = within_read max text rest h (made_kebab_less names m.1 k) m.0; unique = m.1 }
+
+pub longer_new : (n m : ℕ) (names : List (List ℕ)) (name rest : List ℕ) → 1 ≤ n → n ≤ m → m < 256 → Kebab name → IsReachable n names name
+    → ReadsNew m names (script_new n (length names) name ++ rest) name rest
+longer_new n m names name rest one more few k made =
+    let text = stem_of (is_within n) (length names) name in
+    let r = made_of (is_within n) names name made in
+    record { text = text; reads = longer_read n m text rest one more few (made_kebab_less names r.1 k) r.0; unique = r.1 }
 
 pub new_reachable : {max : ℕ} {names : List (List ℕ)} {bytes name rest : List ℕ} → ReadsNew max names bytes name rest → IsReachable max names name
 new_reachable r = (r.text, kebab_within r.reads, r.unique)

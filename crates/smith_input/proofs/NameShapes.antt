@@ -13,7 +13,7 @@ use Rattle.smith_input.specs.NameScript.{last_word_is_a, is_within, script_withi
 use Rattle.smith_input.proofs.Digits.{AreDigits}
 pub use Rattle.smith_input.proofs.Kebab.{Fits}
 use Rattle.smith_input.proofs.Kebab.{Follows, not_hyphen, step_name}
-use Rattle.smith_input.proofs.Picks.{reads-pick}
+use Rattle.smith_input.proofs.Picks.{pick-byte, reads-pick}
 
 -- a name in kebab case from a place on, where a word must begin or goes on
 abbrev pub Goes : Bool → List ℕ → Type 0
@@ -135,6 +135,27 @@ within_read max name rest h k w =
       counted = rw (append_assoc (pick (max + 1) (length cs)) (script_characters cs) rest, length-map cs code) counted;
       chosen = each_read max true name rest g;
       spelt = sym (spelt max true name g (within_suffices max name g w));
+    }
+
+-- its length takes one byte, within each greater length too
+pub longer_read : (n m : ℕ) (name rest : List ℕ) → 1 ≤ n → n ≤ m → m < 256 → Kebab name → is_within n name ≡ true
+    → ReadsKebab m (script_within n name ++ rest) name rest
+longer_read n m name rest one more few k w =
+    let cs = take n name in
+    let tail : List ℕ = script_characters cs ++ rest in
+    let short : length cs ≤ n = omega (arith, length-take n name) in
+    let same : pick (m + 1) (length cs) ≡ pick (n + 1) (length cs) =
+    pick-byte (m + 1) (length cs) (omega (arith, one, more)) (omega (arith, few))
+    ∙ sym (pick-byte (n + 1) (length cs) (omega (arith, one)) (omega (arith, more, few))) in
+    let counted : Reads (m + 1) (pick (n + 1) (length cs) ++ tail) (length cs) tail =
+    subst (λ b. Reads (m + 1) (b ++ tail) (length cs) tail) same
+    (reads-pick (m + 1) (length cs) tail (omega (arith, few)) (omega (arith, short, more))) in
+    record {
+      after_count = tail;
+      choices = map code cs;
+      counted = rw (append_assoc (pick (n + 1) (length cs)) (script_characters cs) rest, length-map cs code) counted;
+      chosen = each_read n true name rest (kebab_goes k);
+      spelt = sym (spelt n true name (kebab_goes k) (within_suffices n name (kebab_goes k) w));
     }
 
 -- a name that is short enough is within, and spelled as it is

@@ -1,5 +1,5 @@
 -- What a read returns, and which bytes it leaves. A byte past the end counts as zero, and nothing is taken for it.
-use Rattle.std.specs.Prelude.{◌≡◌, ℕ, zero, suc, ◌+◌, ◌*◌, ◌^◌, ◌%◌, ◌<◌, ◌≤◌, ◌↔◌, Bool, true, false, IsTrue, List, [], ◌∷◌, ◌++◌, drop, slice_index}
+use Rattle.std.specs.Prelude.{◌≡◌, ℕ, zero, suc, ◌+◌, ◌-◌, ◌*◌, ◌^◌, ◌%◌, ◌<◌, ◌≤◌, ◌↔◌, Bool, true, false, IsTrue, List, [], ◌∷◌, ◌++◌, drop, slice_index}
 
 -- the number that the first w bytes spell, most significant first, with zeros past the end
 abbrev pub spelled : ℕ → List ℕ → ℕ
@@ -26,12 +26,21 @@ pub record Flips (bytes : List ℕ) (answer : Bool) (rest : List ℕ) : Type 0 w
   pub bit : IsTrue answer ↔ (slice_index bytes 0 % 2 ≡ 1)
   pub left : rest ≡ drop 1 bytes
 
--- Whether a loop that has made that many turns makes another: never from max on, always below min, and otherwise by a
--- boolean.
-pub record More (done min max : ℕ) (bytes : List ℕ) (answer : Bool) (rest : List ℕ) : Type 0 where
+-- One of how many numbers in a row ends a loop: the one whose lowest bits are all 0, so many of them and at least one.
+abbrev pub one_ends_in : ℕ → ℕ
+one_ends_in bits = 2 * 2 ^ (bits - 1)
+
+-- A loop goes on unless the lowest bits of one byte are all 0, so many of them and at least one.
+pub record GoesOn (bits : ℕ) (bytes : List ℕ) (answer : Bool) (rest : List ℕ) : Type 0 where
+  pub bit : IsTrue answer ↔ (0 < slice_index bytes 0 % one_ends_in bits)
+  pub left : rest ≡ drop 1 bytes
+
+-- Whether a loop that has made that many turns makes another: never from max on, always below min, and otherwise by the
+-- lowest bits of a byte.
+pub record More (bits done min max : ℕ) (bytes : List ℕ) (answer : Bool) (rest : List ℕ) : Type 0 where
   pub full : max ≤ done → (answer ≡ false) × (rest ≡ bytes)
   pub forced : done < max → done < min → (answer ≡ true) × (rest ≡ bytes)
-  pub flipped : done < max → min ≤ done → Flips bytes answer rest
+  pub asked : done < max → min ≤ done → GoesOn bits bytes answer rest
 
 -- the bytes without some of the first
 abbrev pub IsTail : List ℕ → List ℕ → Type 0

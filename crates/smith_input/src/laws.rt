@@ -3,8 +3,9 @@
 
 ghost use Rattle.std.specs.Prelude.{◌≡◌, ℕ, ◌^◌, ◌<◌, ◌≤◌, ◌↔◌, Bool, true, false, List, [], ◌∷◌, ◌++◌, length, map};
 ghost use Rattle.std.specs.Prelude.{replicate, codes, IsUtf8};
-ghost use Rattle.smith_input.specs.Reading.{Reads, More, IsDecided, IsReadAs, LeavesTail};
-ghost use Rattle.smith_input.specs.Script.{pick, AreBytes, script_bytes, script_text, script_name};
+ghost use Rattle.smith_input.specs.Reading.{Flips, GoesOn, Reads, More, IsDecided, IsReadAs, LeavesTail};
+ghost use Rattle.smith_input.specs.Script.{pick, AreBytes, script_bytes, script_end, script_more, script_text};
+ghost use Rattle.smith_input.specs.Script.{script_name};
 ghost use Rattle.smith_input.specs.Texts.{ReadsBytes, ReadsText, ReadsNewText};
 ghost use Rattle.smith_input.specs.Kebab.{Kebab};
 ghost use Rattle.smith_input.specs.Names.{ReadsKebab, ReadsNew};
@@ -24,7 +25,7 @@ pub fn choices_are_decided()
 
 /// The bytes alone decide whether a loop goes on, and what its question leaves.
 pub fn loops_are_decided()
-    ensures { (done min max : ℕ) → IsDecided (More done min max) }
+    ensures { (bits done min max : ℕ) → IsDecided (More bits done min max) }
 {}
 
 /// A choice leaves a tail of the bytes.
@@ -34,7 +35,21 @@ pub fn choices_leave_a_tail()
 
 /// A loop's question leaves a tail of the bytes.
 pub fn loops_leave_a_tail()
-    ensures { (done min max : ℕ) → LeavesTail (More done min max) }
+    ensures { (bits done min max : ℕ) → LeavesTail (More bits done min max) }
+{}
+
+/// A loop that looks at one bit goes on by a boolean.
+pub fn one_bit_is_a_boolean()
+    ensures { (bytes : List ℕ) (answer : Bool) (rest : List ℕ)
+        → GoesOn 1 bytes answer rest ↔ Flips bytes answer rest }
+{}
+
+/// What a script says of a loop's turns is read as that, whatever number of bits the loop looks at.
+pub fn loops_keep_their_scripts()
+    ensures goes_on { (bits done min max : ℕ) → done < max
+        → IsReadAs (More bits done min max) (script_more min done) true }
+    ensures ends { (bits done min max : ℕ) → min ≤ done → done ≤ max
+        → IsReadAs (More bits done min max) (script_end done max) false }
 {}
 
 /// The script of bytes of any length is read as them.
@@ -162,6 +177,14 @@ pub fn short_names_stay()
         → script_new max count name ≡ script_name max name }
     ensures texts { (max count : ℕ) (name : List ℕ) → length name ≤ max
         → script_new_text max count name ≡ script_text max name }
+{}
+
+/// The script of a name within a length is read as it within a greater length too.
+pub fn shorter_names_stay()
+    ensures kebab { (n m : ℕ) (name : List ℕ) → 1 ≤ n → n ≤ m → m < 256 → Kebab name → is_within n name ≡ true
+        → IsReadAs (ReadsKebab m) (script_within n name) name }
+    ensures new { (n m : ℕ) (names : List (List ℕ)) (name : List ℕ) → 1 ≤ n → n ≤ m → m < 256 → Kebab name
+        → IsReachable n names name → IsReadAs (ReadsNew m names) (script_new n (length names) name) name }
 {}
 
 /// Names that can be read, and one that can't: a last `a` for which nothing is chosen, and digits twice after a text.

@@ -10,7 +10,7 @@ mod unstructured;
 
 pub use error::Error;
 pub use names::{
-    Labelled, MAX_NAME_LEN, TakenNames, new_kebab_string, new_string, unique_kebab_string,
+    Labelled, MOST_NAME_LEN, TakenNames, new_kebab_string, new_string, unique_kebab_string,
     unique_string, unique_url,
 };
 pub use offers::choose_offered;

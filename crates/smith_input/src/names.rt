@@ -14,9 +14,8 @@ use crate::{Error, Unstructured, limited_string};
 use std::alloc::Global;
 use std::collections::BTreeSet;
 
-/// How many bytes of a name are read, besides an `a` as the last word of one in kebab case, which takes none. Names of
-/// custom sections have a limit of their own. Public only for the crates above.
-pub const MAX_NAME_LEN: usize = 100;
+/// The greatest limit of how many bytes of a name are read. Public only for the crates above.
+pub const MOST_NAME_LEN: usize = 100;
 
 const HOST: &str = "https://example.com/";
 

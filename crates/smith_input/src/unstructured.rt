@@ -2,7 +2,7 @@
 
 ghost use Rattle.std.specs.Prelude.{◌≡◌, ℕ, ◌+◌, ◌-◌, ◌/◌, ◌%◌, ◌<◌, ◌≤◌, ◌↔◌, IsTrue, [], length, Some, slice_get};
 ghost use Rattle.std.specs.Prelude.{slice_index, drop};
-ghost use Rattle.smith_input.specs.Reading.{IsWidth, Reads, Flips, More, spelled};
+ghost use Rattle.smith_input.specs.Reading.{IsWidth, Reads, Flips, GoesOn, More, one_ends_in, spelled};
 
 use std::marker::Model;
 
@@ -56,6 +56,15 @@ fn remainder(byte: u8, last: u8) -> u32
     let dividend = u32::from(byte);
     let quotient = dividend * reciprocal_of(last) / 65536;
     dividend - quotient * (u32::from(last) + 1)
+}
+
+// Is one of the lowest bits of a byte 1, of so many of them and at least one?
+fn has_low_bit(byte: u8, bits: usize) -> bool
+    ensures { IsTrue result ↔ (0 < byte % one_ends_in bits) }
+{
+    let lowest = bits.max(1).min(8);
+    let mask: u32 = (1 << lowest) - 1;
+    u32::from(byte) & mask != 0
 }
 
 // How many bytes distinguish `last + 1` things.
@@ -200,11 +209,27 @@ impl<'a> Unstructured<'a> {
         self.arbitrary_u8() % 2 == 1
     }
 
-    /// Whether a loop that has made `done` turns makes another: never from `max` on and always below `min`, in both
-    /// cases without a read, and otherwise by a boolean.
+    // Whether a loop goes on: whether one of the lowest bits of one byte is 1, of so many of them and at least one.
+    fn goes_on(&mut self, bits: usize) -> bool
+        ensures { GoesOn bits self.old result self.new }
+    {
+        has_low_bit(self.arbitrary_u8(), bits)
+    }
+
+    /// Whether a loop that has made `done` turns makes another, by the lowest bit of a byte: `more_of` with one bit.
     pub fn more(&mut self, done: usize, min: usize, max: usize) -> bool
         requires { min ≤ max }
-        ensures { More done min max self.old result self.new }
+        ensures { More 1 done min max self.old result self.new }
+    {
+        self.more_of(1, done, min, max)
+    }
+
+    /// Whether a loop that has made `done` turns makes another: never from `max` on and always below `min`, in both
+    /// cases without a read. Otherwise one byte is read, and the loop ends if its lowest bits are all 0, so many of
+    /// them as `bits` says. No bits count as one.
+    pub fn more_of(&mut self, bits: usize, done: usize, min: usize, max: usize) -> bool
+        requires { min ≤ max }
+        ensures { More bits done min max self.old result self.new }
     {
         if done >= max {
             return false;
@@ -212,6 +237,6 @@ impl<'a> Unstructured<'a> {
         if done < min {
             return true;
         }
-        self.arbitrary_bool()
+        self.goes_on(bits)
     }
 }

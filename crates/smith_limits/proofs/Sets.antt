@@ -17,7 +17,8 @@ use Rattle.smith_limits.specs.Limits.{all_keys, is_name, is_switch, most_of, val
 use Rattle.smith_limits.specs.Limits.{IsBounded, IsNoInteger, Sets, first_wrong, is_no_integer, is_no_number, is_no_switch, is_wrong}
 use Rattle.smith_limits.specs.Limits.{unknown_in, value_at}
 use Rattle.smith_limits.specs.declared.keys.Key.{Key}
-use Rattle.smith_limits.specs.declared.keys.Key.TheVariants.{MinTypes, MaxTypes, MaxImports, MaxModules, MaxComponents, MaxInstances, MaxNestingDepth}
+use Rattle.smith_limits.specs.declared.keys.Key.TheVariants.{MinTypes, MaxTypes, MaxImports, MaxModules, MaxComponents, MaxInstances}
+use Rattle.smith_limits.specs.declared.keys.Key.TheVariants.{MaxNestingDepth, MaxNameLength, LoopBits}
 use Rattle.smith_limits.specs.declared.keys.Wrong.{Wrong}
 
 unknown_step : (b : Bool) (key : String Global) (rest : Option (String Global)) (unknown : Option (List ℕ))
@@ -119,6 +120,8 @@ default_bounded default is =
       components = omega arith;
       instances = omega arith;
       nesting = omega arith;
+      names = omega arith;
+      loops = omega arith;
     }
 
 pub bounded : (members : Members) (default config : Config) → IsDefault default → first_wrong members ≡ None → Sets members default config
@@ -134,4 +137,6 @@ bounded members default config is right sets =
       components = at_most MaxComponents refl default_is.components;
       instances = at_most MaxInstances refl default_is.instances;
       nesting = at_most MaxNestingDepth refl default_is.nesting;
+      names = at_most MaxNameLength refl default_is.names;
+      loops = at_most LoopBits refl default_is.loops;
     }

@@ -11,7 +11,8 @@ use Rattle.smith_limits.specs.declared.keys.Key.{Key}
 use Rattle.smith_limits.specs.declared.keys.Key.TheVariants.{MinTypes, MinImports, MinFuncs, MinMemories, MaxTypes, MaxImports, MaxFuncs}
 use Rattle.smith_limits.specs.declared.keys.Key.TheVariants.{MaxExports, MaxGlobals, MaxTables, MaxTags, MaxMemories, MaxModules, MaxComponents}
 use Rattle.smith_limits.specs.declared.keys.Key.TheVariants.{MaxInstances, MaxNestingDepth, MaxTypeSize, MultiValueEnabled, ExceptionsEnabled}
-use Rattle.smith_limits.specs.declared.keys.Key.TheVariants.{ReferenceTypesEnabled, SimdEnabled, AllowFloats, BulkMemoryEnabled, FinishAfter, MustValidate}
+use Rattle.smith_limits.specs.declared.keys.Key.TheVariants.{ReferenceTypesEnabled, SimdEnabled, AllowFloats, BulkMemoryEnabled, FinishAfter}
+use Rattle.smith_limits.specs.declared.keys.Key.TheVariants.{MaxNameLength, LoopBits, MustValidate}
 use Rattle.smith_limits.specs.declared.limits.Fault.{Fault}
 use Rattle.smith_limits.specs.declared.limits.Fault.TheVariants.{Unknown, At, Apart, OutOfMemory}
 use Rattle.smith_limits.specs.declared.limits.Pair.{Pair}
@@ -46,6 +47,8 @@ name_of SimdEnabled = codes "simd_enabled"
 name_of AllowFloats = codes "allow_floats"
 name_of BulkMemoryEnabled = codes "bulk_memory_enabled"
 name_of FinishAfter = codes "finish_after"
+name_of MaxNameLength = codes "max_name_length"
+name_of LoopBits = codes "loop_bits"
 name_of MustValidate = codes "must_validate"
 
 -- what it is, as a value of TOML
@@ -74,6 +77,8 @@ value_of c SimdEnabled = boolean c.simd_enabled
 value_of c AllowFloats = boolean c.allow_floats
 value_of c BulkMemoryEnabled = boolean c.bulk_memory_enabled
 value_of c FinishAfter = integer (pos c.finish_after)
+value_of c MaxNameLength = integer (pos c.max_name_length)
+value_of c LoopBits = integer (pos c.loop_bits)
 value_of c MustValidate = boolean c.must_validate
 
 -- all of them
@@ -81,7 +86,7 @@ abbrev pub all_keys : List Key
 all_keys =
     MinTypes ∷ MinImports ∷ MinFuncs ∷ MinMemories ∷ MaxTypes ∷ MaxImports ∷ MaxFuncs ∷ MaxExports ∷ MaxGlobals ∷ MaxTables ∷ MaxTags ∷ MaxMemories ∷
     MaxModules ∷ MaxComponents ∷ MaxInstances ∷ MaxNestingDepth ∷ MaxTypeSize ∷ MultiValueEnabled ∷ ExceptionsEnabled ∷ ReferenceTypesEnabled ∷
-    SimdEnabled ∷ AllowFloats ∷ BulkMemoryEnabled ∷ FinishAfter ∷ MustValidate ∷ []
+    SimdEnabled ∷ AllowFloats ∷ BulkMemoryEnabled ∷ FinishAfter ∷ MaxNameLength ∷ LoopBits ∷ MustValidate ∷ []
 
 -- whether it is a truth value, and not a number
 abbrev pub is_switch : Key → Bool
@@ -99,7 +104,7 @@ abbrev pub is_name : List ℕ → Bool
 is_name text = list_any (λ key. pointwise eqb (name_of key) text) all_keys
 
 -- the greatest number that it may be by itself: what is counted in 32 bits of the written bytes, how deep components
--- nest, and otherwise what 64 bits hold
+-- nest, how long names are, how many bits a byte has, and otherwise what 64 bits hold
 abbrev pub most_of : Key → ℕ
 most_of MaxTypes = 4294967295
 most_of MaxImports = 4294967295
@@ -109,6 +114,8 @@ most_of MaxModules = 4294967295
 most_of MaxComponents = 4294967295
 most_of MaxInstances = 4294967295
 most_of MaxNestingDepth = 1000
+most_of MaxNameLength = 100
+most_of LoopBits = 8
 most_of MaxTypeSize = 4294967295
 most_of _ = 18446744073709551615
 
@@ -239,7 +246,8 @@ IsRefused members default (At key wrong) = (first_wrong members ≡ Some key) ×
 IsRefused members default (Apart pair) = (config : Config) × Sets members default config × (first_apart config ≡ Some pair)
 IsRefused members default OutOfMemory = unknown_in members ≢ None
 
--- What is counted in the written bytes and added to nothing fits 32 bits, and components nest at most 1000 deep.
+-- What is counted in the written bytes and added to nothing fits 32 bits, components nest at most 1000 deep, names have at most
+-- 100 bytes, and a byte has as many bits as a loop looks at.
 pub record IsBounded (config : Config) : Type 0 where
   pub types : config.max_types ≤ max_u32
   pub imports : config.max_imports ≤ max_u32
@@ -247,3 +255,5 @@ pub record IsBounded (config : Config) : Type 0 where
   pub components : config.max_components ≤ max_u32
   pub instances : config.max_instances ≤ max_u32
   pub nesting : config.max_nesting_depth ≤ 1000
+  pub names : config.max_name_length ≤ 100
+  pub loops : config.loop_bits ≤ 8

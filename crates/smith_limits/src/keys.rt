@@ -9,7 +9,8 @@ ghost use Rattle.smith_format.specs.Consistency.{IsDefault};
 ghost use Rattle.smith_limits.specs.Limits.{first_wrong, is_name, is_switch, is_wrong, most_of, name_of, value_at};
 ghost use Rattle.smith_limits.specs.Limits.{IsBounded, IsInteger, IsNoInteger, IsWrong, Sets};
 
-use smith_format::Config;
+use smith_format::{Config, MOST_LOOP_BITS};
+use smith_input::MOST_NAME_LEN;
 use toml::{Table, Value};
 
 /// What is wrong at a limit's name.
@@ -52,11 +53,13 @@ pub enum Key {
     AllowFloats,
     BulkMemoryEnabled,
     FinishAfter,
+    MaxNameLength,
+    LoopBits,
     MustValidate,
 }
 
 /// All limits, in the order in which what is wrong is looked for.
-pub const KEYS: [Key; 25] = [
+pub const KEYS: [Key; 27] = [
     Key::MinTypes,
     Key::MinImports,
     Key::MinFuncs,
@@ -81,6 +84,8 @@ pub const KEYS: [Key; 25] = [
     Key::AllowFloats,
     Key::BulkMemoryEnabled,
     Key::FinishAfter,
+    Key::MaxNameLength,
+    Key::LoopBits,
     Key::MustValidate,
 ];
 
@@ -119,6 +124,8 @@ impl Key {
             Key::AllowFloats => "allow_floats",
             Key::BulkMemoryEnabled => "bulk_memory_enabled",
             Key::FinishAfter => "finish_after",
+            Key::MaxNameLength => "max_name_length",
+            Key::LoopBits => "loop_bits",
             Key::MustValidate => "must_validate",
         }
     }
@@ -153,6 +160,8 @@ impl Key {
             | Key::MaxInstances
             | Key::MaxTypeSize => MOST_COUNTED,
             Key::MaxNestingDepth => DEEPEST,
+            Key::MaxNameLength => MOST_NAME_LEN,
+            Key::LoopBits => MOST_LOOP_BITS,
             _ => usize::MAX,
         }
     }
@@ -268,6 +277,8 @@ fn set_over(table: &Table, base: Config) -> Config
         allow_floats: switch(table, Key::AllowFloats, base.allow_floats),
         bulk_memory_enabled: switch(table, Key::BulkMemoryEnabled, base.bulk_memory_enabled),
         finish_after: number(table, Key::FinishAfter, base.finish_after),
+        max_name_length: number(table, Key::MaxNameLength, base.max_name_length),
+        loop_bits: number(table, Key::LoopBits, base.loop_bits),
         must_validate: switch(table, Key::MustValidate, base.must_validate),
     }
 }

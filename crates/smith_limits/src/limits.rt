@@ -69,6 +69,12 @@ must_validate = false
 # The fewest sections that a component has when the input finishes it. If no input is left, it is finished whatever it
 # has.
 finish_after = 0
+# How many bytes of a name are read at most. Digits that make it new, and an a where a word is missing, come on top. At
+# most 100. The name of a custom section does not count.
+max_name_length = 100
+# How many of the lowest bits of a byte are 0 where a loop ends, as one over types or fields: with 1 every second byte
+# ends it, with 2 every fourth, with 8 one in 256. At most 8; a limit of 0 counts as 1.
+loop_bits = 1
 ";
 
 // What components that must validate may have: types, functions and exports together, modules, components and instances

@@ -36,6 +36,8 @@ small_limits = record {
   max_type_size = 10;
   finish_after = 0;
   must_validate = false;
+  max_name_length = 100;
+  loop_bits = 1;
 }
 
 -- the same, and 10 exports

@@ -49,6 +49,8 @@ fn set_limit(limits: &mut Config, word: &str) -> bool {
         "max_components" => limits.max_components = number,
         "max_instances" => limits.max_instances = number,
         "max_nesting_depth" => limits.max_nesting_depth = number,
+        "max_name_length" => limits.max_name_length = number,
+        "loop_bits" => limits.loop_bits = number,
         _ => return false,
     }
     true

@@ -1,9 +1,10 @@
 //! Answers to rows without bytes: the texts of errors, the default limits, and a component that is not written.
 
 use smith_component::{Config, Error};
-use smith_limits::{DEFAULT_LIMITS, KEYS, limits_of};
+use smith_limits::{DEFAULT_LIMITS, FUZZ_LIMITS, KEYS, limits_of, limits_of_text};
 use smith_read::{ComponentTree, PartNode, write};
 use smith_script::{Reason, ScriptError, Unkept};
+use smith_swarm::fuzz_limits;
 use std::alloc::{AllocError, Global};
 
 const ERRORS: [Error; 6] = [
@@ -64,7 +65,8 @@ pub fn texts(alloc: Global) -> Result<String, AllocError> {
     Ok(answers)
 }
 
-/// Whether the text of the default limits sets each limit, and all of them are the defaults.
+/// Whether the text of the default limits sets each limit, and all of them are the defaults; and whether the text of the
+/// profile sets its limits.
 pub fn defaults(alloc: Global) -> Result<String, AllocError> {
     let Ok(table) = toml::table_from_str(alloc, DEFAULT_LIMITS) else {
         return String::from_str(alloc, "= no limits\n");
@@ -72,7 +74,9 @@ pub fn defaults(alloc: Global) -> Result<String, AllocError> {
     // Every key of a table that sets limits is a limit, so that as many keys as limits are each of them.
     let sets_each = table.len() == KEYS.len();
     let are_defaults = limits_of(alloc, &table) == Ok(Config::default());
-    format!(in alloc; "= sets each limit: {sets_each}, all of them the defaults: {are_defaults}\n")
+    let are_fuzz = limits_of_text(alloc, FUZZ_LIMITS) == Ok(fuzz_limits());
+    format!(in alloc; "= sets each limit: {sets_each}, all of them the defaults: {are_defaults}\n\
+        = sets those of the profile: {are_fuzz}\n")
 }
 
 /// What is returned for writing a component of one core module that has no bytes, and so no preamble.

@@ -1,7 +1,6 @@
 -- What is said of what there is before each place is the script there.
 use Rattle.std.proofs.Common.{◌≡◌, ℕ, ◌+◌, ◌-◌, List, [], ◌∷◌, ◌++◌, length, refl, ap, sym, ◌∙◌, arith, true, false}
 use Rattle.std.proofs.lemmas.List.{length-map}
-use Rattle.smith_input.specs.NameScript.{script_new}
 use Rattle.smith_input.specs.Script.{pick, script_among, script_loop, script_more}
 use Rattle.smith_format.specs.declared.config.Config.{Config}
 use Rattle.smith_syntax.specs.Marked.{scope_in}
@@ -16,7 +15,7 @@ use Rattle.smith_tree.specs.Script.{script_export, script_import, script_item, s
 use Rattle.smith_tree.specs.Spaces.{after_canon as canon_behind, core_types_of, spaces_of, types_of}
 use Rattle.smith_tree.specs.Tree.{Part, Tree, custom, core_module, core_types, component, types, canons, imports, exports, add, components_in}
 use Rattle.smith_tree.specs.Tree.{exports_in, exports_of, function_count, imports_in, imports_of, parts_of}
-use Rattle.smith_tree.specs.TypeScript.{script_extern, script_ref, script_type}
+use Rattle.smith_tree.specs.TypeScript.{script_extern, script_label, script_ref, script_type}
 use Rattle.smith_tree.specs.contracts.choices.ItemPartialEq.TheImpl.{ghosts as equal}
 use Rattle.smith_tree.specs.declared.choices.Item.{Item}
 use Rattle.smith_component.proofs.Growth.{spaces-add, spaces_canon}
@@ -81,17 +80,17 @@ section_same (types ts) config outer t none known =
     (with_type_entry (marked_in config outer)) (λ xs. marked_inner config outer (add t (types xs))) (λ xs x. ap (λ (s : Preceding). s.scope) (g.step xs x))
     (λ xs x. refl) (config.max_types - length (types_of t)) own ts (ap (λ (s : Preceding). s.scope) g.start)
 section_same (canons fs) config outer t none known =
-    rows_agree (canons_grow config outer t) (canon_row_says config (marked_in config outer)) script_canon canon_behind (λ xs. spaces_of (add t (canons xs)))
+    rows_agree (canons_grow config outer t) (canon_row_says config (marked_in config outer)) (script_canon config) canon_behind (λ xs. spaces_of (add t (canons xs)))
     (λ xs x. sym (spaces_canon t xs x)) (λ xs x. refl) (config.max_funcs - function_count t) (spaces_of t) fs (sym (spaces-add t (canons [])))
 section_same (imports is) config outer t none known =
     rows_agree (imports_grow config outer t) (import_says config (marked_in config outer)) (script_import config (record { outer = outer; inner = t }))
     (λ z x. z ++ x ∷ []) (λ xs. xs) (λ xs x. refl) (λ xs x.
     ap (λ n. script_ref config (marked_inner config outer (add t (imports xs))) (totals_in outer (add t (imports xs))) true false x.to
-    ++ script_extern n x.name) (length-own-add imports_in t (imports xs)))
+    ++ script_extern config n x.name) (length-own-add imports_in t (imports xs)))
     (config.max_imports - length (imports_of t)) [] is refl
 section_same (exports es) config outer t none known =
-    rows_agree (exports_grow config outer t) (export_says config (marked_in config outer)) (script_export t) (λ z x. z ++ x ∷ []) (λ xs. xs) (λ xs x. refl)
-    (λ xs x. ap (λ n. pick (length (functions_of (with_exports t xs))) x.func ++ script_new 100 n x.name) (length-own-add exports_in t (exports xs)))
+    rows_agree (exports_grow config outer t) (export_says config (marked_in config outer)) (script_export config t) (λ z x. z ++ x ∷ []) (λ xs. xs) (λ xs x. refl)
+    (λ xs x. ap (λ n. pick (length (functions_of (with_exports t xs))) x.func ++ script_label config n x.name) (length-own-add exports_in t (exports xs)))
     (config.max_exports - length (exports_of t)) [] es refl
 
 -- A primitive among the ones that flatten as it does.

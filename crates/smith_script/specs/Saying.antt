@@ -1,6 +1,5 @@
 -- The script of a component, said of what there is before each place.
 use Rattle.std.specs.Prelude.{ℕ, ◌+◌, ◌-◌, true, false, List, [], ◌∷◌, ◌++◌, length, nat_eq, nat_lt, slice_get}
-use Rattle.smith_input.specs.NameScript.{script_new}
 use Rattle.smith_input.specs.Offers.{offers_of}
 use Rattle.smith_input.specs.Script.{pick, script_among, script_bytes, script_loop, script_text}
 use Rattle.smith_core.specs.StandInScript.{script_stand_in, stand_in_of}
@@ -8,7 +7,7 @@ use Rattle.smith_format.specs.declared.config.Config.{Config}
 use Rattle.smith_syntax.specs.Entries.{Entry, CoreEntry, ImportEntry}
 use Rattle.smith_syntax.specs.Marked.{Marked, scope_in}
 use Rattle.smith_tree.specs.CoreTypeScript.{script_core}
-use Rattle.smith_tree.specs.TypeScript.{script_extern, script_ref, script_type}
+use Rattle.smith_tree.specs.TypeScript.{script_extern, script_label, script_ref, script_type}
 use Rattle.smith_tree.specs.CanonScript.{canon_item_of, script_lift}
 use Rattle.smith_tree.specs.Turns.{turn_items}
 use Rattle.smith_tree.specs.Tree.{Canon, lift, lower, ExportEntry, Part, custom, core_module, core_types, component, types, canons, imports, exports}
@@ -35,21 +34,21 @@ abbrev pub canon_item_says : Preceding → Canon → List ℕ
 canon_item_says s c =
     script_among canons_equal.eq (offers_of ((nat_lt 0 (length s.scalars), Lower) ∷ (nat_lt 0 (length s.core_functions), Lift) ∷ [])) (canon_item_of c)
 
-abbrev pub canon_rest_says : Preceding → Canon → List ℕ
-canon_rest_says s (lift c t) = pick (length s.core_functions) c ++ script_lift (spaces_in s) t (slice_get s.types t)
-canon_rest_says s (lower f) = script_among nat_eq s.scalars f
+abbrev pub canon_rest_says : Config → Preceding → Canon → List ℕ
+canon_rest_says config s (lift c t) = pick (length s.core_functions) c ++ script_lift config (spaces_in s) t (slice_get s.types t)
+canon_rest_says config s (lower f) = script_among nat_eq s.scalars f
 
-abbrev pub canon_says : Preceding → Canon → List ℕ
-canon_says s c = canon_item_says s c ++ canon_rest_says s c
+abbrev pub canon_says : Config → Preceding → Canon → List ℕ
+canon_says config s c = canon_item_says s c ++ canon_rest_says config s c
 
 abbrev pub canon_row_says : Config → List Marked → Preceding → Canon → List ℕ
-canon_row_says config outer s c = canon_says s c
+canon_row_says config outer s c = canon_says config s c
 
 abbrev pub import_says : Config → List Marked → Preceding → ImportEntry → List ℕ
-import_says config outer s x = script_ref config s.scope s.totals true false x.to ++ script_extern s.imports x.name
+import_says config outer s x = script_ref config s.scope s.totals true false x.to ++ script_extern config s.imports x.name
 
 abbrev pub export_says : Config → List Marked → Preceding → ExportEntry → List ℕ
-export_says config outer s x = pick (length s.functions) x.func ++ script_new 100 s.exports x.name
+export_says config outer s x = pick (length s.functions) x.func ++ script_label config s.exports x.name
 
 -- a section of entries
 abbrev pub rows_say : {A : Type 0} → (Preceding → A → List ℕ) → (Preceding → A → Preceding) → ℕ → Preceding → List A → List ℕ

@@ -1,15 +1,16 @@
 //! What a component needs of the limits. No contract depends on it.
 
 use smith_format::{EntityType, FuncType, RefType, ValType};
+use smith_input::Labelled;
 use smith_read::{ComponentTree, Contents, CoreNode, DeclNode, ModuleNode, Step, Steps, TypeNode};
 use smith_scope::Nest;
-use smith_script_types::{core_size, defined_size};
-use smith_syntax::ComponentTypeRef;
+use smith_script_types::{after_front, core_size, defined_size};
+use smith_syntax::{ComponentTypeRef, DefinedType};
 use std::alloc::{AllocError, Global};
 
 /// What a component needs: how many modules, components and instances the whole tree has, and otherwise the most and
-/// the least that a component, or a module type, in it has, of entities by their kinds; and what there is that takes a
-/// feature.
+/// the least that a component, or a module type, in it has, of entities by their kinds; how many bytes of a name are
+/// read; and what there is that takes a feature.
 #[derive(Clone, Copy, Default)]
 pub(crate) struct Needs {
     pub(crate) depth: usize,
@@ -22,6 +23,7 @@ pub(crate) struct Needs {
     pub(crate) instances: usize,
     pub(crate) kinds: [usize; 5],
     pub(crate) type_size: usize,
+    pub(crate) name: usize,
     pub(crate) floats: bool,
     pub(crate) simd: bool,
     pub(crate) references: bool,
@@ -92,6 +94,22 @@ impl Extent {
     }
 }
 
+// How many bytes of a text are read. Digits at its end may have made it new, so nothing is said of it then.
+fn text_need(name: &str) -> usize {
+    match name.as_bytes().last() {
+        Some(b'0'..=b'9') => 0,
+        _ => name.len(),
+    }
+}
+
+// The same for a name in kebab case. Nothing is read for an `a` that is the last word.
+fn name_need(name: &str) -> usize {
+    if name == "a" || name.ends_with("-a") {
+        return name.len().saturating_sub(1);
+    }
+    text_need(name)
+}
+
 // Adds one, as far as there are numbers.
 fn add_one(count: &mut usize) {
     *count = count.saturating_add(1);
@@ -119,6 +137,48 @@ impl Needs {
             }
         }
         Ok(needs)
+    }
+
+    fn add_name(&mut self, name: &str) {
+        self.name = self.name.max(name_need(name));
+    }
+
+    fn add_text(&mut self, need: usize) {
+        self.name = self.name.max(need);
+    }
+
+    fn add_labels<T: Labelled>(&mut self, items: &[T]) {
+        for item in items {
+            self.add_name(item.label());
+        }
+    }
+
+    fn add_defined(&mut self, ty: &DefinedType) {
+        match ty {
+            DefinedType::Record(ty) => self.add_labels(&ty.fields),
+            DefinedType::Variant(ty) => self.add_labels(&ty.cases),
+            DefinedType::Flags(ty) => self.add_labels(&ty.fields),
+            DefinedType::Enum(ty) => self.add_labels(&ty.variants),
+            DefinedType::Primitive(_)
+            | DefinedType::List(_)
+            | DefinedType::Tuple(_)
+            | DefinedType::Option(_)
+            | DefinedType::Result(_) => {}
+        }
+    }
+
+    // The names of a module type after what the canonical ABI asks for, which is not read.
+    fn add_texts(&mut self, decls: &[ModuleNode]) {
+        for decl in after_front(decls) {
+            match decl {
+                ModuleNode::Import { module, name, .. } => {
+                    self.add_text(module.len());
+                    self.add_text(text_need(name));
+                }
+                ModuleNode::Export { name, .. } => self.add_text(text_need(name)),
+                ModuleNode::Func(_) | ModuleNode::OuterAlias { .. } => {}
+            }
+        }
     }
 
     fn add_values(&mut self, values: &[ValType]) {
@@ -172,7 +232,10 @@ impl Needs {
     fn add_core_type(&mut self, ty: &CoreNode) -> Extent {
         match ty {
             CoreNode::Func(ty) => self.add_function(ty),
-            CoreNode::Module(decls) => self.add_module(decls),
+            CoreNode::Module(decls) => {
+                self.add_module(decls);
+                self.add_texts(decls);
+            }
         }
         Extent::of_core(ty)
     }
@@ -181,8 +244,12 @@ impl Needs {
     #[cycle(types)]
     fn add_type(&mut self, ty: &TypeNode) -> Extent {
         match ty {
-            TypeNode::Defined(ty) => Extent::of_members(defined_size(ty), 0),
+            TypeNode::Defined(ty) => {
+                self.add_defined(ty);
+                Extent::of_members(defined_size(ty), 0)
+            }
             TypeNode::Func(ty) => {
+                self.add_labels(&ty.params);
                 let results = usize::from(ty.result.is_some());
                 Extent::of_members(ty.params.len().saturating_add(results), 2)
             }
@@ -197,7 +264,11 @@ impl Needs {
             extent = extent.with(match decl {
                 DeclNode::Core(ty) => self.add_core_type(ty),
                 DeclNode::Type(ty) => self.add_type(ty).nested(),
-                _ => Extent::default(),
+                DeclNode::Import { name, .. } | DeclNode::Export { name, .. } => {
+                    self.add_name(name);
+                    Extent::default()
+                }
+                DeclNode::TypeAlias { .. } | DeclNode::CoreTypeAlias { .. } => Extent::default(),
             });
         }
         extent
@@ -240,8 +311,14 @@ impl Needs {
             Step::CoreType(_) => add_one(&mut own.core_types),
             Step::Type(_) => add_one(&mut own.types),
             Step::Canon(_) => add_one(&mut own.funcs),
-            Step::Import(import) => self.add_import(own, import.to),
-            Step::Export(_) => add_one(&mut own.exports),
+            Step::Import(import) => {
+                self.add_name(&import.name);
+                self.add_import(own, import.to);
+            }
+            Step::Export(export) => {
+                self.add_name(&export.name);
+                add_one(&mut own.exports);
+            }
         }
     }
 

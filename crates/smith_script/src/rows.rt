@@ -144,7 +144,7 @@ impl Row for Func {
         _scopes: &mut NodeScopes<'a>,
         here: &mut Open<'a>,
     ) -> Result<(), Error> {
-        say_canon(given.alloc, out, here, self)?;
+        say_canon(given, out, here, self)?;
         match *self {
             Func::CanonLift {
                 func_ty,
@@ -177,7 +177,7 @@ impl Row for ImportNode {
             for_type_def: false,
         };
         say_reference(out, given.place(scopes), purpose, self.to)?;
-        say_extern(out, here.imports, &self.name)?;
+        say_extern(out, given.config, here.imports, &self.name)?;
         scopes.note_import(self.to);
         here.add_import(self)
     }
@@ -206,13 +206,13 @@ impl Row for Export {
 
     fn say<'a>(
         &'a self,
-        _given: Given<'_>,
+        given: Given<'_>,
         out: &mut Vec<u8>,
         scopes: &mut NodeScopes<'a>,
         here: &mut Open<'a>,
     ) -> Result<(), Error> {
         say_choice(out, here.functions.len(), self.func_index as usize)?;
-        say_name(out, here.exports, &self.name)?;
+        say_name(out, given.config, here.exports, &self.name)?;
         note_export(scopes, here, self.func_index);
         here.add_export(self)
     }

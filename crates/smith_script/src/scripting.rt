@@ -90,7 +90,8 @@ fn tried(alloc: Global, config: &Config, input: &[u8], bytes: &[u8]) -> Result<T
 
 // The script of a component that is well formed, as it is defined.
 fn drafted(alloc: Global, config: &Config, tree: &ComponentTree) -> Result<Draft, AllocError>
-    requires { WellFormed (shown_tree tree.now) }
+    requires formed { WellFormed (shown_tree tree.now) }
+    requires names { config.now.max_name_length ≤ 100 }
     ensures { IfOk result (IsDraft (script config.now (shown_tree tree.now))) }
 {
     let mut input = Vec::new(alloc);

@@ -4,6 +4,7 @@ use Rattle.std.specs.Option.{option_to_list}
 use Rattle.std.specs.Prelude.{Option, String}
 use Rattle.std.specs.declared.alloc.Global.{Global}
 use Rattle.smith_input.specs.Script.{script_loop, script_more}
+use Rattle.smith_format.specs.declared.config.Config.{Config}
 use Rattle.smith_syntax.specs.Entries.{Signature}
 use Rattle.smith_syntax.specs.Marked.{Marked}
 use Rattle.smith_syntax.specs.Signature.{named, signature}
@@ -21,8 +22,8 @@ module _ {A B : Type 0} (f : ℕ → B → List ℕ) (g : A → B) (min max : �
   members_map xs = turns_map 0 0 xs
 
 -- a function type over the program's fields
-pub signature_is : (own : Marked) (v : Signature) (ps : List (String Global × ComponentValType)) (r : Option ComponentValType) → signature ps r ≡ v
-    → script_signature own v ≡ script_members (λ n p. script_field own n (named p)) 0 16 ps ++ script_members (λ n v. script_val own v) 0 1 (option_to_list r)
-signature_is own v ps r e =
-    ap (script_signature own) (sym e)
-    ∙ ap (λ t. t ++ script_members (λ n v. script_val own v) 0 1 (option_to_list r)) (members_map (script_field own) named 0 16 ps)
+pub signature_is : (config : Config) (own : Marked) (v : Signature) (ps : List (String Global × ComponentValType)) (r : Option ComponentValType) → signature ps r ≡ v
+    → script_signature config own v ≡ script_members (λ n p. script_field config own n (named p)) 0 16 ps ++ script_members (λ n v. script_val own v) 0 1 (option_to_list r)
+signature_is config own v ps r e =
+    ap (script_signature config own) (sym e)
+    ∙ ap (λ t. t ++ script_members (λ n v. script_val own v) 0 1 (option_to_list r)) (members_map (script_field config own) named 0 16 ps)

@@ -26,7 +26,7 @@ mod values;
 pub use choices::{say_among, say_choice, say_contents, say_end, say_more, say_offered, say_text};
 pub use core_types::say_core;
 pub use cuts::{behind, front};
-pub use fronts::core_size;
+pub use fronts::{after_front, core_size};
 pub use fuel::defined_size;
 pub use limits::say_limits;
 pub use members::{max_results, say_core_values};

@@ -73,13 +73,13 @@ fn say_decl(
             entity,
         } => {
             say_item(out, place, declared, ModuleItem::Import)?;
-            say_core_name(out, module)?;
-            say_new_core_name(out, declared.imports_from(module), name)?;
+            say_core_name(out, place.config, module)?;
+            say_new_core_name(out, place.config, declared.imports_from(module), name)?;
             say_entity(out, place, declared, *entity)
         }
         ModuleNode::Export { name, entity } => {
             say_item(out, place, declared, ModuleItem::Export)?;
-            say_new_core_name(out, declared.exports(), name)?;
+            say_new_core_name(out, place.config, declared.exports(), name)?;
             say_entity(out, place, declared, *entity)
         }
         ModuleNode::Func(ty) => {

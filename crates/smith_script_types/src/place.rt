@@ -1,6 +1,6 @@
 //! Where a type is.
 
-ghost use Rattle.std.specs.Prelude.{◌≡◌};
+ghost use Rattle.std.specs.Prelude.{◌≡◌, ◌≤◌};
 ghost use Rattle.smith_scopes.specs.NodeScopes.{outer_marked_in, own_in, own_marked_in};
 ghost use Rattle.smith_script_types.specs.Places.{outer_at, own_at, plain_at};
 
@@ -13,6 +13,7 @@ use std::alloc::Global;
 pub struct Given<'s> {
     pub alloc: Global,
     pub config: &'s Config,
+    ghost names: { config.now.max_name_length ≤ 100 },
 }
 
 /// Where a type is: the limits, and the scopes of the types before it. Public only for the crate above.
@@ -21,6 +22,7 @@ pub struct Place<'s, 'a> {
     pub alloc: Global,
     pub config: &'s Config,
     pub scopes: &'s NodeScopes<'a>,
+    ghost names: { config.now.max_name_length ≤ 100 },
 }
 
 impl<'s> Given<'s> {

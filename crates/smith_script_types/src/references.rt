@@ -1,6 +1,6 @@
 //! What imports and exports are of, and their names.
 
-ghost use Rattle.std.specs.Prelude.{◌≡◌, nat_eq};
+ghost use Rattle.std.specs.Prelude.{◌≡◌, ◌≤◌, nat_eq};
 ghost use Rattle.smith_input.specs.Script.{script_among};
 ghost use Rattle.smith_scopes.specs.NodeScopes.{shown_marked};
 ghost use Rattle.smith_tree.specs.TypeOffers.{ref_kinds, ref_places};
@@ -13,6 +13,7 @@ use crate::choices::{say_byte, say_offered};
 use crate::names::say_name;
 use crate::place::Place;
 use crate::positions::{say_position, say_usable};
+use smith_format::Config;
 use smith_input::Error;
 use smith_scope::{Kind, NodeScope, Offer, Purpose, function_offer};
 use smith_syntax::ComponentTypeRef;
@@ -82,9 +83,10 @@ pub fn say_reference(
 }
 
 /// The name of an import or an export after that many, and that it has no URL.
-pub fn say_extern(out: &mut Vec<u8>, count: usize, name: &str) -> Result<(), Error>
-    ensures { Says result out.old out.new (script_extern count name.now) }
+pub fn say_extern(out: &mut Vec<u8>, config: &Config, count: usize, name: &str) -> Result<(), Error>
+    requires { config.now.max_name_length ≤ 100 }
+    ensures { Says result out.old out.new (script_extern config.now count name.now) }
 {
-    say_name(out, count, name)?;
+    say_name(out, config, count, name)?;
     say_byte(out, 0)
 }

@@ -90,7 +90,7 @@ pub fn say_type<'a>(
     match ty {
         TypeNode::Defined(ty) => {
             say_defined_kind(out, fuel)?;
-            say_defined(out, &scopes.nest.own, ty)?;
+            say_defined(out, given.config, &scopes.nest.own, ty)?;
             Ok(Typed {
                 left: after_defined(fuel, ty),
                 mark: scopes.nest.own.defined_mark(ty),
@@ -98,7 +98,7 @@ pub fn say_type<'a>(
         }
         TypeNode::Func(ty) => {
             say_type_kind(out, TypeKind::Function)?;
-            say_signature(out, &scopes.nest.own, ty)?;
+            say_signature(out, given.config, &scopes.nest.own, ty)?;
             Ok(Typed {
                 left: after_function(fuel, ty),
                 mark: scopes.nest.own.function_mark(ty),
@@ -160,13 +160,13 @@ fn say_decl<'a>(
         DeclNode::Import { name, to } => {
             say_choice(out, 4, 0)?;
             say_reference(out, given.place(scopes), IMPORT, *to)?;
-            say_extern(out, here.imports, name)?;
+            say_extern(out, given.config, here.imports, name)?;
             scopes.note_import(*to);
         }
         DeclNode::Export { name, to } => {
             say_declares(out, given.place(scopes), here, DeclarationItem::Export)?;
             say_reference(out, given.place(scopes), EXPORT, *to)?;
-            say_extern(out, here.exports, name)?;
+            say_extern(out, given.config, here.exports, name)?;
             scopes.add_export(*to)?;
         }
     }

@@ -1,6 +1,6 @@
 //! Types of values and of functions.
 
-ghost use Rattle.std.specs.Prelude.{List, ◌++◌, string_bytes, option_to_list};
+ghost use Rattle.std.specs.Prelude.{◌≤◌, List, ◌++◌, string_bytes, option_to_list};
 ghost use Rattle.smith_syntax.specs.Shown.{shown_defined};
 ghost use Rattle.smith_syntax.specs.Signature.{named};
 ghost use Rattle.smith_tree.specs.TypeScript.{script_case, script_defined, script_either, script_field, script_kind};
@@ -13,15 +13,18 @@ use crate::choices::{say_among, say_byte, say_choice};
 use crate::members::{Scripted, say_members};
 use crate::names::say_name;
 use crate::positions::say_usable;
+use smith_format::Config;
 use smith_input::Error;
 use smith_scope::{NodeScope, Offer};
 use smith_syntax::{ComponentValType, DefinedType, FuncType, PrimitiveValType, ResultType};
 use smith_tree::{DefinedKind, defined_kinds, primitives};
 
-// The scope that types of values refer to.
+// The scope that types of values refer to, and the limits of their names.
 #[derive(Clone, Copy)]
 struct Own<'a> {
+    config: &'a Config,
     scope: &'a NodeScope<'a>,
+    ghost names: { config.now.max_name_length ≤ 100 },
 }
 
 fn say_primitive(out: &mut Vec<u8>, ty: PrimitiveValType) -> Result<(), Error>
@@ -95,27 +98,27 @@ impl<'a> Scripted<Own<'a>> for ComponentValType {
 }
 
 impl<'a> Scripted<Own<'a>> for String {
-    ghost script = { λ own count name. script_label count (string_bytes name) };
+    ghost script = { λ own count name. script_label own.config.now count (string_bytes name) };
 
-    fn say(&self, _context: &Own<'a>, done: usize, out: &mut Vec<u8>) -> Result<(), Error> {
-        say_name(out, done, self)
+    fn say(&self, context: &Own<'a>, done: usize, out: &mut Vec<u8>) -> Result<(), Error> {
+        say_name(out, context.config, done, self)
     }
 }
 
 impl<'a> Scripted<Own<'a>> for (String, ComponentValType) {
-    ghost script = { λ own count field. script_field (shown_marked own.scope.now) count (named field) };
+    ghost script = { λ own count field. script_field own.config.now (shown_marked own.scope.now) count (named field) };
 
     fn say(&self, context: &Own<'a>, done: usize, out: &mut Vec<u8>) -> Result<(), Error> {
-        say_name(out, done, &self.0)?;
+        say_name(out, context.config, done, &self.0)?;
         say_value(out, context.scope, self.1)
     }
 }
 
 impl<'a> Scripted<Own<'a>> for (String, Option<ComponentValType>) {
-    ghost script = { λ own count case. script_case (shown_marked own.scope.now) count (named case) };
+    ghost script = { λ own count case. script_case own.config.now (shown_marked own.scope.now) count (named case) };
 
     fn say(&self, context: &Own<'a>, done: usize, out: &mut Vec<u8>) -> Result<(), Error> {
-        say_name(out, done, &self.0)?;
+        say_name(out, context.config, done, &self.0)?;
         say_maybe_value(out, context.scope, self.1)
     }
 }
@@ -137,12 +140,14 @@ fn say_list<'a, T: Scripted<Own<'a>>>(
 /// A type of values after what says that it is one.
 pub(crate) fn say_defined(
     out: &mut Vec<u8>,
+    config: &Config,
     own: &NodeScope<'_>,
     ty: &DefinedType,
 ) -> Result<(), Error>
-    ensures { Says result out.old out.new (script_defined (shown_marked own.now) (shown_defined ty.now)) }
+    requires { config.now.max_name_length ≤ 100 }
+    ensures { Says result out.old out.new (script_defined config.now (shown_marked own.now) (shown_defined ty.now)) }
 {
-    let members = &Own { scope: own };
+    let members = &Own { config, scope: own };
     match ty {
         DefinedType::Primitive(primitive) => {
             say_kind(out, DefinedKind::Primitive)?;
@@ -170,26 +175,31 @@ pub(crate) fn say_defined(
 
 fn say_result(
     out: &mut Vec<u8>,
+    config: &Config,
     own: &NodeScope<'_>,
     ty: Option<ComponentValType>,
 ) -> Result<(), Error>
+    requires { config.now.max_name_length ≤ 100 }
     ensures { Says result out.old out.new
         (script_members (λ count v. script_val (shown_marked own.now) v) 0 1 (option_to_list ty)) }
 {
+    let members = &Own { config, scope: own };
     match ty {
-        None => say_members(out, &Own { scope: own }, 0, 1, &[] as &[ComponentValType]),
-        Some(ty) => say_members(out, &Own { scope: own }, 0, 1, &[ty]),
+        None => say_members(out, members, 0, 1, &[] as &[ComponentValType]),
+        Some(ty) => say_members(out, members, 0, 1, &[ty]),
     }
 }
 
 /// The parameters of a function type, and its result or none.
 pub(crate) fn say_signature(
     out: &mut Vec<u8>,
+    config: &Config,
     own: &NodeScope<'_>,
     ty: &FuncType,
 ) -> Result<(), Error>
-    ensures { Says result out.old out.new (script_signature (shown_marked own.now) ty.now) }
+    requires { config.now.max_name_length ≤ 100 }
+    ensures { Says result out.old out.new (script_signature config.now (shown_marked own.now) ty.now) }
 {
-    say_members(out, &Own { scope: own }, 0, 16, &ty.params)?;
-    say_result(out, own, ty.result)
+    say_members(out, &Own { config, scope: own }, 0, 16, &ty.params)?;
+    say_result(out, config, own, ty.result)
 }

@@ -51,4 +51,6 @@ swarmed given input =
       bulk_memory_enabled = flag input 18;
       must_validate = given.must_validate;
       finish_after = number input 19 16;
+      max_name_length = given.max_name_length;
+      loop_bits = given.loop_bits;
     }

@@ -17,6 +17,7 @@ pub mod Everything
 pub mod Externs
 pub mod Few
 pub mod FewMemories
+pub mod FrontFound
 pub mod Fronts
 pub mod Functions
 pub mod Kept

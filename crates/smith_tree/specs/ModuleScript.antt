@@ -60,9 +60,9 @@ script_item config around s i = script_among items.eq (module_items config aroun
 abbrev pub script_decl : Config → Scope → Declared → ModuleDecl → List ℕ
 script_decl config around s (imports from name e) =
     script_item config around s item.Import
-    ++ (script_text 100 from ++ (script_new_text 100 (length (names_from from s.decls)) name ++ script_entity config s e))
+    ++ (script_text config.max_name_length from ++ (script_new_text config.max_name_length (length (names_from from s.decls)) name ++ script_entity config s e))
 script_decl config around s (exports name e) =
-    script_item config around s item.Export ++ (script_new_text 100 (length (module_export_names s.decls)) name ++ script_entity config s e)
+    script_item config around s item.Export ++ (script_new_text config.max_name_length (length (module_export_names s.decls)) name ++ script_entity config s e)
 script_decl config around s (declares f) = script_item config around s item.Type ++ core.script_function (configured config) (max_results config) f
 script_decl config around s (aliases count i) =
     script_item config around s item.Alias ++ pick (length (alias_choices around s)) (alias_place around count i)

@@ -29,12 +29,14 @@ abbrev mutual
   pub IsReadablePart : Config → Part → Tree → Type 0
   IsReadablePart config (custom name contents) before = IsUtf8 name
   IsReadablePart config (core_module text) before = StandsForModule config text
-  IsReadablePart config (core_types ts) before = AllByRecursion IsReadableCore ts
+  IsReadablePart config (core_types ts) before = AllByRecursion (IsReadableCore config) ts
   IsReadablePart config (component t) before = IsReadableRest config t ends
-  IsReadablePart config (types ts) before = AllByRecursion IsReadableType ts
+  IsReadablePart config (types ts) before = AllByRecursion (IsReadableType config) ts
   IsReadablePart config (canons fs) before = Unit {0}
-  IsReadablePart config (imports is) before = AreReachable 100 (import_names (imports_of before)) (import_names is)
-  IsReadablePart config (exports es) before = (0 < config.max_exports) × AreReachable 100 (export_names (exports_of before)) (export_names es)
+  IsReadablePart config (imports is) before =
+      AreReachable config.max_name_length (import_names (imports_of before)) (import_names is)
+  IsReadablePart config (exports es) before =
+      (0 < config.max_exports) × AreReachable config.max_name_length (export_names (exports_of before)) (export_names es)
 
 abbrev pub IsReadable : Config → Tree → Type 0
 IsReadable config tree = IsReadableRest config tree ends

@@ -52,17 +52,18 @@ script_core_types config max own ts = script_loop (λ s x. script_core config (s
 abbrev pub script_import : Config → Open → List ImportEntry → ImportEntry → List ℕ
 script_import config stack is x =
     script_ref config (marked_with_imports config stack is) (totals_of (with_imports stack is)) true false x.to
-    ++ script_extern (length (imports_of stack.inner) + length is) x.name
+    ++ script_extern config (length (imports_of stack.inner) + length is) x.name
 
 abbrev pub script_imports : Config → Open → List ImportEntry → List ℕ
 script_imports config stack is = script_loop (script_import config stack) (λ s x. s ++ x ∷ []) 0 (config.max_imports - length (imports_of stack.inner)) 0 [] is
 
 -- an export after these of the section: a choice among the component functions, and its name
-abbrev pub script_export : Tree → List ExportEntry → ExportEntry → List ℕ
-script_export t es x = pick (length (functions_of (with_exports t es))) x.func ++ script_new 100 (length (exports_of t) + length es) x.name
+abbrev pub script_export : Config → Tree → List ExportEntry → ExportEntry → List ℕ
+script_export config t es x =
+    pick (length (functions_of (with_exports t es))) x.func ++ script_new config.max_name_length (length (exports_of t) + length es) x.name
 
 abbrev pub script_exports : Config → Tree → List ExportEntry → List ℕ
-script_exports config t es = script_loop (script_export t) (λ s x. s ++ x ∷ []) 0 (config.max_exports - length (exports_of t)) 0 [] es
+script_exports config t es = script_loop (script_export config t) (λ s x. s ++ x ∷ []) 0 (config.max_exports - length (exports_of t)) 0 [] es
 
 -- The rest of a component, if these components are open around it and these parts precede it; and what follows the
 -- choice of its item in the script of a part.
@@ -80,7 +81,7 @@ abbrev mutual
   script_part (component t) config outer before = script_from t config (outer ++ before ∷ []) ends
   script_part (types ts) config outer before =
       script_types config (config.max_types - length (types_of before)) (marked_inner config outer before) (marked_in config outer) ts
-  script_part (canons fs) config outer before = script_canons (config.max_funcs - function_count before) (spaces_of before) fs
+  script_part (canons fs) config outer before = script_canons config (config.max_funcs - function_count before) (spaces_of before) fs
   script_part (imports is) config outer before = script_imports config (record { outer = outer; inner = before }) is
   script_part (exports es) config outer before = script_exports config before es
 

@@ -52,15 +52,15 @@ abbrev pub script_maybe : Marked → Option ComponentValType → List ℕ
 script_maybe own None = 0 ∷ []
 script_maybe own (Some v) = 1 ∷ script_val own v
 
--- a name of which at most 100 bytes are read, after that many names
-abbrev pub script_label : ℕ → List ℕ → List ℕ
-script_label count n = script_new 100 count n
+-- a name of which at most so many bytes are read as the limits allow, after that many names
+abbrev pub script_label : Config → ℕ → List ℕ → List ℕ
+script_label config count n = script_new config.max_name_length count n
 
-abbrev pub script_field : Marked → ℕ → Field → List ℕ
-script_field own count f = script_label count f.0 ++ script_val own f.1
+abbrev pub script_field : Config → Marked → ℕ → Field → List ℕ
+script_field config own count f = script_label config count f.0 ++ script_val own f.1
 
-abbrev pub script_case : Marked → ℕ → Case → List ℕ
-script_case own count c = script_label count c.0 ++ script_maybe own c.1
+abbrev pub script_case : Config → Marked → ℕ → Case → List ℕ
+script_case config own count c = script_label config count c.0 ++ script_maybe own c.1
 
 -- members, each of which has a script after that many before it
 abbrev pub script_members : {A : Type 0} → (ℕ → A → List ℕ) → ℕ → ℕ → List A → List ℕ
@@ -69,20 +69,20 @@ script_members f min max xs = script_loop f (λ count x. count + 1) min max 0 0 
 abbrev pub script_kind : DefinedKind → List ℕ
 script_kind k = script_among kinds.eq defined_kinds k
 
-abbrev pub script_defined : Marked → DefValType → List ℕ
-script_defined own (primitive_type p) = script_kind kind.Primitive ++ script_primitive p
-script_defined own (record_type fs) = script_kind kind.Record ++ script_members (script_field own) 1 100 fs
-script_defined own (variant_type cs) = script_kind kind.Variant ++ script_members (script_case own) 1 100 cs
-script_defined own (list_type v) = script_kind kind.List ++ script_val own v
-script_defined own (tuple_type vs) = script_kind kind.Tuple ++ script_members (λ count v. script_val own v) 1 100 vs
-script_defined own (flags_type ns) = script_kind kind.Flags ++ script_members script_label 1 32 ns
-script_defined own (enum_type ns) = script_kind kind.Enum ++ script_members script_label 1 100 ns
-script_defined own (option_type v) = script_kind kind.Option ++ script_val own v
-script_defined own (result_type ok err) = script_kind kind.Result ++ (script_maybe own ok ++ script_maybe own err)
+abbrev pub script_defined : Config → Marked → DefValType → List ℕ
+script_defined config own (primitive_type p) = script_kind kind.Primitive ++ script_primitive p
+script_defined config own (record_type fs) = script_kind kind.Record ++ script_members (script_field config own) 1 100 fs
+script_defined config own (variant_type cs) = script_kind kind.Variant ++ script_members (script_case config own) 1 100 cs
+script_defined config own (list_type v) = script_kind kind.List ++ script_val own v
+script_defined config own (tuple_type vs) = script_kind kind.Tuple ++ script_members (λ count v. script_val own v) 1 100 vs
+script_defined config own (flags_type ns) = script_kind kind.Flags ++ script_members (script_label config) 1 32 ns
+script_defined config own (enum_type ns) = script_kind kind.Enum ++ script_members (script_label config) 1 100 ns
+script_defined config own (option_type v) = script_kind kind.Option ++ script_val own v
+script_defined config own (result_type ok err) = script_kind kind.Result ++ (script_maybe own ok ++ script_maybe own err)
 
 -- the parameters, and then the result or none
-abbrev pub script_signature : Marked → Signature → List ℕ
-script_signature own s = script_members (script_field own) 0 16 s.params ++ script_members (λ count v. script_val own v) 0 1 (option_to_list s.result)
+abbrev pub script_signature : Config → Marked → Signature → List ℕ
+script_signature config own s = script_members (script_field config own) 0 16 s.params ++ script_members (λ count v. script_val own v) 0 1 (option_to_list s.result)
 
 abbrev pub script_type_kind : TypeKind → List ℕ
 script_type_kind k = script_among types.eq type_kinds k
@@ -93,17 +93,17 @@ script_scalar (Primitive p) = elim (flat_primitive p) [ None ↦ [] | Some v ↦
 script_scalar (Indexed i) = []
 
 -- parameters after that many
-abbrev pub script_params : ℕ → List Field → List ℕ
-script_params count [] = []
-script_params count (f ∷ fs) = script_label count f.0 ++ (script_scalar f.1 ++ script_params (count + 1) fs)
+abbrev pub script_params : Config → ℕ → List Field → List ℕ
+script_params config count [] = []
+script_params config count (f ∷ fs) = script_label config count f.0 ++ (script_scalar f.1 ++ script_params config (count + 1) fs)
 
 abbrev pub script_result : Option ComponentValType → List ℕ
 script_result None = []
 script_result (Some v) = script_scalar v
 
 -- the signature of a function type that is lifted: a name and a primitive for each parameter, and a primitive for the result
-abbrev pub script_lifted : Signature → List ℕ
-script_lifted s = script_params 0 s.params ++ script_result s.result
+abbrev pub script_lifted : Config → Signature → List ℕ
+script_lifted config s = script_params config 0 s.params ++ script_result s.result
 
 -- the kind of a reference, and its index
 abbrev pub kind_in : ComponentTypeRef → RefKind
@@ -127,8 +127,8 @@ script_ref config own totals for_import for_type_def r =
     ++ script_among nat_eq (ref_places own for_import (kind_in r)) (index_in r)
 
 -- a name after that many, and no URL
-abbrev pub script_extern : ℕ → List ℕ → List ℕ
-script_extern count name = script_label count name ++ 0 ∷ []
+abbrev pub script_extern : Config → ℕ → List ℕ → List ℕ
+script_extern config count name = script_label config count name ++ 0 ∷ []
 
 -- how many imports and exports a type has declared
 pub record Taken : Type 0 where
@@ -165,8 +165,8 @@ script_declares config importing own outer chosen = script_no_import importing o
 -- but a type of values.
 abbrev mutual
   pub script_type : Entry → Config → ℕ → Marked → List Marked → List ℕ
-  script_type (defined t) config fuel own outer = (if nat_le 2 fuel then script_type_kind Defined else []) ++ script_defined own t
-  script_type (function s) config fuel own outer = script_type_kind Function ++ script_signature own s
+  script_type (defined t) config fuel own outer = (if nat_le 2 fuel then script_type_kind Defined else []) ++ script_defined config own t
+  script_type (function s) config fuel own outer = script_type_kind Function ++ script_signature config own s
   script_type (component_type ds) config fuel own outer =
       script_type_kind Component ++ script_decls ds config true (fuel - 1) 0 none_taken (empty_marked own.keeps) (own ∷ outer)
   script_type (instance_type ds) config fuel own outer =
@@ -182,9 +182,9 @@ abbrev mutual
   script_decl (core_type_alias count i k) config importing fuel taken own outer =
       script_declares config importing own outer item.Alias ++ script_alias (own ∷ outer) count (λ s. length s.types + i)
   script_decl (import_decl name n r) config importing fuel taken own outer =
-      pick 4 0 ++ (script_ref config own uncounted true true r ++ script_extern taken.imports name)
+      pick 4 0 ++ (script_ref config own uncounted true true r ++ script_extern config taken.imports name)
   script_decl (export_decl name n r) config importing fuel taken own outer =
-      script_declares config importing own outer item.Export ++ (script_ref config own uncounted false true r ++ script_extern taken.exports name)
+      script_declares config importing own outer item.Export ++ (script_ref config own uncounted false true r ++ script_extern config taken.exports name)
 
   -- A byte asks for each declaration after that many, with these names. Each turn takes one from the fuel.
   pub script_decls : Decls → Config → Bool → ℕ → ℕ → Taken → Marked → List Marked → List ℕ

@@ -30,6 +30,7 @@ use Rattle.smith_syntax.specs.Places.{is_core_func, places}
 use Rattle.smith_syntax.specs.WellFormed.{FormedCore, FormedDecls, FormedEntity, core_size}
 use Rattle.smith_scope.proofs.Places.{place_found}
 use Rattle.smith_scope.proofs.Places.{length-places}
+use Rattle.smith_tree.proofs.FrontFound.{Fronted, fronted, function_decls, memory_decls, whole_front}
 use Rattle.smith_tree.specs.ModuleScript.{alias_place, front_before, may_declare, script_bit, script_decl, script_entity}
 use Rattle.smith_tree.specs.ModuleScript.{script_entity_of, script_front, script_item, script_line, script_module}
 use Rattle.smith_tree.specs.CoreTypeNeeds.{core_need}
@@ -40,10 +41,9 @@ use Rattle.smith_tree.specs.contracts.choices.ModuleItemPartialEq.TheImpl.{ghost
 use Rattle.smith_tree.specs.declared.choices.ModuleItem.{ModuleItem}
 use Rattle.smith_tree.specs.declared.choices.ModuleItem.TheVariants as item
 use Rattle.smith_types.proofs.CoreScript.{begun, behind_sayable, lasting}
-use Rattle.smith_types.proofs.FrontFound.{Fronted, fronted, whole_front}
 use Rattle.smith_types.proofs.FrontScript.{front_formed, line_absent, line_stands}
 use Rattle.smith_types.proofs.MakingCore.{choices_count}
-use Rattle.smith_types.proofs.ModuleFronts.{front_state, function_decls, memory_decls}
+use Rattle.smith_types.proofs.ModuleFronts.{front_state}
 use Rattle.smith_types.proofs.ModuleScript.{IsSayable, alias_at}
 
 -- a choice of an item by its place among the items that pass a test
@@ -86,8 +86,8 @@ module _ (config : Config) (s : Declared) (few : length s.own ≤ 2 ^ 64) where
 
 -- Declarations.
 
-small_name : (names : List (List ℕ)) (name : List ℕ) → IsReadableNewText names name → Small (script_new_text 100 (length names) name)
-small_name names name (u, made) = small_new_text 100 names name (omega arith) (utf8_bytes name u) made
+small_name : (config : Config) → config.max_name_length < 2 ^ 64 → (names : List (List ℕ)) (name : List ℕ) → IsReadableNewText config names name → Small (script_new_text config.max_name_length (length names) name)
+small_name config short names name (u, made) = small_new_text config.max_name_length names name (omega (arith, short)) (utf8_bytes name u) made
 
 module _ (config : Config) (around : Scope) where
   small_item : (s : Declared) (i : ModuleItem) → Small (script_item config around s i)
@@ -98,11 +98,11 @@ module _ (config : Config) (around : Scope) where
   small_decl : (s : Declared) (d : ModuleDecl) → IsSayable config around s d → Small (script_decl config around s d)
   small_decl s (imports from name e) h =
       small_join (small_item s item.Import)
-      (small_join (small_text 100 from (omega arith) h.text.0.0 h.text.0.1)
-      (small_join (small_name (names_from from s.decls) name h.text.1) (small_entity config s (let few = h.few in omega (arith, few)) e h.formed)))
+      (small_join (small_text config.max_name_length from (let short = h.names in omega (arith, short)) h.text.0.0 h.text.0.1)
+      (small_join (small_name config h.names (names_from from s.decls) name h.text.1) (small_entity config s (let few = h.few in omega (arith, few)) e h.formed)))
   small_decl s (exports name e) h =
       small_join (small_item s item.Export)
-      (small_join (small_name (module_export_names s.decls) name h.text) (small_entity config s (let few = h.few in omega (arith, few)) e h.formed))
+      (small_join (small_name config h.names (module_export_names s.decls) name h.text) (small_entity config s (let few = h.few in omega (arith, few)) e h.formed))
   small_decl s (declares f) h = small_join (small_item s item.Type) (small_function config f)
   small_decl s (aliases count i) h =
       let cs : List (ℕ × ℕ) = alias_choices around s in
@@ -144,9 +144,9 @@ memory_limits (Some m) f = f.limits
 -- Core types.
 module _ (config : Config) (around : Scope) where
   small_module : (fuel : ℕ) (ds : List ModuleDecl) → FormedCore (core_module ds) around.core_types → ModuleLimits config ds
-      → AreReadableModuleDecls [] ds → core_size (core_module ds) < fuel → length around.core_types ≤ 2 ^ 63
+      → IsReadableCore config (core_module ds) → core_size (core_module ds) < fuel → length around.core_types ≤ 2 ^ 63 → config.max_name_length < 2 ^ 64
       → Small (script_module config around fuel ds)
-  small_module fuel ds formed limits texts lasts few =
+  small_module fuel ds formed limits texts lasts few short =
       let x = fronted ds in
       let more : List ModuleDecl = after_front ds in
       let start : Declared = front_state fuel x.memory x.reallocs x.frees in
@@ -154,19 +154,19 @@ module _ (config : Config) (around : Scope) where
       small_join (small_front config fuel x (memory_limits x.memory ready.0))
       (subst (λ s. Small (script_loop (script_decl config around) (with_decl around.core_types) 0 100 0 s more)) (sym (begun config around fuel ds))
       (small_said (script_decl config around) (with_decl around.core_types) (IsSayable config around) (small_decl config around) 0 100 0 start more
-      (behind_sayable config around fuel ds formed limits texts lasts few)))
+      (behind_sayable config around fuel ds formed limits texts lasts few short)))
 
   small_lasting : (fuel : ℕ) (ds : List ModuleDecl) → FormedCore (core_module ds) around.core_types → ModuleLimits config ds
-      → AreReadableModuleDecls [] ds → core_need (core_module ds) ≤ fuel → length around.core_types ≤ 2 ^ 63 → (b : Bool) → nat_le 2 fuel ≡ b
+      → IsReadableCore config (core_module ds) → core_need (core_module ds) ≤ fuel → length around.core_types ≤ 2 ^ 63 → config.max_name_length < 2 ^ 64 → (b : Bool) → nat_le 2 fuel ≡ b
       → Small (if b then pick 2 1 ++ script_module config around (fuel - 1) ds else [])
-  small_lasting fuel ds formed limits texts need few true e =
+  small_lasting fuel ds formed limits texts need few short true e =
       let some : 2 ≤ fuel = grind (arith, nat_tests) in
       let lasts : core_size (core_module ds) + 2 ≤ fuel = lasting config around fuel ds need some in
-      small_join (small_byte 2 1 (omega arith) (omega arith)) (small_module (fuel - 1) ds formed limits texts (omega (arith, lasts)) few)
-  small_lasting fuel ds formed limits texts need few false e = small_none
+      small_join (small_byte 2 1 (omega arith) (omega arith)) (small_module (fuel - 1) ds formed limits texts (omega (arith, lasts)) few short)
+  small_lasting fuel ds formed limits texts need few short false e = small_none
 
   -- The script of a core type that is well formed and within the limits, whose names can be read and for which the fuel lasts.
-  pub small_core : (fuel : ℕ) (e : CoreEntry) → FormedCore e around.core_types → CoreLimits config e → IsReadableCore e → core_need e ≤ fuel
-      → length around.core_types ≤ 2 ^ 63 → Small (script_core config around fuel e)
-  small_core fuel (core_func f) formed limits texts need few = small_join (small_byte 2 0 (omega arith) (omega arith)) (small_function config f)
-  small_core fuel (core_module ds) formed limits texts need few = small_lasting fuel ds formed limits texts need few (nat_le 2 fuel) refl
+  pub small_core : (fuel : ℕ) (e : CoreEntry) → FormedCore e around.core_types → CoreLimits config e → IsReadableCore config e → core_need e ≤ fuel
+      → length around.core_types ≤ 2 ^ 63 → config.max_name_length < 2 ^ 64 → Small (script_core config around fuel e)
+  small_core fuel (core_func f) formed limits texts need few short = small_join (small_byte 2 0 (omega arith) (omega arith)) (small_function config f)
+  small_core fuel (core_module ds) formed limits texts need few short = small_lasting fuel ds formed limits texts need few short (nat_le 2 fuel) refl

@@ -1,6 +1,6 @@
 -- Which types are read: exactly the types that are well formed, of what was offered and within the limits, whose names
 -- can be read, for which there is fuel, and that nest.
-use Rattle.std.proofs.Common.{ℕ, zero, suc, ◌+◌, ◌-◌, ◌≤◌, List, [], ◌∷◌, ◌++◌, length, arith, subst, sym}
+use Rattle.std.proofs.Common.{ℕ, zero, suc, ◌+◌, ◌-◌, ◌≤◌, ◌<◌, ◌^◌, List, [], ◌∷◌, ◌++◌, length, arith, subst, sym}
 use Rattle.std.specs.Prelude.{max, ◌↔◌}
 use Rattle.smith_input.specs.Script.{AreBytes}
 use Rattle.smith_input.proofs.Utf8Bytes.{joined_bytes}
@@ -68,13 +68,13 @@ mutual
 -- What is asked of a type to be read in these scopes with that much fuel.
 abbrev Asked : Config → Marked → List Marked → ℕ → Entry → Type 0
 Asked config own outer fuel e =
-    FormedEntry e (scope_in own) (scopes_in_marked outer) × OfferedEntry e own outer × EntryLimits config e × IsReadableType e × (need e ≤ fuel)
+    FormedEntry e (scope_in own) (scopes_in_marked outer) × OfferedEntry e own outer × EntryLimits config e × IsReadableType config e × (need e ≤ fuel)
     × (length (own ∷ outer) + declaring e ≤ max (length (own ∷ outer)) config.max_nesting_depth)
 
 pub exact : (config : Config) (own : Marked) (outer : List Marked) (fuel : ℕ) (e : Entry) → config.max_nesting_depth ≤ 1000 → Fit (own ∷ outer)
-    → length (own ∷ outer) ≤ 1000
+    → length (own ∷ outer) ≤ 1000 → config.max_name_length < 2 ^ 64
     → ((bytes rest : List ℕ) × AreBytes bytes × MadeWith config own outer fuel bytes e rest) ↔ Asked config own outer fuel e
-exact config own outer fuel e deep fit few = (
+exact config own outer fuel e deep fit few short = (
   λ (bytes, rest, all, made).
       let f = made_fits made.made in
       subst (Asked config own outer fuel) (sym made.shown)
@@ -88,10 +88,11 @@ exact config own outer fuel e deep fit few = (
         lasts = lasts e config (scope_in own) (scopes_in_marked outer) (length (own ∷ outer)) fuel f (nests_within e config (length (own ∷ outer)) x) n;
         fit = fit;
         shallow = few;
+        names = short;
       } in (
         script_type e config fuel own outer ++ [],
         [],
         joined_bytes (script_type e config fuel own outer) [] (type_bytes config own outer fuel e deep sayable) tt,
-        type_read config deep own outer fuel e [] sayable,
+        type_read config short deep own outer fuel e [] sayable,
       ),
 )

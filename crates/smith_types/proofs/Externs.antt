@@ -1,4 +1,5 @@
 -- Names of imports and exports, with their URLs.
+use Rattle.smith_format.specs.declared.config.Config.{Config}
 use Rattle.std.proofs.Common.{◌≡◌, ℕ, ◌+◌, ◌||◌, Bool, true, false, cond, if◌then◌else◌, List, [], ◌∷◌, ◌++◌, length, refl, sym, ap, ◌∙◌, subst, arith}
 use Rattle.std.proofs.Common.{append-nil, bytes_eq, string_bytes}
 use Rattle.std.proofs.lemmas.List.{map-append}
@@ -44,8 +45,8 @@ module _ {A : Type 0} where
   }
 
   -- A URL was read, whose name is new.
-  pub url_read : {old new : BTreeSet (String A)} {used : List (List ℕ)} {bytes mid url rest : List ℕ} → Holds old used → Flips bytes true mid
-      → ReadsUrl 100 old new mid url rest → ReadsMaybeUrl used bytes (Some url) rest
+  pub url_read : {config : Config} {old new : BTreeSet (String A)} {used : List (List ℕ)} {bytes mid url rest : List ℕ} → Holds old used → Flips bytes true mid
+      → ReadsUrl config.max_name_length old new mid url rest → ReadsMaybeUrl config used bytes (Some url) rest
   url_read h f (text, name, is, reads, unique, kebab, gained) = a_url f (record { text = text; reads = reads; unique = new_among h unique }) (ap Some is)
 
 -- a set that loses a name that it gained

@@ -19,21 +19,15 @@ use Rattle.smith_syntax.specs.CoreLimits.{ModuleLimits}
 use Rattle.smith_syntax.specs.Entries.{CoreEntry, ModuleDecl, declares, exports}
 use Rattle.smith_syntax.specs.ModuleTypes.{entities_of, free, realloc, type_count}
 use Rattle.smith_syntax.specs.WellFormed.{FormedDecls}
+use Rattle.smith_tree.proofs.FrontFound.{Fronted, first_line, first_lines, front_decls, function_decls, in_front_is, memory_decls, whole_front}
 use Rattle.smith_types.specs.MadeCore.{FunctionLine, MemoryLine, ReadsFront, ReadsFunctionLine, ReadsLine, declined, not_allowed, taken}
 use Rattle.smith_tree.specs.CoreTypeOffers.{Declared, undeclared, with_front}
 use Rattle.smith_tree.specs.ModuleScript.{front_before, in_front, may_declare, script_asked, script_front, script_line}
-use Rattle.smith_types.proofs.FrontFound.{Fronted, first_line, first_lines, whole_front}
-use Rattle.smith_types.proofs.ModuleFronts.{HasRoomFor, free_state, front_decls, front_own, front_state, function_decls, line_allowed, memory_decls}
+use Rattle.smith_types.proofs.ModuleFronts.{HasRoomFor, free_state, front_own, front_state, line_allowed}
 use Rattle.smith_types.proofs.ModuleFronts.{realloc_state, with_line}
 use Rattle.smith_format.proofs.CoreScript.{limits_read}
 
 -- the states
-
-in_front_is : (ds front behind : List ModuleDecl) → ds ≡ front ++ behind → in_front ds behind ≡ front
-in_front_is ds front behind e =
-    let long = ap length e ∙ length-append front behind in
-    let count : length ds - length behind ≡ length front = omega (arith, long) in
-    ap (λ n. take n ds) count ∙ (ap (take (length front)) e ∙ take-append_seam front behind)
 
 state_is : (fuel : ℕ) (m : Option MemoryType) (r f : Bool) → with_front (undeclared fuel) (front_decls m r f) ≡ front_state fuel m r f
 state_is fuel None false false = refl

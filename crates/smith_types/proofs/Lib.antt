@@ -3,7 +3,6 @@ pub mod CoreScriptBytes
 pub mod Declaring
 pub mod Exact
 pub mod Externs
-pub mod FrontFound
 pub mod FrontScript
 pub mod Judged
 pub mod Lifting
@@ -25,6 +24,7 @@ pub mod ModuleScript
 pub mod ModuleTypes
 pub mod Progressing
 pub mod ReadsDeclarations
+pub mod ReadableFronts
 pub mod References
 pub mod ReferencesRead
 pub mod ScopedScript

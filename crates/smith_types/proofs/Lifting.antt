@@ -79,50 +79,50 @@ flattens_liftable {s = s} {f = f} h = record {
 
 -- parameters
 
-pub params_tail : {names : List (List ℕ)} {vs : List ValType} {b rest : List ℕ} {fs : List Field} → ReadsParams names vs b fs rest → IsTail rest b
+pub params_tail : {max : ℕ} {names : List (List ℕ)} {vs : List ValType} {b rest : List ℕ} {fs : List Field} → ReadsParams max names vs b fs rest → IsTail rest b
 params_tail no_params = tail_same _
 params_tail (a_param n p later) = tail_trans (params_tail later) (tail_trans (among_tail p) (new_tail n))
 
-params_flat : {names : List (List ℕ)} {vs : List ValType} {b rest : List ℕ} {fs : List Field} → ReadsParams names vs b fs rest
+params_flat : {max : ℕ} {names : List (List ℕ)} {vs : List ValType} {b rest : List ℕ} {fs : List Field} → ReadsParams max names vs b fs rest
     → map (λ p. flat_value p.1) fs ≡ map Some vs
 params_flat no_params = refl
 params_flat (a_param n p later) = let first = among_flat p in let more = params_flat later in λ i. first i ∷ more i
 
-params_count : {names : List (List ℕ)} {vs : List ValType} {b rest : List ℕ} {fs : List Field} → ReadsParams names vs b fs rest → length fs ≡ length vs
+params_count : {max : ℕ} {names : List (List ℕ)} {vs : List ValType} {b rest : List ℕ} {fs : List Field} → ReadsParams max names vs b fs rest → length fs ≡ length vs
 params_count no_params = refl
 params_count (a_param n p later) = let more = params_count later in omega (arith, more)
 
-params_primitive : {names : List (List ℕ)} {vs : List ValType} {b rest : List ℕ} {fs : List Field} (own : Scope) → ReadsParams names vs b fs rest
+params_primitive : {max : ℕ} {names : List (List ℕ)} {vs : List ValType} {b rest : List ℕ} {fs : List Field} (own : Scope) → ReadsParams max names vs b fs rest
     → AllByRecursion (λ p. FormedVal own p.1) fs
 params_primitive own no_params = tt
 params_primitive own (a_param n p later) = (tt, params_primitive own later)
 
-params_offered : {names : List (List ℕ)} {vs : List ValType} {b rest : List ℕ} {fs : List Field} (own : Marked) → ReadsParams names vs b fs rest
+params_offered : {max : ℕ} {names : List (List ℕ)} {vs : List ValType} {b rest : List ℕ} {fs : List Field} (own : Marked) → ReadsParams max names vs b fs rest
     → AllByRecursion (OfferedValue own) (map (λ p. p.1) fs)
 params_offered own no_params = tt
 params_offered own (a_param n p later) = (tt, params_offered own later)
 
-params_new : {names : List (List ℕ)} {vs : List ValType} {b rest : List ℕ} {fs : List Field} → ReadsParams names vs b fs rest → AreNew names (map (λ p. p.0) fs)
+params_new : {max : ℕ} {names : List (List ℕ)} {vs : List ValType} {b rest : List ℕ} {fs : List Field} → ReadsParams max names vs b fs rest → AreNew names (map (λ p. p.0) fs)
 params_new no_params = tt
 params_new (a_param n p later) = (n.unique.is_new, params_new later)
 
-params_kebab : {names : List (List ℕ)} {vs : List ValType} {b rest : List ℕ} {fs : List Field}
-    → ReadsParams names vs b fs rest → AllByRecursion Kebab (map (λ p. p.0) fs)
+params_kebab : {max : ℕ} {names : List (List ℕ)} {vs : List ValType} {b rest : List ℕ} {fs : List Field}
+    → ReadsParams max names vs b fs rest → AllByRecursion Kebab (map (λ p. p.0) fs)
 params_kebab no_params = tt
 params_kebab (a_param n p later) = (new_kebab n, params_kebab later)
 
-params_readable : {names : List (List ℕ)} {vs : List ValType} {b rest : List ℕ} {fs : List Field} → ReadsParams names vs b fs rest
-    → AreReachable 100 names (map (λ p. p.0) fs)
+params_readable : {max : ℕ} {names : List (List ℕ)} {vs : List ValType} {b rest : List ℕ} {fs : List Field} → ReadsParams max names vs b fs rest
+    → AreReachable max names (map (λ p. p.0) fs)
 params_readable no_params = tt
 params_readable (a_param n p later) = (new_reachable n, params_readable later)
 
 -- Names of parameters are in kebab case and distinct.
-pub params_named : {vs : List ValType} {b rest : List ℕ} {fs : List Field} → ReadsParams [] vs b fs rest → Named (map (λ p. p.0) fs)
+pub params_named : {max : ℕ} {vs : List ValType} {b rest : List ℕ} {fs : List Field} → ReadsParams max [] vs b fs rest → Named (map (λ p. p.0) fs)
 params_named {fs = fs} r = (params_kebab r, new_distinct [] (map (λ p. p.0) fs) (params_new r))
 
 -- signatures
 
-module _ {f : Function} {b : List ℕ} {s : Signature} {rest : List ℕ} (r : ReadsLiftedType f b s rest) where
+module _ {max : ℕ} {f : Function} {b : List ℕ} {s : Signature} {rest : List ℕ} (r : ReadsLiftedType max f b s rest) where
   pub lifted_tail : IsTail rest b
   lifted_tail = tail_trans (among_tail r.result) (params_tail r.params)
 
@@ -141,7 +141,7 @@ module _ {f : Function} {b : List ℕ} {s : Signature} {rest : List ℕ} (r : Re
   pub lifted_named : Named (map (λ p. p.0) s.params)
   lifted_named = params_named r.params
 
-  pub lifted_readable : AreReadableNames (map (λ p. p.0) s.params)
+  pub lifted_readable : AreReachable max [] (map (λ p. p.0) s.params)
   lifted_readable = params_readable r.params
 
   -- All parameters and the result are primitives, so that they are well formed in every scope.
@@ -164,21 +164,21 @@ module _ {f : Function} {b : List ℕ} {s : Signature} {rest : List ℕ} (r : Re
 
 -- The bytes decide a signature, and what it leaves.
 
-params_same : {names : List (List ℕ)} {vs : List ValType} {b r q : List ℕ} {fs gs : List Field} → ReadsParams names vs b fs r → ReadsParams names vs b gs q
+params_same : {max : ℕ} {names : List (List ℕ)} {vs : List ValType} {b r q : List ℕ} {fs gs : List Field} → ReadsParams max names vs b fs r → ReadsParams max names vs b gs q
     → (fs ≡ gs) × (r ≡ q)
 params_same no_params no_params = (refl, refl)
-params_same {names = names} {r = r} (a_param {v = v} {vs = vs} {mid = mid} {low = low} {name = a} {p = p} {fs = fs} n c more)
+params_same {max} {names = names} {r = r} (a_param {v = v} {vs = vs} {mid = mid} {low = low} {name = a} {p = p} {fs = fs} n c more)
     (a_param {name = d} {p = o} m e rest) =
     let s = new_unique n m in
     let t = among_same (subst (λ z. ReadsAmong (lifted v) z p low) s.1 c) e in
-    let M : List (List ℕ) → Type 0 = λ z. ReadsParams z vs low fs r in
-    let L : List ℕ → Type 0 = λ z. ReadsParams (names ++ d ∷ []) vs z fs r in
+    let M : List (List ℕ) → Type 0 = λ z. ReadsParams max z vs low fs r in
+    let L : List ℕ → Type 0 = λ z. ReadsParams max (names ++ d ∷ []) vs z fs r in
     let u = params_same (subst L t.1 (subst M (ap (λ z. names ++ z ∷ []) s.0) more)) rest in
     ((λ i. (s.0 i, Primitive (t.0 i)) ∷ u.0 i), u.1)
 
 -- a signature that flattens to a core function type
-pub lifted_same : {f : Function} {b r q : List ℕ} {s t : Signature} → ReadsLiftedType f b s r → ReadsLiftedType f b t q → (s ≡ t) × (r ≡ q)
-lifted_same {f} {b} {r} {q} {s} {t} x y =
+pub lifted_same : {max : ℕ} {f : Function} {b r q : List ℕ} {s t : Signature} → ReadsLiftedType max f b s r → ReadsLiftedType max f b t q → (s ≡ t) × (r ≡ q)
+lifted_same {max} {f} {b} {r} {q} {s} {t} x y =
     let p = params_same x.params y.params in
     let only : x.core_result ∷ [] ≡ y.core_result ∷ [] = sym x.only ∙ y.only in
     let result : x.core_result ≡ y.core_result = cc in
@@ -194,30 +194,30 @@ lifted_same {f} {b} {r} {q} {s} {t} x y =
 names_more : (so_far next : List Field) (x : Field) → next ≡ so_far ++ x ∷ [] → map (λ q. q.0) next ≡ map (λ q. q.0) so_far ++ x.0 ∷ []
 names_more so_far next x more = ap (map (λ q. q.0)) more ∙ map-append (λ q. q.0) so_far (x ∷ [])
 
-abbrev pub Onward : List ValType → List ℕ → ℕ → List ℕ → List Field → Type 0
-Onward core start i b so_far =
-    (fs : List Field) (rest : List ℕ) → ReadsParams (map (λ p. p.0) so_far) (drop i core) b fs rest → ReadsParams [] core start (so_far ++ fs) rest
+abbrev pub Onward : ℕ → List ValType → List ℕ → ℕ → List ℕ → List Field → Type 0
+Onward max core start i b so_far =
+    (fs : List Field) (rest : List ℕ) → ReadsParams max (map (λ p. p.0) so_far) (drop i core) b fs rest → ReadsParams max [] core start (so_far ++ fs) rest
 
-pub one_more : (core : List ValType) (start : List ℕ) (i : ℕ) (b mid low name : List ℕ) (v other : ValType) (p : PrimitiveValType) (so_far next : List Field)
+pub one_more : {max : ℕ} (core : List ValType) (start : List ℕ) (i : ℕ) (b mid low name : List ℕ) (v other : ValType) (p : PrimitiveValType) (so_far next : List Field)
     → i < length core → v ≡ get_or core i other
-    → ReadsNew 100 (map (λ q. q.0) so_far) b name mid → ReadsAmong (lifted v) mid p low → next ≡ so_far ++ (name, Primitive p) ∷ []
-    → Onward core start i b so_far → Onward core start (i + 1) low next
-one_more core start i b mid low name v other p so_far next h e n a more onward fs rest later =
+    → ReadsNew max (map (λ q. q.0) so_far) b name mid → ReadsAmong (lifted v) mid p low → next ≡ so_far ++ (name, Primitive p) ∷ []
+    → Onward max core start i b so_far → Onward max core start (i + 1) low next
+one_more {max} core start i b mid low name v other p so_far next h e n a more onward fs rest later =
     let x : Field = (name, Primitive p) in
     let names = names_more so_far next x more in
-    let M : List (List ℕ) → Type 0 = λ ns. ReadsParams ns (drop (i + 1) core) low fs rest in
-    let L : List ValType → Type 0 = λ vs. ReadsParams (map (λ q. q.0) so_far) vs b (x ∷ fs) rest in
-    let F : List Field → Type 0 = λ gs. ReadsParams [] core start gs rest in
+    let M : List (List ℕ) → Type 0 = λ ns. ReadsParams max ns (drop (i + 1) core) low fs rest in
+    let L : List ValType → Type 0 = λ vs. ReadsParams max (map (λ q. q.0) so_far) vs b (x ∷ fs) rest in
+    let F : List Field → Type 0 = λ gs. ReadsParams max [] core start gs rest in
     let left = drop_more core i other h ∙ ap (λ w. w ∷ drop (i + 1) core) (sym e) in
     let here = subst L (sym left) (a_param n a (subst M names later)) in
     let same : so_far ++ (x ∷ fs) ≡ next ++ fs = sym (append_assoc so_far (x ∷ []) fs) ∙ sym (ap (λ z. z ++ fs) more) in
     subst F same (onward (x ∷ fs) rest here)
 
-pub none_left : (core : List ValType) (start : List ℕ) (i : ℕ) (b : List ℕ) (so_far : List Field) → length core ≤ i → Onward core start i b so_far
-    → ReadsParams [] core start so_far b
-none_left core start i b so_far h onward =
-    let L : List ValType → Type 0 = λ vs. ReadsParams (map (λ q. q.0) so_far) vs b [] b in
-    let F : List Field → Type 0 = λ gs. ReadsParams [] core start gs b in
+pub none_left : {max : ℕ} (core : List ValType) (start : List ℕ) (i : ℕ) (b : List ℕ) (so_far : List Field) → length core ≤ i → Onward max core start i b so_far
+    → ReadsParams max [] core start so_far b
+none_left {max} core start i b so_far h onward =
+    let L : List ValType → Type 0 = λ vs. ReadsParams max (map (λ q. q.0) so_far) vs b [] b in
+    let F : List Field → Type 0 = λ gs. ReadsParams max [] core start gs b in
     subst F (append-nil so_far) (onward [] b (subst L (sym (drop_all i core h)) no_params))
 
 -- one item, which is the first
@@ -227,14 +227,14 @@ one_item (y ∷ []) x n e = λ i. sym e i ∷ []
 one_item (y ∷ z ∷ zs) x n e = absurd (omega (arith, n))
 
 -- The result is read after the parameters.
-pub all_lifted : (f : Function) (vs : List ValType) (v : ValType) (b mid rest : List ℕ) (fs : List Field) (p : PrimitiveValType) → vs ≡ f.0 → length f.1 ≡ 1
-    → v ≡ get_or f.1 0 v → ReadsParams [] vs b fs mid → ReadsAmong (lifted v) mid p rest
-    → ReadsLiftedType f b (record { params = fs; result = Some (Primitive p) }) rest
-all_lifted f vs v b mid rest fs p same one first params result = record {
+pub all_lifted : {max : ℕ} (f : Function) (vs : List ValType) (v : ValType) (b mid rest : List ℕ) (fs : List Field) (p : PrimitiveValType) → vs ≡ f.0 → length f.1 ≡ 1
+    → v ≡ get_or f.1 0 v → ReadsParams max [] vs b fs mid → ReadsAmong (lifted v) mid p rest
+    → ReadsLiftedType max f b (record { params = fs; result = Some (Primitive p) }) rest
+all_lifted {max} f vs v b mid rest fs p same one first params result = record {
   mid = mid;
   core_result = v;
   primitive = p;
-  params = subst (λ ws. ReadsParams [] ws b fs mid) same params;
+  params = subst (λ ws. ReadsParams max [] ws b fs mid) same params;
   only = one_item f.1 v one first;
   result = result;
   is = refl;

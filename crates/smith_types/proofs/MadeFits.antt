@@ -85,7 +85,7 @@ turn_takes n c k m a l held left fuel lasts costs one later = record {
 abbrev pub NewNames : List (List ℕ) → List (List ℕ) → Type 0
 NewNames so_far more = AreNew so_far more × AllByRecursion Kebab more
 
-new_name : {so_far : List (List ℕ)} {b name rest : List ℕ} → ReadsNew 100 so_far b name rest → NewNames so_far (name ∷ [])
+new_name : {max : ℕ} {so_far : List (List ℕ)} {b name rest : List ℕ} → ReadsNew max so_far b name rest → NewNames so_far (name ∷ [])
 new_name r = ((r.unique.is_new, tt), (new_kebab r, tt))
 
 new_append : (before ns ms : List (List ℕ)) → AreNew before ns → AreNew (before ++ ns) ms → AreNew before (ns ++ ms)
@@ -106,7 +106,7 @@ pub record Fits (config : Config) (own : Marked) (outer : List Marked) (b : List
   pub tail : IsTail rest b
   pub is : IsType (plain e) own outer
   pub limits : EntryLimits config (plain e)
-  pub readable : IsReadableType (plain e)
+  pub readable : IsReadableType config (plain e)
   pub takes : Takes (size (plain e)) (cost (plain e)) (need (plain e)) left fuel
   pub nests : Nests (plain e) config (length (own ∷ outer))
 
@@ -115,7 +115,7 @@ pub record DeclFits (config : Config) (importing : Bool) (outer : List Marked) (
   pub tail : IsTail rest b
   pub is : IsDeclaration d s.own outer
   pub limits : DeclLimits config (plain_decl d)
-  pub readable : IsReadableDecl (plain_decl d) (names s.imports) (names s.exports)
+  pub readable : IsReadableDecl config (plain_decl d) (names s.imports) (names s.exports)
   pub imports : NewNames (names s.imports) (names (import_of (plain_decl d)))
   pub exports : NewNames (names s.exports) (names (export_of (plain_decl d)))
   pub instance_imports : importing ≡ false → import_of (plain_decl d) ≡ []
@@ -131,7 +131,7 @@ pub record DeclsFit (config : Config) (importing : Bool) (outer : List Marked) (
   pub are : AreDeclarations ds s.own outer
   pub few : done ≤ 100 → done + decl_count (plain_decls ds) ≤ 100
   pub limits : DeclsLimits config (plain_decls ds)
-  pub readable : AreReadableDecls (plain_decls ds) (names s.imports) (names s.exports)
+  pub readable : AreReadableDecls config (plain_decls ds) (names s.imports) (names s.exports)
   pub imports : NewNames (names s.imports) (names (decl_imports (plain_decls ds)))
   pub exports : NewNames (names s.exports) (names (decl_exports (plain_decls ds)))
   pub instance_imports : importing ≡ false → decl_imports (plain_decls ds) ≡ []
@@ -142,7 +142,7 @@ module _ {config : Config} {own : Marked} {outer : List Marked} {b rest : List �
   fits_as : {e x : FullEntry} → e ≡ x → Fits config own outer b fuel x rest left → Fits config own outer b fuel e rest left
   fits_as same f = subst (λ z. Fits config own outer b fuel z rest left) (sym same) f
 
-  values_fit : {mid : List ℕ} {held : ℕ} {t : DefValType} → IsTail mid b → held ≤ fuel - 1 → DefinedFits own mid held t rest left
+  values_fit : {mid : List ℕ} {held : ℕ} {t : DefValType} → IsTail mid b → held ≤ fuel - 1 → DefinedFits config own mid held t rest left
       → Fits config own outer b fuel (defined t) rest left
   values_fit {held = held} {t = t} before le d = record {
     tail = tail_trans d.tail before;
@@ -153,7 +153,7 @@ module _ {config : Config} {own : Marked} {outer : List Marked} {b rest : List �
     nests = tt;
   }
 
-  function_fit : {mid : List ℕ} {s : Signature} → IsTail mid b → 0 < fuel - 1 → FunctionFits own mid (fuel - 1) s rest left
+  function_fit : {mid : List ℕ} {s : Signature} → IsTail mid b → 0 < fuel - 1 → FunctionFits config own mid (fuel - 1) s rest left
       → Fits config own outer b fuel (function s) rest left
   function_fit {s = s} before lasts f = record {
     tail = tail_trans f.tail before;
@@ -206,7 +206,7 @@ module _ {config : Config} {importing : Bool} {outer : List Marked} {s : SoFar} 
   decl_as : {d x : FullDecl} → d ≡ x → DeclFits config importing outer s b fuel x rest left → DeclFits config importing outer s b fuel d rest left
   decl_as same f = subst (λ z. DeclFits config importing outer s b fuel z rest left) (sym same) f
 
-  bare_fits : (d : FullDecl) → IsBare d → left ≡ fuel → IsTail rest b → IsReadableDecl (plain_decl d) (names s.imports) (names s.exports)
+  bare_fits : (d : FullDecl) → IsBare d → left ≡ fuel → IsTail rest b → IsReadableDecl config (plain_decl d) (names s.imports) (names s.exports)
       → NewNames (names s.imports) (names (import_of (plain_decl d))) → NewNames (names s.exports) (names (export_of (plain_decl d)))
       → (importing ≡ false → import_of (plain_decl d) ≡ []) → IfDeclared config importing outer s b fuel rest left d
   bare_fits (core_type_decl t k) bare l tail readable imports exports none is = absurd bare
@@ -250,7 +250,7 @@ one_fits : {config : Config} {importing : Bool} {outer : List Marked} {done : �
     {ds : FullDecls} → IsTail mid b → done < 100 → 0 < fuel - 1 → DeclFits config importing outer s mid (fuel - 1) d low held
     → DeclsFit config importing outer (done + 1) (after_one outer s d) low held ds rest left
     → DeclsFit config importing outer done s b fuel (then_decls d ds) rest left
-one_fits {outer = outer} {done = done} {s = s} {fuel = fuel} {held = held} {left = left} {d = d} {ds = ds} before lt lasts one later =
+one_fits {config = config} {outer = outer} {done = done} {s = s} {fuel = fuel} {held = held} {left = left} {d = d} {ds = ds} before lt lasts one later =
     let e : Decl = plain_decl d in
     let es : Decls = plain_decls ds in
     let imports = sym (names_behind s.imports (import_of d) (import_of e) (import_plain d)) in
@@ -263,8 +263,8 @@ one_fits {outer = outer} {done = done} {s = s} {fuel = fuel} {held = held} {left
       limits = (one.limits, later.limits);
       readable = (
         one.readable,
-        subst (λ z. AreReadableDecls es z (names s.exports ++ names (export_of e))) imports
-            (subst (λ z. AreReadableDecls es (names (after_one outer s d).imports) z) exports later.readable),
+        subst (λ z. AreReadableDecls config es z (names s.exports ++ names (export_of e))) imports
+            (subst (λ z. AreReadableDecls config es (names (after_one outer s d).imports) z) exports later.readable),
       );
       imports = names_after (names s.imports) (import_of e) (decl_imports es) one.imports
           (subst (λ z. NewNames z (names (decl_imports es))) imports later.imports);

@@ -23,7 +23,7 @@ use Rattle.smith_types.proofs.MadeCoreSame.{Same, made_core_same}
 -- A type as another of the same bytes and the same fuel is made: without fuel, or as a type of the chosen kind.
 
 spent_told : {config : Config} {own : Marked} {outer : List Marked} {b : List ℕ} {fuel : ℕ} {e : FullEntry} {rest : List ℕ} {left : ℕ} → fuel - 1 ≡ 0
-    → Made config own outer b fuel e rest left → (t : DefValType) × MadeDefined own b 0 t rest left × (e ≡ defined t)
+    → Made config own outer b fuel e rest left → (t : DefValType) × MadeDefined config own b 0 t rest left × (e ≡ defined t)
 spent_told none (spent_type {t = t} f d i) = (t, d, i)
 spent_told none (made_defined f c d i) = absurd (omega (arith, none, f))
 spent_told none (made_function f c d i) = absurd (omega (arith, none, f))

@@ -127,11 +127,11 @@ module _ (config : Config) (own : Marked) (b mid : List ℕ) (n : ℕ) (has : ha
   import_fits_none e none = none_fits refl has (asked e) none
 
   pub import_read : (so_far : List NamedExtern) (r : ComponentTypeRef) (x : NamedExtern) (low rest : List ℕ) → n ≡ 0
-      → ReadsRef config own uncounted true true mid r low → ReadsNamedExtern so_far low x rest
+      → ReadsRef config own uncounted true true mid r low → ReadsNamedExtern config so_far low x rest
       → ReadsImportDecl config own so_far b (import_decl x.0 x.1 r) rest
   import_read so_far r x low rest e of name = record { mid = mid; low = low; to = r; named = x; there = has; asked = asked e; of = of; name = name; is = refl }
 
 pub export_read : (config : Config) (own : Marked) (so_far : List NamedExtern) (r : ComponentTypeRef) (x : NamedExtern) (b mid rest : List ℕ) (d : FullDecl)
-    → ReadsRef config own uncounted false true b r mid → ReadsNamedExtern so_far mid x rest → d ≡ export_decl x.0 x.1 r
+    → ReadsRef config own uncounted false true b r mid → ReadsNamedExtern config so_far mid x rest → d ≡ export_decl x.0 x.1 r
     → ReadsExportDecl config own so_far b d rest
 export_read config own so_far r x b mid rest d of name is = record { mid = mid; to = r; named = x; of = of; name = name; is = is }

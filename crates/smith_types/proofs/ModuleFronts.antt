@@ -11,32 +11,16 @@ use Rattle.smith_format.specs.declared.types.EntityType.TheVariants.{Func, Memor
 use Rattle.smith_format.specs.declared.types.ExportKind.TheVariants as kind
 use Rattle.smith_format.specs.declared.types.MemoryType.{MemoryType}
 use Rattle.smith_syntax.specs.Entries.{ModuleDecl, declares, exports}
+use Rattle.smith_tree.proofs.FrontFound.{free_decls, front_decls, function_decls, realloc_decls}
 use Rattle.smith_types.specs.MadeCore.{ReadsLine, not_allowed, declined, taken, MemoryLine, ReadsFunctionLine, ReadsFront}
 use Rattle.smith_tree.specs.CoreTypeOffers.{Declared, undeclared, with_front, allows_function, allows_type}
 use Rattle.smith_syntax.specs.ModuleTypes.{realloc, free, is_export, is_of_kind, is_type, is_function_of, after_memory, after_function, after_realloc}
 use Rattle.smith_syntax.specs.ModuleTypes.{after_free, after_front}
 
--- the shapes: with an export of a memory or without, with a function that allocates or without, with one that frees or without
-
-abbrev pub memory_decls : Option MemoryType → List ModuleDecl
-memory_decls None = []
-memory_decls (Some m) = exports (codes "memory") (Memory m) ∷ []
-
--- a function type, and the export of a function of it, or nothing
-abbrev pub function_decls : List ℕ → Function → ℕ → Bool → List ModuleDecl
-function_decls name f i b = if b then declares f ∷ exports name (Func i) ∷ [] else []
-
-abbrev pub realloc_decls : Bool → List ModuleDecl
-realloc_decls r = function_decls (codes "canonical_abi_realloc") realloc 0 r
-
-abbrev pub free_decls : Bool → Bool → List ModuleDecl
-free_decls r f = function_decls (codes "canonical_abi_free") free (if r then 1 else 0) f
+-- the shapes
 
 abbrev pub front_own : Bool → Bool → List Function
 front_own r f = (if r then realloc ∷ [] else []) ++ (if f then free ∷ [] else [])
-
-abbrev pub front_decls : Option MemoryType → Bool → Bool → List ModuleDecl
-front_decls m r f = memory_decls m ++ realloc_decls r ++ free_decls r f
 
 abbrev pub front_state : ℕ → Option MemoryType → Bool → Bool → Declared
 front_state fuel m r f = record { own = front_own r f; decls = front_decls m r f; fuel = fuel }

@@ -103,11 +103,11 @@ module _ (config : Config) (around : Scope) (whole : List ModuleDecl) (limits : 
       omega (arith, types_both before (d ∷ []), counted, adds_counted own d formed, length-append own (adds around.core_types own d))
 
   -- What follows a part of the declarations can be said after it.
-  pub decls_sayable : length whole + length around.core_types ≤ 2 ^ 64 → (s : Declared) (ds : List ModuleDecl) → whole ≡ s.decls ++ ds
-      → type_count s.decls ≡ length s.own → FormedDecls around.core_types s.own ds → AreReadableModuleDecls s.decls ds → length ds < s.fuel
+  pub decls_sayable : length whole + length around.core_types ≤ 2 ^ 64 → config.max_name_length < 2 ^ 64 → (s : Declared) (ds : List ModuleDecl) → whole ≡ s.decls ++ ds
+      → type_count s.decls ≡ length s.own → FormedDecls around.core_types s.own ds → AreReadableModuleDecls config s.decls ds → length ds < s.fuel
       → Along (IsSayable config around) (with_decl around.core_types) s ds
-  decls_sayable few s [] split counted formed texts lasts = tt
-  decls_sayable few s (d ∷ ds) split counted formed texts lasts =
+  decls_sayable few short s [] split counted formed texts lasts = tt
+  decls_sayable few short s (d ∷ ds) split counted formed texts lasts =
       let next : Declared = with_decl around.core_types s d in
       let long = ap length split ∙ length-append s.decls (d ∷ ds) in (
         record {
@@ -116,7 +116,8 @@ module _ (config : Config) (around : Scope) (whole : List ModuleDecl) (limits : 
           fits = decl_fits s.own s.decls d ds split counted formed.0;
           formed = formed.0;
           text = texts.0;
+          names = short;
         },
-        decls_sayable few next ds (split ∙ sym (append_assoc s.decls (d ∷ []) ds)) (more_counted s.own s.decls d counted formed.0) formed.1 texts.1
+        decls_sayable few short next ds (split ∙ sym (append_assoc s.decls (d ∷ []) ds)) (more_counted s.own s.decls d counted formed.0) formed.1 texts.1
             (omega (arith, lasts)),
       )

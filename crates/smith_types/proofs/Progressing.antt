@@ -76,18 +76,18 @@ module _ {config : Config} {importing : Bool} {outer : List Marked} {start : Lis
       of = p.of;
     }
 
-    pub stops : (rest : List ℕ) (answer : Bool) → More done 0 100 bytes answer rest → answer ≡ false → Whole rest fuel
-    stops rest answer m e = ends rest fuel (no_more_decls (subst (λ a. More done 0 100 bytes a rest) e m) refl)
+    pub stops : (rest : List ℕ) (answer : Bool) → More config.loop_bits done 0 100 bytes answer rest → answer ≡ false → Whole rest fuel
+    stops rest answer m e = ends rest fuel (no_more_decls (subst (λ a. More config.loop_bits done 0 100 bytes a rest) e m) refl)
 
-    pub spends : (rest : List ℕ) (answer : Bool) (left : ℕ) → More done 0 100 bytes answer rest → answer ≡ true → left ≡ fuel - 1 → left ≡ 0
+    pub spends : (rest : List ℕ) (answer : Bool) (left : ℕ) → More config.loop_bits done 0 100 bytes answer rest → answer ≡ true → left ≡ fuel - 1 → left ≡ 0
         → Whole rest left
     spends rest answer left m e burnt none = ends rest left
-        (spent_decls (subst (λ a. More done 0 100 bytes a rest) e m) (sym burnt ∙ none) none)
+        (spent_decls (subst (λ a. More config.loop_bits done 0 100 bytes a rest) e m) (sym burnt ∙ none) none)
 
     pub is_full : 100 ≤ done → Whole bytes fuel
     is_full h = stops bytes false (more_full bytes h) refl
 
-    pub goes_on : (mid low : List ℕ) (answer : Bool) (held left : ℕ) (next : List Contents) (declared2 : TypeBody) → More done 0 100 bytes answer mid
+    pub goes_on : (mid low : List ℕ) (answer : Bool) (held left : ℕ) (next : List Contents) (declared2 : TypeBody) → More config.loop_bits done 0 100 bytes answer mid
         → answer ≡ true → held ≡ fuel - 1 → 0 < held → AddsDeclaration config scopes next p.so_far declared declared2 mid held low left
         → Progress config importing outer start first_fuel (done + 1) next declared2 low left
     goes_on mid low answer held left next declared2 m e burnt lasts a = record {
@@ -106,7 +106,7 @@ module _ {config : Config} {importing : Bool} {outer : List Marked} {start : Lis
           (subst (λ o. MadeDeclaration config importing o p.so_far mid held a.added low left) p.outer_is
           (subst (λ b. MadeDeclaration config b (outer_marked scopes) p.so_far mid held a.added low left) p.of a.made)) in
           let whole = p.onward (then_decls a.added ds) rest rest_fuel
-          (one_decl (subst (λ b. More done 0 100 bytes b mid) e m) (omega (arith, burnt, lasts)) here loop) in
+          (one_decl (subst (λ b. More config.loop_bits done 0 100 bytes b mid) e m) (omega (arith, burnt, lasts)) here loop) in
           subst (λ all. All all rest rest_fuel) (sym (ap (λ xs. onto xs ds) a.defs ∙ onto_more (defs_in declared) a.added ds)) whole;
     }
 

@@ -36,11 +36,11 @@ pub ref_tail : (config : Config) (own : Marked) (totals : RefTotals) (for_import
     → ReadsRef config own totals for_import for_type_def b r rest → IsTail rest b
 ref_tail config own totals for_import for_type_def b r rest h = tail_trans (among_tail h.names) (among_tail h.choice)
 
-maybe_url_tail : (used : List (List ℕ)) (b : List ℕ) (u : Option (List ℕ)) (rest : List ℕ) → ReadsMaybeUrl used b u rest → IsTail rest b
+maybe_url_tail : {config : Config} → (used : List (List ℕ)) (b : List ℕ) (u : Option (List ℕ)) (rest : List ℕ) → ReadsMaybeUrl config used b u rest → IsTail rest b
 maybe_url_tail used b u rest (no_url f) = (1, f.left)
 maybe_url_tail used b u rest (a_url f n e) = tail_trans (new_tail n) (1, f.left)
 
-pub extern_tail : (so_far : List NamedExtern) (b : List ℕ) (x : NamedExtern) (rest : List ℕ) → ReadsNamedExtern so_far b x rest → IsTail rest b
+pub extern_tail : {config : Config} → (so_far : List NamedExtern) (b : List ℕ) (x : NamedExtern) (rest : List ℕ) → ReadsNamedExtern config so_far b x rest → IsTail rest b
 extern_tail so_far b x rest r = tail_trans (maybe_url_tail (url_names so_far) r.mid x.1 rest r.url) (new_tail r.name)
 
 pub alias_tail : (scopes : List Marked) (b : List ℕ) (d : FullDecl) (rest : List ℕ) → ReadsAlias scopes b d rest → IsTail rest b
@@ -165,20 +165,20 @@ ref_same config own totals for_import for_type_def b x y r s p q =
     let v = among_same (subst Q u.1 (subst P u.0 p.names)) q.names in
     (p.is ∙ (λ i. ref_to (u.0 i) (v.0 i)) ∙ sym q.is, v.1)
 
-url_same : (used : List (List ℕ)) (b : List ℕ) (u v : Option (List ℕ)) (r s : List ℕ) → ReadsMaybeUrl used b u r → ReadsMaybeUrl used b v s → (u ≡ v) × (r ≡ s)
+url_same : {config : Config} → (used : List (List ℕ)) (b : List ℕ) (u v : Option (List ℕ)) (r s : List ℕ) → ReadsMaybeUrl config used b u r → ReadsMaybeUrl config used b v s → (u ≡ v) × (r ≡ s)
 url_same used b u v r s (no_url f) (no_url g) = (refl, (flips_unique f g).1)
 url_same used b u v r s (no_url f) (a_url g n e) = absurd (let z : false ≡ true = (flips_unique f g).0 in cc)
 url_same used b u v r s (a_url g n e) (no_url f) = absurd (let z : true ≡ false = (flips_unique g f).0 in cc)
-url_same used b u v r s (a_url {name = a} f n e) (a_url {name = c} g m h) =
-    let P : List ℕ → Type 0 = λ z. ReadsNew 100 used z a r in
+url_same {config} used b u v r s (a_url {name = a} f n e) (a_url {name = c} g m h) =
+    let P : List ℕ → Type 0 = λ z. ReadsNew config.max_name_length used z a r in
     let w = new_unique (subst P (flips_unique f g).1 n) m in
     (e ∙ ap (λ t. Some (codes "https://example.com/" ++ t)) w.0 ∙ sym h, w.1)
 
-pub extern_same : (so_far : List NamedExtern) (b : List ℕ) (x y : NamedExtern) (r s : List ℕ) → ReadsNamedExtern so_far b x r → ReadsNamedExtern so_far b y s
+pub extern_same : {config : Config} → (so_far : List NamedExtern) (b : List ℕ) (x y : NamedExtern) (r s : List ℕ) → ReadsNamedExtern config so_far b x r → ReadsNamedExtern config so_far b y s
     → (x ≡ y) × (r ≡ s)
-extern_same so_far b x y r s p q =
+extern_same {config} so_far b x y r s p q =
     let n = new_unique p.name q.name in
-    let u = url_same (url_names so_far) q.mid x.1 y.1 r s (subst (λ z. ReadsMaybeUrl (url_names so_far) z x.1 r) n.1 p.url) q.url in
+    let u = url_same (url_names so_far) q.mid x.1 y.1 r s (subst (λ z. ReadsMaybeUrl config (url_names so_far) z x.1 r) n.1 p.url) q.url in
     (λ i. (n.0 i, u.0 i), u.1)
 
 pub alias_same : (scopes : List Marked) (b : List ℕ) (d e : FullDecl) (r s : List ℕ) → ReadsAlias scopes b d r → ReadsAlias scopes b e s → (d ≡ e) × (r ≡ s)
@@ -197,14 +197,14 @@ module _ (config : Config) (own : Marked) where
   import_same imports b d e r s p q =
       let a = (reads_unique p.asked q.asked).1 in
       let o = ref_same config own _ true true q.mid p.to q.to p.low q.low (subst (λ z. ReadsRef config own _ true true z p.to p.low) a p.of) q.of in
-      let n = extern_same imports q.low p.named q.named r s (subst (λ z. ReadsNamedExtern imports z p.named r) o.1 p.name) q.name in
+      let n = extern_same imports q.low p.named q.named r s (subst (λ z. ReadsNamedExtern config imports z p.named r) o.1 p.name) q.name in
       (p.is ∙ (λ i. import_decl (n.0 i).0 (n.0 i).1 (o.0 i)) ∙ sym q.is, n.1)
 
   pub export_same : (exports : List NamedExtern) (b : List ℕ) (d e : FullDecl) (r s : List ℕ) → ReadsExportDecl config own exports b d r
       → ReadsExportDecl config own exports b e s → (d ≡ e) × (r ≡ s)
   export_same exports b d e r s p q =
       let o = ref_same config own _ false true b p.to q.to p.mid q.mid p.of q.of in
-      let n = extern_same exports q.mid p.named q.named r s (subst (λ z. ReadsNamedExtern exports z p.named r) o.1 p.name) q.name in
+      let n = extern_same exports q.mid p.named q.named r s (subst (λ z. ReadsNamedExtern config exports z p.named r) o.1 p.name) q.name in
       (p.is ∙ (λ i. export_decl (n.0 i).0 (n.0 i).1 (o.0 i)) ∙ sym q.is, n.1)
 
   pub no_import_same : (importing : Bool) (b r s : List ℕ) → NoImportDecl config importing own b r → NoImportDecl config importing own b s → r ≡ s

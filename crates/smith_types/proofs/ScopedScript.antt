@@ -1,5 +1,5 @@
 -- What the script of a type says is made of it, and the script is bytes.
-use Rattle.std.proofs.Common.{◌≡◌, ℕ, ◌+◌, ◌-◌, ◌^◌, ◌≤◌, Bool, true, false, List, [], ◌∷◌, ◌++◌, length, refl, sym, ap, ◌∙◌, subst, arith, append_assoc}
+use Rattle.std.proofs.Common.{◌≡◌, ℕ, ◌+◌, ◌-◌, ◌^◌, ◌<◌, ◌≤◌, Bool, true, false, List, [], ◌∷◌, ◌++◌, length, refl, sym, ap, ◌∙◌, subst, arith, append_assoc}
 use Rattle.std.proofs.Common.{length-append, nat_le, nat_lt, None}
 use Rattle.std.proofs.lemmas.List.{length-map, map-append}
 use Rattle.std.specs.List.{AllByRecursion}
@@ -111,7 +111,7 @@ export_allowed : (config : Config) (own : Marked) (r : ComponentTypeRef) → IsA
 export_allowed config own (to.TypeEq i) = refl
 export_allowed config own r = refl
 
-module _ (config : Config) where
+module _ (config : Config) (short : config.max_name_length < 2 ^ 64) where
   -- what follows the choice of what is declared
   declares_read : (importing : Bool) (outer : List Marked) (own : Marked) (i : DeclarationItem) (said rest : List ℕ) (P : List ℕ → Type 0)
       → P (script_no_import importing own ++ (script_declaration_item config outer own i ++ (said ++ rest)))
@@ -122,28 +122,28 @@ module _ (config : Config) where
       subst P (sym (append_assoc (a ++ b) said rest ∙ append_assoc a b (said ++ rest))) made
 
   export_read : (s : SoFar) (name rest : List ℕ) (r : ComponentTypeRef) → Holding (2 ^ 64) s.own
-      → Kebab name → IsReachable 100 (names s.exports) name → FormedRef (scope_in s.own) r → OfferedRef s.own false r
-      → ReadsExportDecl config s.own s.exports ((script_ref config s.own uncounted false true r ++ script_extern (length s.exports) name) ++ rest)
+      → Kebab name → IsReachable config.max_name_length (names s.exports) name → FormedRef (scope_in s.own) r → OfferedRef s.own false r
+      → ReadsExportDecl config s.own s.exports ((script_ref config s.own uncounted false true r ++ script_extern config (length s.exports) name) ++ rest)
       (export_decl name None r) rest
   export_read s name rest r few k made formed offered =
       let of : List ℕ = script_ref config s.own uncounted false true r in
-      let said : List ℕ = script_extern (length s.exports) name in
+      let said : List ℕ = script_extern config (length s.exports) name in
       subst (λ z. ReadsExportDecl config s.own s.exports z (export_decl name None r) rest) (sym (append_assoc of said rest)) (record {
         mid = said ++ rest;
         to = r;
         named = (name, None);
         of = ref_read config s.own uncounted false true few r (said ++ rest) formed offered refl (export_allowed config s.own r);
-        name = extern_read s.exports name rest k made;
+        name = extern_read short s.exports name rest k made;
         is = refl;
       })
 
   import_read : (s : SoFar) (name rest : List ℕ) (r : ComponentTypeRef) → Holding (2 ^ 64) s.own
-      → Kebab name → IsReachable 100 (names s.imports) name → FormedRef (scope_in s.own) r → is_type_eq r ≡ false → OfferedRef s.own true r
-      → ReadsImportDecl config s.own s.imports ((pick 4 0 ++ (script_ref config s.own uncounted true true r ++ script_extern (length s.imports) name)) ++ rest)
+      → Kebab name → IsReachable config.max_name_length (names s.imports) name → FormedRef (scope_in s.own) r → is_type_eq r ≡ false → OfferedRef s.own true r
+      → ReadsImportDecl config s.own s.imports ((pick 4 0 ++ (script_ref config s.own uncounted true true r ++ script_extern config (length s.imports) name)) ++ rest)
       (import_decl name None r) rest
   import_read s name rest r few k made formed other offered =
       let of : List ℕ = script_ref config s.own uncounted true true r in
-      let said : List ℕ = script_extern (length s.imports) name in
+      let said : List ℕ = script_extern config (length s.imports) name in
       let whole : (pick 4 0 ++ (of ++ said)) ++ rest ≡ pick 4 0 ++ (of ++ (said ++ rest)) = append_assoc (pick 4 0) (of ++ said) rest
       ∙ ap (λ z. pick 4 0 ++ z) (append_assoc of said rest) in
       subst (λ z. ReadsImportDecl config s.own s.imports z (import_decl name None r) rest) (sym whole) (record {
@@ -154,7 +154,7 @@ module _ (config : Config) where
         there = ref_there s.own r formed;
         asked = reads-pick 4 0 (of ++ (said ++ rest)) (omega arith) (omega arith);
         of = ref_read config s.own uncounted true true few r (said ++ rest) formed offered refl (import_allowed config s.own r other);
-        name = extern_read s.imports name rest k made;
+        name = extern_read short s.imports name rest k made;
         is = refl;
       })
 
@@ -162,22 +162,22 @@ module _ (config : Config) where
     mutual
       pub full_read : (e : Entry) (own : Marked) (outer : List Marked) (fuel : ℕ) (rest : List ℕ) → FormedEntry e (scope_in own) (scopes_in_marked outer)
           → OfferedEntry e own outer → EntryLimits config e
-          → IsReadableType e → Lasts e config (length (own ∷ outer)) fuel → Fit (own ∷ outer) → length (own ∷ outer) ≤ 1000
+          → IsReadableType config e → Lasts e config (length (own ∷ outer)) fuel → Fit (own ∷ outer) → length (own ∷ outer) ≤ 1000
           → (full : FullEntry) × (e ≡ plain full) × Made config own outer (script_type e config fuel own outer ++ rest) fuel full rest (fuel - cost e)
           × Small (script_type e config fuel own outer)
       full_read (defined t) own outer fuel rest f o m n l fit few =
           let types : length own.types ≤ 2 ^ 64 = (let z = fit.each.0 in omega (arith, z)) in (
             defined t,
             refl,
-            type_values own types config outer fuel t rest (f, o) n l,
-            small_join (small_if (nat_le 2 fuel) (small_type_kind Defined) small_none) (small_defined own types t (f, o)),
+            type_values config short own types outer fuel t rest (f, o) n l,
+            small_join (small_if (nat_le 2 fuel) (small_type_kind Defined) small_none) (small_defined config short own types t (f, o)),
           )
       full_read (function s) own outer fuel rest f o m n l fit few =
           let types : length own.types ≤ 2 ^ 64 = (let z = fit.each.0 in omega (arith, z)) in (
             function s,
             refl,
-            type_function own types config outer fuel s rest (f, o) n l,
-            small_join (small_type_kind Function) (small_signature own types outer s (f, o)),
+            type_function config short own types outer fuel s rest (f, o) n l,
+            small_join (small_type_kind Function) (small_signature config short own types outer s (f, o)),
           )
       full_read (component_type ds) own outer fuel rest f o m n l fit few =
           let around : Fit ((nothing_so_far (own ∷ outer)).own ∷ (own ∷ outer)) = record { many = omega (arith, few); each = (omega arith, fit.each) } in
@@ -219,7 +219,7 @@ module _ (config : Config) where
       decl_read : (d : Decl) (importing : Bool) (outer : List Marked) (s : SoFar) (fuel : ℕ) (rest : List ℕ)
           → FormedDeclaration d (scope_in s.own) (scopes_in_marked outer)
           → OfferedDecl d outer s.own
-          → DeclLimits config d → IsReadableDecl d (names s.imports) (names s.exports) → LastsDecl d config (length (s.own ∷ outer)) fuel
+          → DeclLimits config d → IsReadableDecl config d (names s.imports) (names s.exports) → LastsDecl d config (length (s.own ∷ outer)) fuel
           → Sayable importing (import_of d) (export_of d) → Holding 100 s.own → Fit (s.own ∷ outer)
           → (full : FullDecl) × (d ≡ plain_decl full) × (names (import_of d) ≡ names (import_of full)) × (names (export_of d) ≡ names (export_of full))
           × MadeDeclaration config importing outer s (script_decl d config importing fuel (taken_by s) s.own outer ++ rest) fuel full rest
@@ -233,8 +233,8 @@ module _ (config : Config) where
             refl,
             declares_read importing outer s.own item.CoreType (script_core config (scope_in s.own) fuel t) rest P
                 (made_core_type (no_import_read config s.own importing _) (item_read config outer s.own item.CoreType 2 true _ refl refl)
-                (core_read config (scope_in s.own) fuel t rest f m n l (omega (arith, held))) refl),
-            small_join (small_declares config importing s.own outer item.CoreType) (small_core config (scope_in s.own) fuel t f m n l (omega (arith, held))),
+                (core_read config (scope_in s.own) fuel t rest f m n l (omega (arith, held)) short) refl),
+            small_join (small_declares config importing s.own outer item.CoreType) (small_core config (scope_in s.own) fuel t f m n l (omega (arith, held)) short),
           )
       decl_read (type_decl e) importing outer s fuel rest f o m n l said held fit =
           let room : nat_lt (length (s.own ∷ outer)) config.max_nesting_depth ≡ true = lt-ltb (length (s.own ∷ outer)) config.max_nesting_depth l.0 in
@@ -286,7 +286,7 @@ module _ (config : Config) where
             refl,
             made_import refl (import_read s name rest r fit.each.0 said.imports.0 n f.0 f.1 o) left,
             small_join (small_byte 4 0 (omega arith) (omega arith))
-                (small_join (small_ref config s.own uncounted true true fit.each.0 r f.0 o) (small_extern (length s.imports) name said.imports.0)),
+                (small_join (small_ref config s.own uncounted true true fit.each.0 r f.0 o) (small_extern config short (length s.imports) name said.imports.0)),
           )
       decl_read (import_decl name u r) false outer s fuel rest f o m n l said held fit = absurd (no_import (said.own refl))
         where
@@ -300,23 +300,23 @@ module _ (config : Config) where
             refl,
             refl,
             refl,
-            declares_read importing outer s.own item.Export (script_ref config s.own uncounted false true r ++ script_extern (length s.exports) name) rest P
+            declares_read importing outer s.own item.Export (script_ref config s.own uncounted false true r ++ script_extern config (length s.exports) name) rest P
                 (made_export (no_import_read config s.own importing _) (item_read config outer s.own item.Export 0 _ _ refl (export_there s.own r f o))
                 (export_read s name rest r fit.each.0 said.exports.0 n f o) left),
             small_join (small_declares config importing s.own outer item.Export)
-                (small_join (small_ref config s.own uncounted false true fit.each.0 r f o) (small_extern (length s.exports) name said.exports.0)),
+                (small_join (small_ref config s.own uncounted false true fit.each.0 r f o) (small_extern config short (length s.exports) name said.exports.0)),
           )
 
       decls_read : (ds : Decls) (importing : Bool) (outer : List Marked) (s : SoFar) (fuel done : ℕ) (rest : List ℕ)
           → FormedDeclarations ds (scope_in s.own) (scopes_in_marked outer)
           → OfferedDecls ds outer s.own
-          → DeclsLimits config ds → AreReadableDecls ds (names s.imports) (names s.exports) → LastsDecls ds config (length (s.own ∷ outer)) fuel
+          → DeclsLimits config ds → AreReadableDecls config ds (names s.imports) (names s.exports) → LastsDecls ds config (length (s.own ∷ outer)) fuel
           → Sayable importing (decl_imports ds) (decl_exports ds) → done + decl_count ds ≤ 100 → Holding done s.own → Fit (s.own ∷ outer)
           → (full : FullDecls) × (ds ≡ plain_decls full) × MadeDeclarations config importing outer done s
           (script_decls ds config importing fuel done (taken_by s) s.own outer ++ rest) fuel full rest (fuel - decls_cost ds)
           × Small (script_decls ds config importing fuel done (taken_by s) s.own outer)
       decls_read no_decls importing outer s fuel done rest f o m n l said few held fit =
-          (no_decls, refl, no_more_decls (end_read 0 100 done rest (omega arith) (omega (arith, few))) (omega arith), small_end done 100)
+          (no_decls, refl, no_more_decls (end_read config.loop_bits 0 100 done rest (omega arith) (omega (arith, few))) (omega arith), small_end done 100)
       decls_read (then_decls d ds) importing outer s fuel done rest f o m n l said few held fit =
           let imported = kebabs_split (import_of d) (decl_imports ds) said.imports in
           let exported = kebabs_split (export_of d) (decl_exports ds) said.exports in
@@ -340,8 +340,8 @@ module _ (config : Config) where
           let same : place ≡ next.own = ap (λ z. marked_after z outer s.own) one.1 ∙ after_plain outer s.own one.0 in
           let imports : names s.imports ++ names (import_of d) ≡ names next.imports = names_behind s.imports (import_of one.0) (import_of d) one.2 in
           let exports : names s.exports ++ names (export_of d) ≡ names next.exports = names_behind s.exports (export_of one.0) (export_of d) one.3 in
-          let readable : AreReadableDecls ds (names next.imports) (names next.exports) = subst (λ z. AreReadableDecls ds (names next.imports) z) exports
-          (subst (λ z. AreReadableDecls ds z (names s.exports ++ names (export_of d))) imports n.1) in
+          let readable : AreReadableDecls config ds (names next.imports) (names next.exports) = subst (λ z. AreReadableDecls config ds (names next.imports) z) exports
+          (subst (λ z. AreReadableDecls config ds z (names s.exports ++ names (export_of d))) imports n.1) in
           let counts : taken ≡ taken_by next = λ i. record {
             imports = count_behind s.imports (import_of one.0) (import_of d) one.2 i;
             exports = count_behind s.exports (export_of one.0) (export_of d) one.3 i;
@@ -389,4 +389,4 @@ module _ (config : Config) where
 pub type_bytes : (config : Config) (own : Marked) (outer : List Marked) (fuel : ℕ) (e : Entry) → config.max_nesting_depth ≤ 1000
     → IsSayable config own outer fuel e → AreBytes (script_type e config fuel own outer)
 type_bytes config own outer fuel e deep said =
-    (full_read config deep e own outer fuel [] said.formed said.offered said.limits said.readable said.lasts said.fit said.shallow).3.are
+    (full_read config said.names deep e own outer fuel [] said.formed said.offered said.limits said.readable said.lasts said.fit said.shallow).3.are

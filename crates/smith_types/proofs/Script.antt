@@ -86,10 +86,10 @@ kind_place kind.Option = (7, refl)
 kind_place kind.Result = (8, refl)
 
 -- the kind that a script says
-kind_read : (own : Marked) (k : DefinedKind) (said rest : List ℕ) (fuel : ℕ) (t : DefValType) (left : ℕ) → MadeAs own k (said ++ rest) fuel t rest left
-    → MadeDefined own ((script_kind k ++ said) ++ rest) fuel t rest left
-kind_read own k said rest fuel t left made =
-    let P : List ℕ → Type 0 = λ b. MadeDefined own b fuel t rest left in
+kind_read : {config : Config} (own : Marked) (k : DefinedKind) (said rest : List ℕ) (fuel : ℕ) (t : DefValType) (left : ℕ) → MadeAs config own k (said ++ rest) fuel t rest left
+    → MadeDefined config own ((script_kind k ++ said) ++ rest) fuel t rest left
+kind_read {config} own k said rest fuel t left made =
+    let P : List ℕ → Type 0 = λ b. MadeDefined config own b fuel t rest left in
     let at = kind_place k in
     subst P (sym (append_assoc (script_kind k) said rest)) (record {
       kind = k;
@@ -115,7 +115,7 @@ val_primitive own p rest false e = either_primitive (some (length (value_places 
     some : (n : ℕ) → nat_eq n 0 ≡ false → 0 < n
     some n h = grind (arith, nat_tests)
 
-module _ (own : Marked) (few : length own.types ≤ 2 ^ 64) where
+module _ (config : Config) (short : config.max_name_length < 2 ^ 64) (own : Marked) (few : length own.types ≤ 2 ^ 64) where
   val_read : (v : ComponentValType) (rest : List ℕ) → IsValue own v → ReadsVal own (script_val own v ++ rest) v rest
   val_read (Primitive p) rest f =
       let P : List ℕ → Type 0 = λ b. ReadsVal own b (Primitive p) rest in
@@ -133,13 +133,13 @@ module _ (own : Marked) (few : length own.types ≤ 2 ^ 64) where
   maybe_read None rest f = absent (flips_zero rest)
   maybe_read (Some v) rest f = present (flips_one (script_val own v ++ rest)) (val_read v rest (f.0, f.1.0))
 
-  field_read : (so_far : List Field) (x : Field) (rest : List ℕ) → IsReady (λ y. y.0) (λ y. IsValue own y.1) so_far x
-      → ReadsNamed (ReadsVal own) so_far (script_field own (length so_far) x ++ rest) x rest
-  field_read so_far x rest r = named_read (ReadsVal own) (script_val own) (IsValue own) val_read so_far x rest r
+  field_read : (so_far : List Field) (x : Field) (rest : List ℕ) → IsReady config (λ y. y.0) (λ y. IsValue own y.1) so_far x
+      → ReadsNamed config (ReadsVal own) so_far (script_field config own (length so_far) x ++ rest) x rest
+  field_read so_far x rest r = named_read short (ReadsVal own) (script_val own) (IsValue own) val_read so_far x rest r
 
-  case_read : (so_far : List Case) (x : Case) (rest : List ℕ) → IsReady (λ y. y.0) (λ y. IsMaybe own y.1) so_far x
-      → ReadsNamed (ReadsMaybe own) so_far (script_case own (length so_far) x ++ rest) x rest
-  case_read so_far x rest r = named_read (ReadsMaybe own) (script_maybe own) (IsMaybe own) maybe_read so_far x rest r
+  case_read : (so_far : List Case) (x : Case) (rest : List ℕ) → IsReady config (λ y. y.0) (λ y. IsMaybe own y.1) so_far x
+      → ReadsNamed config (ReadsMaybe own) so_far (script_case config own (length so_far) x ++ rest) x rest
+  case_read so_far x rest r = named_read short (ReadsMaybe own) (script_maybe own) (IsMaybe own) maybe_read so_far x rest r
 
   vals_ready : (vs so_far : List ComponentValType) → AllByRecursion (IsValue own) vs → Ready (λ so_far. IsValue own) so_far vs
   vals_ready [] so_far all = tt
@@ -156,29 +156,29 @@ module _ (own : Marked) (few : length own.types ≤ 2 ^ 64) where
       (of : List A → DefValType)
       → ((so_far : List A) (x : A) (rest : List ℕ) → P so_far x → Member so_far (f (length so_far) x ++ rest) x rest)
       → (xs : List A) (fuel : ℕ) (rest : List ℕ) → Ready P [] xs → 1 ≤ length xs → length xs ≤ max → length xs + 1 ≤ fuel
-      → (left : ℕ) × (left + length xs ≡ fuel) × MadeMembers Member max of (script_members f 1 max xs ++ rest) fuel (of xs) rest left
+      → (left : ℕ) × (left + length xs ≡ fuel) × MadeMembers config Member max of (script_members f 1 max xs ++ rest) fuel (of xs) rest left
   made_members Member f P max of one xs fuel rest ready some few lasts =
-      let r = members_read Member f P one xs fuel rest ready some few lasts in
+      let r = members_read config Member f P one xs fuel rest ready some few lasts in
       (r.0, r.1, (xs, r.2, some_members of xs some))
 
-  labels_made : (max : ℕ) (of : List (List ℕ) → DefValType) (ns : List (List ℕ)) (fuel : ℕ) (rest : List ℕ) → Named ns → AreReadableNames ns → 1 ≤ length ns
+  labels_made : (max : ℕ) (of : List (List ℕ) → DefValType) (ns : List (List ℕ)) (fuel : ℕ) (rest : List ℕ) → Named ns → AreReadableNames config ns → 1 ≤ length ns
       → length ns ≤ max → length ns + 1 ≤ fuel → (left : ℕ) × (left + length ns ≡ fuel)
-      × MadeMembers (ReadsNew 100) max of (script_members script_label 1 max ns ++ rest) fuel (of ns) rest left
+      × MadeMembers config (ReadsNew config.max_name_length) max of (script_members (script_label config) 1 max ns ++ rest) fuel (of ns) rest left
   labels_made max of ns fuel rest n r some most lasts =
       let same = sym (map-id ns) in
-      made_members (ReadsNew 100) script_label (IsReady (λ y. y) (λ y. Unit {0})) max of label_read ns fuel rest
-      (named_ready (λ y. y) (λ y. Unit {0}) ns (subst Named same n) (subst AreReadableNames same r) (all_unit ns)) some most lasts
+      made_members (ReadsNew config.max_name_length) (script_label config) (IsReady config (λ y. y) (λ y. Unit {0})) max of (label_read config short) ns fuel rest
+      (named_ready config (λ y. y) (λ y. Unit {0}) ns (subst Named same n) (subst (AreReadableNames config) same r) (all_unit ns)) some most lasts
 
-  defined_read : (fuel : ℕ) (t : DefValType) (rest : List ℕ) → IsDefined own t → IsReadableDefined t → LastsDefined (fuel + 1) t
-      → (left : ℕ) × (left + defined_size t ≡ fuel) × MadeDefined own (script_defined own t ++ rest) fuel t rest left
+  defined_read : (fuel : ℕ) (t : DefValType) (rest : List ℕ) → IsDefined own t → IsReadableDefined config t → LastsDefined (fuel + 1) t
+      → (left : ℕ) × (left + defined_size t ≡ fuel) × MadeDefined config own (script_defined config own t ++ rest) fuel t rest left
   defined_read fuel (primitive_type p) rest f n l = (fuel, omega arith, kind_read own kind.Primitive _ rest fuel _ fuel (p, primitive_read p rest, refl, refl))
   defined_read fuel (record_type fs) rest f n l =
-      let r = made_members (ReadsNamed (ReadsVal own)) (script_field own) (IsReady (λ y. y.0) (λ y. IsValue own y.1)) 100 record_type field_read fs fuel rest
-      (named_ready (λ y. y.0) (λ y. IsValue own y.1) fs f.0.0 n (fields_are own fs f.0.1 f.1)) f.0.2 f.0.3 (omega (arith, l)) in
+      let r = made_members (ReadsNamed config (ReadsVal own)) (script_field config own) (IsReady config (λ y. y.0) (λ y. IsValue own y.1)) 100 record_type field_read fs fuel rest
+      (named_ready config (λ y. y.0) (λ y. IsValue own y.1) fs f.0.0 n (fields_are own fs f.0.1 f.1)) f.0.2 f.0.3 (omega (arith, l)) in
       (r.0, r.1, kind_read own kind.Record _ rest fuel _ r.0 r.2)
   defined_read fuel (variant_type cs) rest f n l =
-      let r = made_members (ReadsNamed (ReadsMaybe own)) (script_case own) (IsReady (λ y. y.0) (λ y. IsMaybe own y.1)) 100 variant_type case_read cs fuel
-      rest (named_ready (λ y. y.0) (λ y. IsMaybe own y.1) cs f.0.0 n (cases_are own cs f.0.1 f.1)) f.0.2 f.0.3 (omega (arith, l)) in
+      let r = made_members (ReadsNamed config (ReadsMaybe own)) (script_case config own) (IsReady config (λ y. y.0) (λ y. IsMaybe own y.1)) 100 variant_type case_read cs fuel
+      rest (named_ready config (λ y. y.0) (λ y. IsMaybe own y.1) cs f.0.0 n (cases_are own cs f.0.1 f.1)) f.0.2 f.0.3 (omega (arith, l)) in
       (r.0, r.1, kind_read own kind.Variant _ rest fuel _ r.0 r.2)
   defined_read fuel (list_type v) rest f n l = (fuel, omega arith, kind_read own kind.List _ rest fuel _ fuel (v, val_read v rest (f.0, f.1.0), refl, refl))
   defined_read fuel (tuple_type vs) rest f n l =
@@ -198,48 +198,48 @@ module _ (own : Marked) (few : length own.types ≤ 2 ^ 64) where
       let there : IsMaybe own err = (f.0.1, all_back (OfferedValue own) (option_to_list ok) (option_to_list err) f.1) in
       let first : List ℕ = script_maybe own ok in
       let second : List ℕ = script_maybe own err in
-      let P : List ℕ → Type 0 = λ b. MadeAs own kind.Result b fuel (result_type ok err) rest fuel in
+      let P : List ℕ → Type 0 = λ b. MadeAs config own kind.Result b fuel (result_type ok err) rest fuel in
       let made : P (first ++ (second ++ rest)) = (ok, second ++ rest, maybe_read ok (second ++ rest) here, err, maybe_read err rest there, refl, refl) in
       (fuel, omega arith, kind_read own kind.Result (first ++ second) rest fuel _ fuel (subst P (sym (append_assoc first second rest)) made))
 
   -- functions
 
   function_read : (outer : List Marked) (fuel : ℕ) (s : Signature) (rest : List ℕ) → IsType (function s) own outer
-      → AreReadableNames (map (λ p. p.0) s.params) → size (function s) + 2 ≤ fuel + 1
-      → (left : ℕ) × (left + size (function s) ≡ fuel) × MadeFunction own (script_signature own s ++ rest) fuel s rest left
+      → AreReadableNames config (map (λ p. p.0) s.params) → size (function s) + 2 ≤ fuel + 1
+      → (left : ℕ) × (left + size (function s) ≡ fuel) × MadeFunction config own (script_signature config own s ++ rest) fuel s rest left
   function_read outer fuel s rest f n l =
       let params = fields_are own s.params f.0.1 (all_front (OfferedValue own) (map (λ p. p.1) s.params) (option_to_list s.result) f.1) in
       let result = one_are own s.result (f.0.3, all_back (OfferedValue own) (map (λ p. p.1) s.params) (option_to_list s.result) f.1) in
-      let said : List ℕ = script_members (script_field own) 0 16 s.params in
+      let said : List ℕ = script_members (script_field config own) 0 16 s.params in
       let gives : List ℕ = script_members (λ count v. script_val own v) 0 1 (option_to_list s.result) in
-      let p = members_read {min = 0} {max = 16} (ReadsNamed (ReadsVal own)) (script_field own) (IsReady (λ y. y.0) (λ y. IsValue own y.1)) field_read s.params
-      fuel (gives ++ rest) (named_ready (λ y. y.0) (λ y. IsValue own y.1) s.params f.0.0 n params) (omega arith) f.0.2 (omega (arith, l)) in
-      let g = members_read {min = 0} {max = 1} (λ so_far. ReadsVal own) (λ count v. script_val own v) (λ so_far. IsValue own)
+      let p = members_read config {min = 0} {max = 16} (ReadsNamed config (ReadsVal own)) (script_field config own) (IsReady config (λ y. y.0) (λ y. IsValue own y.1)) field_read s.params
+      fuel (gives ++ rest) (named_ready config (λ y. y.0) (λ y. IsValue own y.1) s.params f.0.0 n params) (omega arith) f.0.2 (omega (arith, l)) in
+      let g = members_read config {min = 0} {max = 1} (λ so_far. ReadsVal own) (λ count v. script_val own v) (λ so_far. IsValue own)
       (λ so_far v more h. val_read v more h)
       (option_to_list s.result) p.0 rest (vals_ready (option_to_list s.result) [] result) (omega arith) (one_at_most s.result)
       (omega (arith, p.1, l)) in
-      let P : List ℕ → Type 0 = λ b. MadeFunction own b fuel s rest g.0 in
+      let P : List ℕ → Type 0 = λ b. MadeFunction config own b fuel s rest g.0 in
       (g.0, omega (arith, p.1, g.1), subst P (sym (append_assoc said gives rest)) (record { mid = gives ++ rest; held = p.0; takes = p.2; gives = g.2 }))
 
   -- types
 
   -- a type of values with fuel for two turns, and with less
-  pub values_read : (config : Config) (outer : List Marked) (fuel : ℕ) (t : DefValType) (rest : List ℕ) → IsDefined own t → IsReadableDefined t
+  pub values_read : (outer : List Marked) (fuel : ℕ) (t : DefValType) (rest : List ℕ) → IsDefined own t → IsReadableDefined config t
       → LastsDefined fuel t → (b : Bool)
       → nat_le 2 fuel ≡ b
-      → Made config own outer ((if b then script_type_kind Defined else []) ++ (script_defined own t ++ rest)) fuel (defined t) rest (fuel - cost (defined t))
-  values_read config outer fuel t rest f n l true h =
+      → Made config own outer ((if b then script_type_kind Defined else []) ++ (script_defined config own t ++ rest)) fuel (defined t) rest (fuel - cost (defined t))
+  values_read outer fuel t rest f n l true h =
       let two : 2 ≤ fuel = grind (arith, nat_tests) in
       let same : fuel ≡ fuel - 1 + 1 = omega arith in
       let r = defined_read (fuel - 1) t rest f n (subst (λ k. LastsDefined k t) same l) in
       let left : r.0 ≡ fuel - cost (defined t) = omega (arith, r.1) in
-      made_defined (omega arith) (type_kind_read Defined 0 (script_defined own t ++ rest) refl)
-      (subst (λ k. MadeDefined own (script_defined own t ++ rest) (fuel - 1) t rest k) left r.2) refl
-  values_read config outer fuel t rest f n l false h =
+      made_defined (omega arith) (type_kind_read Defined 0 (script_defined config own t ++ rest) refl)
+      (subst (λ k. MadeDefined config own (script_defined config own t ++ rest) (fuel - 1) t rest k) left r.2) refl
+  values_read outer fuel t rest f n l false h =
       let less : fuel < 2 = grind (arith, nat_tests) in
       let r = defined_read 0 t rest f n (lasts_less fuel t less l) in
       let left : r.0 ≡ fuel - cost (defined t) = omega (arith, r.1) in
-      spent_type (omega arith) (subst (λ k. MadeDefined own (script_defined own t ++ rest) 0 t rest k) left r.2) refl
+      spent_type (omega arith) (subst (λ k. MadeDefined config own (script_defined config own t ++ rest) 0 t rest k) left r.2) refl
     where
       lasts_less : (fuel : ℕ) (t : DefValType) → fuel < 2 → LastsDefined fuel t → LastsDefined 1 t
       lasts_less fuel (record_type fs) less l = absurd (omega arith)
@@ -250,22 +250,22 @@ module _ (own : Marked) (few : length own.types ≤ 2 ^ 64) where
       lasts_less fuel t less l = tt
 
   -- What the script of a type of values or of functions says is made of it, and the rest is left.
-  pub type_values : (config : Config) (outer : List Marked) (fuel : ℕ) (t : DefValType) (rest : List ℕ) → IsDefined own t → IsReadableDefined t
+  pub type_values : (outer : List Marked) (fuel : ℕ) (t : DefValType) (rest : List ℕ) → IsDefined own t → IsReadableDefined config t
       → LastsDefined fuel t
       → Made config own outer (script_type (defined t) config fuel own outer ++ rest) fuel (defined t) rest (fuel - cost (defined t))
-  type_values config outer fuel t rest f n l =
+  type_values outer fuel t rest f n l =
       let P : List ℕ → Type 0 = λ b. Made config own outer b fuel (defined t) rest (fuel - cost (defined t)) in
-      subst P (sym (append_assoc (if nat_le 2 fuel then script_type_kind Defined else []) (script_defined own t) rest))
-      (values_read config outer fuel t rest f n l (nat_le 2 fuel) refl)
+      subst P (sym (append_assoc (if nat_le 2 fuel then script_type_kind Defined else []) (script_defined config own t) rest))
+      (values_read outer fuel t rest f n l (nat_le 2 fuel) refl)
 
-  pub type_function : (config : Config) (outer : List Marked) (fuel : ℕ) (s : Signature) (rest : List ℕ) → IsType (function s) own outer
-      → AreReadableNames (map (λ p. p.0) s.params) → size (function s) + 2 ≤ fuel
+  pub type_function : (outer : List Marked) (fuel : ℕ) (s : Signature) (rest : List ℕ) → IsType (function s) own outer
+      → AreReadableNames config (map (λ p. p.0) s.params) → size (function s) + 2 ≤ fuel
       → Made config own outer (script_type (function s) config fuel own outer ++ rest) fuel (function s) rest (fuel - cost (function s))
-  type_function config outer fuel s rest f names lasts =
+  type_function outer fuel s rest f names lasts =
       let m = function_read outer (fuel - 1) s rest f names (omega (arith, lasts)) in
       let left : m.0 ≡ fuel - cost (function s) = omega (arith, m.1) in
-      let made : MadeFunction own (script_signature own s ++ rest) (fuel - 1) s rest (fuel - cost (function s)) =
-      subst (λ n. MadeFunction own (script_signature own s ++ rest) (fuel - 1) s rest n) left m.2 in
+      let made : MadeFunction config own (script_signature config own s ++ rest) (fuel - 1) s rest (fuel - cost (function s)) =
+      subst (λ n. MadeFunction config own (script_signature config own s ++ rest) (fuel - 1) s rest n) left m.2 in
       let P : List ℕ → Type 0 = λ b. Made config own outer b fuel (function s) rest (fuel - cost (function s)) in
-      subst P (sym (append_assoc (script_type_kind Function) (script_signature own s) rest))
-      (made_function (omega (arith, lasts)) (type_kind_read Function 1 (script_signature own s ++ rest) refl) made refl)
+      subst P (sym (append_assoc (script_type_kind Function) (script_signature config own s) rest))
+      (made_function (omega (arith, lasts)) (type_kind_read Function 1 (script_signature config own s ++ rest) refl) made refl)

@@ -38,16 +38,16 @@ abbrev pub url_names : List NamedExtern → List (List ℕ)
 url_names xs = flat_map (λ x. url_name x.1) xs
 
 -- A boolean, and a URL if it is true: the host, and a name that is new among the names of the URLs so far.
-pub data ReadsMaybeUrl (used : List (List ℕ)) : List ℕ → Option (List ℕ) → List ℕ → Type 0 where
-  no_url : {bytes rest : List ℕ} → Flips bytes false rest → ReadsMaybeUrl used bytes None rest
-  a_url : {bytes mid name rest : List ℕ} {url : Option (List ℕ)} → Flips bytes true mid → ReadsNew 100 used mid name rest
-      → url ≡ Some (codes "https://example.com/" ++ name) → ReadsMaybeUrl used bytes url rest
+pub data ReadsMaybeUrl (config : Config) (used : List (List ℕ)) : List ℕ → Option (List ℕ) → List ℕ → Type 0 where
+  no_url : {bytes rest : List ℕ} → Flips bytes false rest → ReadsMaybeUrl config used bytes None rest
+  a_url : {bytes mid name rest : List ℕ} {url : Option (List ℕ)} → Flips bytes true mid → ReadsNew config.max_name_length used mid name rest
+      → url ≡ Some (codes "https://example.com/" ++ name) → ReadsMaybeUrl config used bytes url rest
 
 -- A name that is new among those so far, and a URL or none.
-pub record ReadsNamedExtern (so_far : List NamedExtern) (bytes : List ℕ) (x : NamedExtern) (rest : List ℕ) : Type 0 where
+pub record ReadsNamedExtern (config : Config) (so_far : List NamedExtern) (bytes : List ℕ) (x : NamedExtern) (rest : List ℕ) : Type 0 where
   pub mid : List ℕ
-  pub name : ReadsNew 100 (names so_far) bytes x.0 mid
-  pub url : ReadsMaybeUrl (url_names so_far) mid x.1 rest
+  pub name : ReadsNew config.max_name_length (names so_far) bytes x.0 mid
+  pub url : ReadsMaybeUrl config (url_names so_far) mid x.1 rest
 
 -- An outer alias: a choice of a scope that has an entry, and of an entry of it. It keeps what it names.
 pub record ReadsAlias (scopes : List Marked) (bytes : List ℕ) (d : FullDecl) (rest : List ℕ) : Type 0 where
@@ -77,7 +77,7 @@ pub record ReadsImportDecl (config : Config) (own : Marked) (imports : List Name
   pub there : has_reference own ≡ true
   pub asked : Reads 4 bytes 0 mid
   pub of : ReadsRef config own uncounted true true mid to low
-  pub name : ReadsNamedExtern imports low named rest
+  pub name : ReadsNamedExtern config imports low named rest
   pub is : d ≡ import_decl named.0 named.1 to
 
 -- An export: what it is of, and its name.
@@ -86,5 +86,5 @@ pub record ReadsExportDecl (config : Config) (own : Marked) (exports : List Name
   pub to : ComponentTypeRef
   pub named : NamedExtern
   pub of : ReadsRef config own uncounted false true bytes to mid
-  pub name : ReadsNamedExtern exports mid named rest
+  pub name : ReadsNamedExtern config exports mid named rest
   pub is : d ≡ export_decl named.0 named.1 to

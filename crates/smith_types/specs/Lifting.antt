@@ -20,19 +20,20 @@ pub record IsLiftableFunction (f : Function) : Type 0 where
   pub one : length f.1 ≡ 1
   pub results : AllByRecursion IsLiftable f.1
 
--- Parameters, each with a name that is new among those before it, and a primitive that flattens to the core parameter.
-pub data ReadsParams : List (List ℕ) → List ValType → List ℕ → List Field → List ℕ → Type 0 where
-  no_params : {names : List (List ℕ)} {bytes : List ℕ} → ReadsParams names [] bytes [] bytes
+-- Parameters, each with a name that is new among those before it, of which at most max bytes are read, and a primitive
+-- that flattens to the core parameter.
+pub data ReadsParams (max : ℕ) : List (List ℕ) → List ValType → List ℕ → List Field → List ℕ → Type 0 where
+  no_params : {names : List (List ℕ)} {bytes : List ℕ} → ReadsParams max names [] bytes [] bytes
   a_param : {names : List (List ℕ)} {v : ValType} {vs : List ValType} {bytes mid low rest name : List ℕ} {p : PrimitiveValType} {fs : List Field}
-      → ReadsNew 100 names bytes name mid → ReadsAmong (lifted v) mid p low → ReadsParams (names ++ name ∷ []) vs low fs rest
-      → ReadsParams names (v ∷ vs) bytes ((name, Primitive p) ∷ fs) rest
+      → ReadsNew max names bytes name mid → ReadsAmong (lifted v) mid p low → ReadsParams max (names ++ name ∷ []) vs low fs rest
+      → ReadsParams max names (v ∷ vs) bytes ((name, Primitive p) ∷ fs) rest
 
 -- A signature: the parameters, and a primitive that flattens to the one core result.
-pub record ReadsLiftedType (f : Function) (bytes : List ℕ) (s : Signature) (rest : List ℕ) : Type 0 where
+pub record ReadsLiftedType (max : ℕ) (f : Function) (bytes : List ℕ) (s : Signature) (rest : List ℕ) : Type 0 where
   pub mid : List ℕ
   pub core_result : ValType
   pub primitive : PrimitiveValType
-  pub params : ReadsParams [] f.0 bytes s.params mid
+  pub params : ReadsParams max [] f.0 bytes s.params mid
   pub only : f.1 ≡ core_result ∷ []
   pub result : ReadsAmong (lifted core_result) mid primitive rest
   pub is : s.result ≡ Some (Primitive primitive)

@@ -53,14 +53,15 @@ pub record ReadsMember {A : Type 0} (Member : List A → List ℕ → A → List
   pub state : t ≡ (s.0 ++ x ∷ [], s.1 - 1)
 
 -- the members of a type
-abbrev pub ReadsMembers : {A : Type 0} → (List A → List ℕ → A → List ℕ → Type 0) → ℕ → ℕ → List ℕ → ℕ → List A → List ℕ → ℕ → Type 0
-ReadsMembers Member min max bytes fuel xs rest left = Loop IsSpent (ReadsMember Member) min max 0 ([], fuel) bytes xs rest (xs, left)
+abbrev pub ReadsMembers : {A : Type 0} → Config → (List A → List ℕ → A → List ℕ → Type 0) → ℕ → ℕ → List ℕ → ℕ → List A → List ℕ → ℕ → Type 0
+ReadsMembers config Member min max bytes fuel xs rest left =
+    Loop IsSpent (ReadsMember Member) config.loop_bits min max 0 ([], fuel) bytes xs rest (xs, left)
 
 -- A member with a name, and what follows that. The name is new among the names of the members so far.
-pub record ReadsNamed {B : Type 0} (After : List ℕ → B → List ℕ → Type 0) (so_far : List (List ℕ × B)) (bytes : List ℕ) (x : List ℕ × B)
+pub record ReadsNamed {B : Type 0} (config : Config) (After : List ℕ → B → List ℕ → Type 0) (so_far : List (List ℕ × B)) (bytes : List ℕ) (x : List ℕ × B)
     (rest : List ℕ) : Type 0 where
   pub mid : List ℕ
-  pub name : ReadsNew 100 (map (λ y. y.0) so_far) bytes x.0 mid
+  pub name : ReadsNew config.max_name_length (map (λ y. y.0) so_far) bytes x.0 mid
   pub after : After mid x.1 rest
 
 -- a type of these members, or bool if there is none
@@ -69,52 +70,53 @@ or_bool of [] = primitive_type prim.Bool
 or_bool of (x ∷ xs) = of (x ∷ xs)
 
 -- a type of one member at least, and at most that many
-abbrev pub MadeMembers : {A : Type 0} → (List A → List ℕ → A → List ℕ → Type 0) → ℕ → (List A → DefValType) → List ℕ → ℕ → DefValType → List ℕ → ℕ → Type 0
-MadeMembers {A} Member max of b fuel t rest left = (xs : List A) × ReadsMembers Member 1 max b fuel xs rest left × (t ≡ or_bool of xs)
+abbrev pub MadeMembers : {A : Type 0} → Config → (List A → List ℕ → A → List ℕ → Type 0) → ℕ → (List A → DefValType) → List ℕ → ℕ → DefValType
+    → List ℕ → ℕ → Type 0
+MadeMembers {A} config Member max of b fuel t rest left = (xs : List A) × ReadsMembers config Member 1 max b fuel xs rest left × (t ≡ or_bool of xs)
 
 -- a defined type of a kind
-abbrev pub MadeAs : Marked → DefinedKind → List ℕ → ℕ → DefValType → List ℕ → ℕ → Type 0
-MadeAs own kind.Primitive b fuel t rest left = (p : PrimitiveValType) × ReadsAmong primitives b p rest × (t ≡ primitive_type p) × (left ≡ fuel)
-MadeAs own kind.Record b fuel t rest left = MadeMembers (ReadsNamed (ReadsVal own)) 100 record_type b fuel t rest left
-MadeAs own kind.Variant b fuel t rest left = MadeMembers (ReadsNamed (ReadsMaybe own)) 100 variant_type b fuel t rest left
-MadeAs own kind.List b fuel t rest left = (v : ComponentValType) × ReadsVal own b v rest × (t ≡ list_type v) × (left ≡ fuel)
-MadeAs own kind.Tuple b fuel t rest left = MadeMembers (λ so_far. ReadsVal own) 100 tuple_type b fuel t rest left
-MadeAs own kind.Flags b fuel t rest left = MadeMembers (ReadsNew 100) 32 flags_type b fuel t rest left
-MadeAs own kind.Enum b fuel t rest left = MadeMembers (ReadsNew 100) 100 enum_type b fuel t rest left
-MadeAs own kind.Option b fuel t rest left = (v : ComponentValType) × ReadsVal own b v rest × (t ≡ option_type v) × (left ≡ fuel)
-MadeAs own kind.Result b fuel t rest left =
+abbrev pub MadeAs : Config → Marked → DefinedKind → List ℕ → ℕ → DefValType → List ℕ → ℕ → Type 0
+MadeAs config own kind.Primitive b fuel t rest left = (p : PrimitiveValType) × ReadsAmong primitives b p rest × (t ≡ primitive_type p) × (left ≡ fuel)
+MadeAs config own kind.Record b fuel t rest left = MadeMembers config (ReadsNamed config (ReadsVal own)) 100 record_type b fuel t rest left
+MadeAs config own kind.Variant b fuel t rest left = MadeMembers config (ReadsNamed config (ReadsMaybe own)) 100 variant_type b fuel t rest left
+MadeAs config own kind.List b fuel t rest left = (v : ComponentValType) × ReadsVal own b v rest × (t ≡ list_type v) × (left ≡ fuel)
+MadeAs config own kind.Tuple b fuel t rest left = MadeMembers config (λ so_far. ReadsVal own) 100 tuple_type b fuel t rest left
+MadeAs config own kind.Flags b fuel t rest left = MadeMembers config (ReadsNew config.max_name_length) 32 flags_type b fuel t rest left
+MadeAs config own kind.Enum b fuel t rest left = MadeMembers config (ReadsNew config.max_name_length) 100 enum_type b fuel t rest left
+MadeAs config own kind.Option b fuel t rest left = (v : ComponentValType) × ReadsVal own b v rest × (t ≡ option_type v) × (left ≡ fuel)
+MadeAs config own kind.Result b fuel t rest left =
     (ok : Option ComponentValType) × (mid : List ℕ) × ReadsMaybe own b ok mid × (err : Option ComponentValType) × ReadsMaybe own mid err rest
     × (t ≡ result_type ok err) × (left ≡ fuel)
 
 -- a choice of a kind, and a type of that kind
-pub record MadeDefined (own : Marked) (bytes : List ℕ) (fuel : ℕ) (t : DefValType) (rest : List ℕ) (left : ℕ) : Type 0 where
+pub record MadeDefined (config : Config) (own : Marked) (bytes : List ℕ) (fuel : ℕ) (t : DefValType) (rest : List ℕ) (left : ℕ) : Type 0 where
   pub kind : DefinedKind
   pub mid : List ℕ
   pub choice : ReadsAmong defined_kinds bytes kind mid
-  pub made : MadeAs own kind mid fuel t rest left
+  pub made : MadeAs config own kind mid fuel t rest left
 
 -- the result of a function: a loop of at most one turn
-abbrev pub ReadsResult : Marked → List ℕ → ℕ → Option ComponentValType → List ℕ → ℕ → Type 0
-ReadsResult own b fuel r rest left = ReadsMembers (λ so_far. ReadsVal own) 0 1 b fuel (option_to_list r) rest left
+abbrev pub ReadsResult : Config → Marked → List ℕ → ℕ → Option ComponentValType → List ℕ → ℕ → Type 0
+ReadsResult config own b fuel r rest left = ReadsMembers config (λ so_far. ReadsVal own) 0 1 b fuel (option_to_list r) rest left
 
 -- a function type: at most 16 parameters, and then a result or none
-pub record MadeFunction (own : Marked) (bytes : List ℕ) (fuel : ℕ) (s : Signature) (rest : List ℕ) (left : ℕ) : Type 0 where
+pub record MadeFunction (config : Config) (own : Marked) (bytes : List ℕ) (fuel : ℕ) (s : Signature) (rest : List ℕ) (left : ℕ) : Type 0 where
   pub mid : List ℕ
   pub held : ℕ
-  pub takes : ReadsMembers (ReadsNamed (ReadsVal own)) 0 16 bytes fuel s.params mid held
-  pub gives : ReadsResult own mid held s.result rest left
+  pub takes : ReadsMembers config (ReadsNamed config (ReadsVal own)) 0 16 bytes fuel s.params mid held
+  pub gives : ReadsResult config own mid held s.result rest left
 
 mutual
   -- A type takes one from the fuel. If none is left then, it is a defined type; otherwise its kind is a choice of four.
   -- The declarations of a component type and of an instance type are in a scope of their own.
   pub data Made (config : Config) : Marked → List Marked → List ℕ → ℕ → FullEntry → List ℕ → ℕ → Type 0 where
     spent_type : {own : Marked} {outer : List Marked} {bytes rest : List ℕ} {fuel left : ℕ} {t : DefValType} {e : FullEntry} → fuel - 1 ≡ 0
-        → MadeDefined own bytes 0 t rest left → e ≡ defined t → Made config own outer bytes fuel e rest left
+        → MadeDefined config own bytes 0 t rest left → e ≡ defined t → Made config own outer bytes fuel e rest left
     made_defined : {own : Marked} {outer : List Marked} {bytes mid rest : List ℕ} {fuel left : ℕ} {t : DefValType} {e : FullEntry} → 0 < fuel - 1
-        → ReadsAmong type_kinds bytes Defined mid → MadeDefined own mid (fuel - 1) t rest left → e ≡ defined t
+        → ReadsAmong type_kinds bytes Defined mid → MadeDefined config own mid (fuel - 1) t rest left → e ≡ defined t
         → Made config own outer bytes fuel e rest left
     made_function : {own : Marked} {outer : List Marked} {bytes mid rest : List ℕ} {fuel left : ℕ} {s : Signature} {e : FullEntry} → 0 < fuel - 1
-        → ReadsAmong type_kinds bytes Function mid → MadeFunction own mid (fuel - 1) s rest left → e ≡ function s
+        → ReadsAmong type_kinds bytes Function mid → MadeFunction config own mid (fuel - 1) s rest left → e ≡ function s
         → Made config own outer bytes fuel e rest left
     made_component : {own : Marked} {outer : List Marked} {bytes mid rest : List ℕ} {fuel left : ℕ} {ds : FullDecls} {e : FullEntry} → 0 < fuel - 1
         → ReadsAmong type_kinds bytes Component mid
@@ -146,13 +148,13 @@ mutual
   -- At most 100 declarations, `done` of which were made before. Each turn takes one from the fuel, and the loop ends if
   -- none is left then. It is a loop like those over members, written out since it nests types.
   pub data MadeDeclarations (config : Config) : Bool → List Marked → ℕ → SoFar → List ℕ → ℕ → FullDecls → List ℕ → ℕ → Type 0 where
-    no_more_decls : {importing : Bool} {outer : List Marked} {done : ℕ} {s : SoFar} {bytes rest : List ℕ} {fuel left : ℕ} → More done 0 100 bytes false rest
+    no_more_decls : {importing : Bool} {outer : List Marked} {done : ℕ} {s : SoFar} {bytes rest : List ℕ} {fuel left : ℕ} → More config.loop_bits done 0 100 bytes false rest
         → left ≡ fuel → MadeDeclarations config importing outer done s bytes fuel no_decls rest left
-    spent_decls : {importing : Bool} {outer : List Marked} {done : ℕ} {s : SoFar} {bytes rest : List ℕ} {fuel left : ℕ} → More done 0 100 bytes true rest
+    spent_decls : {importing : Bool} {outer : List Marked} {done : ℕ} {s : SoFar} {bytes rest : List ℕ} {fuel left : ℕ} → More config.loop_bits done 0 100 bytes true rest
         → fuel - 1 ≡ 0 → left ≡ 0 → MadeDeclarations config importing outer done s bytes fuel no_decls rest left
     one_decl : {importing : Bool} {outer : List Marked} {done : ℕ} {s : SoFar} {bytes mid low rest : List ℕ} {fuel held left : ℕ} {d : FullDecl}
         {ds : FullDecls}
-        → More done 0 100 bytes true mid → 0 < fuel - 1
+        → More config.loop_bits done 0 100 bytes true mid → 0 < fuel - 1
         → MadeDeclaration config importing outer s mid (fuel - 1) d low held
         → MadeDeclarations config importing outer (done + 1) (after_one outer s d) low held ds rest left
         → MadeDeclarations config importing outer done s bytes fuel (then_decls d ds) rest left

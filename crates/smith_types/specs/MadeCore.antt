@@ -40,20 +40,21 @@ pub record ReadsEntity (config : Config) (s : Declared) (bytes : List ℕ) (e : 
   pub choice : ReadsAmong (entity_kinds config s) bytes kind mid
   pub is : ReadsEntityOf config s kind mid e rest
 
--- the names of an import, and the name of an export, of at most 100 bytes before they are made new
-abbrev pub ReadsImportNames : Declared → List ℕ → List ℕ → List ℕ → List ℕ → Type 0
-ReadsImportNames s bytes from name rest = (mid : List ℕ) × ReadsText 100 bytes from mid × ReadsNewText 100 (names_from from s.decls) mid name rest
+-- the names of an import, and the name of an export, not longer than a name before they are made new
+abbrev pub ReadsImportNames : Config → Declared → List ℕ → List ℕ → List ℕ → List ℕ → Type 0
+ReadsImportNames config s bytes from name rest =
+    (mid : List ℕ) × ReadsText config.max_name_length bytes from mid × ReadsNewText config.max_name_length (names_from from s.decls) mid name rest
 
-abbrev pub ReadsExportName : Declared → List ℕ → List ℕ → List ℕ → Type 0
-ReadsExportName s bytes name rest = ReadsNewText 100 (module_export_names s.decls) bytes name rest
+abbrev pub ReadsExportName : Config → Declared → List ℕ → List ℕ → List ℕ → Type 0
+ReadsExportName config s bytes name rest = ReadsNewText config.max_name_length (module_export_names s.decls) bytes name rest
 
 -- a declaration of a sort
 abbrev pub ReadsDeclOf : Config → Scope → Declared → ModuleItem → List ℕ → ModuleDecl → List ℕ → Type 0
 ReadsDeclOf config around s item.Import b d rest =
-    (from name mid : List ℕ) × ReadsImportNames s b from name mid × (e : EntityType) × ReadsEntity config s mid e rest × (d ≡ imports from name e)
+    (from name mid : List ℕ) × ReadsImportNames config s b from name mid × (e : EntityType) × ReadsEntity config s mid e rest × (d ≡ imports from name e)
 ReadsDeclOf config around s item.Export b d rest =
-    (name mid : List ℕ) × ReadsExportName s b name mid × (e : EntityType) × ReadsEntity config s mid e rest × (d ≡ exports name e)
-ReadsDeclOf config around s item.Type b d rest = (f : Function) × ReadsFunction (configured config) (max_results config) b f rest × (d ≡ declares f)
+    (name mid : List ℕ) × ReadsExportName config s b name mid × (e : EntityType) × ReadsEntity config s mid e rest × (d ≡ exports name e)
+ReadsDeclOf config around s item.Type b d rest = (f : Function) × ReadsFunction config.loop_bits (configured config) (max_results config) b f rest × (d ≡ declares f)
 ReadsDeclOf config around s item.Alias b d rest = (a : ℕ × ℕ) × ReadsAmong (alias_choices around s) b a rest × (d ≡ aliases a.0 a.1)
 
 -- A turn of the loop takes one from the fuel, and then reads a declaration.
@@ -73,10 +74,10 @@ with_fuel s fuel = record { own = s.own; decls = s.decls; fuel = fuel }
 pub data EndsModuleType (config : Config) (around : Scope) (s : Declared) : List ℕ → List ℕ → Declared → Type 0 where
   no_fuel : {bytes : List ℕ} {t : Declared} → s.fuel - 1 ≡ 0 → t ≡ with_fuel s 0 → EndsModuleType config around s bytes bytes t
   no_import : {bytes mid from name rest : List ℕ} {t : Declared} → 0 < s.fuel - 1 → ReadsAmong (module_items config around s) bytes item.Import mid
-      → ReadsImportNames s mid from name rest → entity_kinds config s ≡ [] → t ≡ with_fuel s (s.fuel - 1)
+      → ReadsImportNames config s mid from name rest → entity_kinds config s ≡ [] → t ≡ with_fuel s (s.fuel - 1)
       → EndsModuleType config around s bytes rest t
   no_export : {bytes mid name rest : List ℕ} {t : Declared} → 0 < s.fuel - 1 → ReadsAmong (module_items config around s) bytes item.Export mid
-      → ReadsExportName s mid name rest → entity_kinds config s ≡ [] → t ≡ with_fuel s (s.fuel - 1)
+      → ReadsExportName config s mid name rest → entity_kinds config s ≡ [] → t ≡ with_fuel s (s.fuel - 1)
       → EndsModuleType config around s bytes rest t
 
 -- A line of what the canonical ABI asks: if it is allowed, it is there in 99 of 100 choices.
@@ -113,7 +114,7 @@ pub record MadeModule (config : Config) (around : Scope) (bytes : List ℕ) (fue
   pub begins : ReadsFront config bytes fuel front mid
   pub more : List ModuleDecl
   pub whole : Declared
-  pub goes_on : Loop (EndsModuleType config around) (ReadsDecl config around) 0 100 0 front mid more rest whole
+  pub goes_on : Loop (EndsModuleType config around) (ReadsDecl config around) config.loop_bits 0 100 0 front mid more rest whole
   pub decls : ds ≡ whole.decls
   pub fuel_left : left ≡ whole.fuel
 
@@ -122,7 +123,7 @@ pub data MadeCore (config : Config) (around : Scope) : List ℕ → ℕ → Core
   spent_core : {bytes : List ℕ} {fuel : ℕ} {e : CoreEntry} {left : ℕ} → fuel - 1 ≡ 0 → e ≡ core_module [] → left ≡ 0
       → MadeCore config around bytes fuel e bytes left
   of_function : {bytes mid : List ℕ} {fuel : ℕ} {f : Function} {e : CoreEntry} {rest : List ℕ} {left : ℕ} → 0 < fuel - 1 → Reads 2 bytes 0 mid
-      → ReadsFunction (configured config) (max_results config) mid f rest → e ≡ core_func f → left ≡ fuel - 1
+      → ReadsFunction config.loop_bits (configured config) (max_results config) mid f rest → e ≡ core_func f → left ≡ fuel - 1
       → MadeCore config around bytes fuel e rest left
   of_module : {bytes mid : List ℕ} {fuel : ℕ} {ds : List ModuleDecl} {e : CoreEntry} {rest : List ℕ} {left : ℕ} → 0 < fuel - 1 → Reads 2 bytes 1 mid
       → MadeModule config around mid (fuel - 1) ds rest left → e ≡ core_module ds

@@ -56,8 +56,8 @@ MaybeEntity config s b e rest = MatchOption e ((entity_kinds config s ≡ []) ×
 
 -- Only names are read, since nothing can be imported or exported.
 abbrev pub ReadsNamesAlone : Config → SoFar → ModuleItem → List ℕ → List ℕ → Type 0
-ReadsNamesAlone config s item.Import b rest = (from name : List ℕ) × ReadsImportNames s b from name rest × (entity_kinds config s ≡ [])
-ReadsNamesAlone config s item.Export b rest = (name : List ℕ) × ReadsExportName s b name rest × (entity_kinds config s ≡ [])
+ReadsNamesAlone config s item.Import b rest = (from name : List ℕ) × ReadsImportNames config s b from name rest × (entity_kinds config s ≡ [])
+ReadsNamesAlone config s item.Export b rest = (name : List ℕ) × ReadsExportName config s b name rest × (entity_kinds config s ≡ [])
 ReadsNamesAlone config s i b rest = ⊥
 
 -- a declaration of a sort was added, or names were read alone

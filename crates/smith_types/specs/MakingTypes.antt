@@ -45,8 +45,8 @@ MadeScoped config own outer importing b fuel e rest left = (ds : FullDecls)
 
 -- a type of a kind
 abbrev pub MadeKind : Config → Marked → List Marked → TypeKind → List ℕ → ℕ → FullEntry → List ℕ → ℕ → Type 0
-MadeKind config own outer kind.Defined b fuel e rest left = (t : DefValType) × MadeDefined own b fuel t rest left × (e ≡ defined t)
-MadeKind config own outer kind.Function b fuel e rest left = (s : Signature) × MadeFunction own b fuel s rest left × (e ≡ function s)
+MadeKind config own outer kind.Defined b fuel e rest left = (t : DefValType) × MadeDefined config own b fuel t rest left × (e ≡ defined t)
+MadeKind config own outer kind.Function b fuel e rest left = (s : Signature) × MadeFunction config own b fuel s rest left × (e ≡ function s)
 MadeKind config own outer kind.Component b fuel e rest left = MadeScoped config own outer true b fuel e rest left
 MadeKind config own outer kind.Instance b fuel e rest left = MadeScoped config own outer false b fuel e rest left
 

@@ -47,12 +47,13 @@ pub record Fit (scopes : List Marked) : Type 0 where
 
 -- What a script can say of a type in these scopes with that much fuel left: it is well formed in them, all that it
 -- names is offered, it is within the limits, its names can be read, the fuel lasts for it, and each choice in it can be
--- spelled.
+-- spelled, that of a name's length too.
 pub record IsSayable (config : Config) (own : Marked) (outer : List Marked) (fuel : ℕ) (e : Entry) : Type 0 where
   pub formed : FormedEntry e (scope_in own) (scopes_in_marked outer)
   pub offered : OfferedEntry e own outer
   pub limits : EntryLimits config e
-  pub readable : IsReadableType e
+  pub readable : IsReadableType config e
   pub lasts : Lasts e config (length (own ∷ outer)) fuel
   pub fit : Fit (own ∷ outer)
   pub shallow : length (own ∷ outer) ≤ 1000
+  pub names : config.max_name_length < 2 ^ 64

@@ -3,6 +3,7 @@
 ghost use Rattle.std.specs.Prelude.{◌≡◌, ◌++◌, ℕ, List, true, [], map, Some, IfOk, IfErr, is_some};
 ghost use Rattle.std.specs.List.{AllByRecursion, list_all};
 ghost use Rattle.smith_format.specs.Shown.{shown_func};
+ghost use Rattle.smith_format.specs.declared.config.Config.{Config};
 ghost use Rattle.smith_input.specs.Choices.{ReadsAmong};
 ghost use Rattle.smith_input.specs.Consumes.{Consumes};
 ghost use Rattle.smith_input.specs.Reading.{IsTail};
@@ -16,7 +17,7 @@ ghost use Rattle.smith_tree.specs.ReadableTypes.{AreReadableNames};
 ghost use Rattle.smith_tree.specs.TypeScript.{script_lifted};
 
 use smith_format::ValType;
-use smith_input::{Error, MAX_NAME_LEN, Unstructured, new_kebab_string};
+use smith_input::{Error, MOST_NAME_LEN, Unstructured, new_kebab_string};
 use smith_syntax::{ComponentValType, FuncType, PrimitiveValType};
 use smith_tree::{flat_primitive, lifted};
 use std::alloc::Global;
@@ -73,44 +74,62 @@ fn lifted_primitive(u: &mut Unstructured, ty: ValType) -> PrimitiveValType
 fn lifted_params(
     alloc: Global,
     u: &mut Unstructured,
+    max_name_length: usize,
     core: &[ValType],
 ) -> Result<Vec<(String, ComponentValType)>, Error>
     requires { AllByRecursion IsLiftable core.now }
-    ensures reads { IfOk result (λ v. ReadsParams [] core.now u.old (map named v.items) u.new) }
+    ensures reads { IfOk result (λ v. ReadsParams max_name_length [] core.now u.old (map named v.items) u.new) }
     ensures input { Consumes result u.old u.new }
 {
     let mut params = Vec::with_capacity(alloc, core.len())?;
     for ty in core {
-        let name = new_kebab_string(alloc, MAX_NAME_LEN, &params.as_slice(), u)?;
+        let name = new_kebab_string(alloc, max_name_length, &params.as_slice(), u)?;
         let primitive = lifted_primitive(u, *ty);
         params.push((name, ComponentValType::Primitive(primitive)))?;
     }
     Ok(params)
 }
 
+/// The same with names as long as this: `inverse_scalar_canonical_abi_for` reads them with 100. Public only for the
+/// crates above.
+pub fn lifted_func_type(
+    alloc: Global,
+    u: &mut Unstructured,
+    max_name_length: usize,
+    core: &smith_format::FuncType,
+) -> Result<FuncType, Error>
+    requires liftable { IsLiftableFunction (shown_func core.now) }
+    ensures reads { IfOk result (λ f. ReadsLiftedType max_name_length (shown_func core.now) u.old f u.new) }
+    ensures input { Consumes result u.old u.new }
+{
+    let params = lifted_params(alloc, u, max_name_length, &core.params)?;
+    let result = lifted_primitive(u, core.results[0]);
+    Ok(FuncType {
+        params,
+        result: Some(ComponentValType::Primitive(result)),
+    })
+}
+
 /// A function type that flattens to a core function type, of which all parameters and the one result are i32, i64, f32
-/// or f64. For each parameter it reads a name in kebab case that no parameter before it has, and a choice among the
-/// primitives that flatten to the parameter's type; then a choice for the result. It fails only when out of memory.
+/// or f64. For each parameter it reads a name in kebab case of at most 100 bytes that no parameter before it has, and a
+/// choice among the primitives that flatten to the parameter's type; then a choice for the result. It fails only when
+/// out of memory.
 pub fn inverse_scalar_canonical_abi_for(
     alloc: Global,
     u: &mut Unstructured,
     core: &smith_format::FuncType,
 ) -> Result<FuncType, Error>
     requires liftable { IsLiftableFunction (shown_func core.now) }
-    ensures reads { IfOk result (λ f. ReadsLiftedType (shown_func core.now) u.old f u.new) }
+    ensures reads { IfOk result (λ f. ReadsLiftedType 100 (shown_func core.now) u.old f u.new) }
     ensures flattens { IfOk result (λ f. Flattens f (shown_func core.now)) }
     ensures named { IfOk result (λ f. Named (map (λ p. p.0) f.params)) }
     // The script of a function type that flattens to the core function type produces that type.
-    ensures script { (s : Signature) (rest : List ℕ) → Flattens s (shown_func core.now)
-        → Named (map (λ p. p.0) s.params) → AreReadableNames (map (λ p. p.0) s.params)
-        → u.old ≡ script_lifted s ++ rest
+    ensures script { (config : Config) (s : Signature) (rest : List ℕ) → config.max_name_length ≡ 100
+        → Flattens s (shown_func core.now)
+        → Named (map (λ p. p.0) s.params) → AreReadableNames config (map (λ p. p.0) s.params)
+        → u.old ≡ script_lifted config s ++ rest
         → IfOk result (λ f. (f ≡ s) × (u.new ≡ rest)) }
     ensures input { Consumes result u.old u.new }
 {
-    let params = lifted_params(alloc, u, &core.params)?;
-    let result = lifted_primitive(u, core.results[0]);
-    Ok(FuncType {
-        params,
-        result: Some(ComponentValType::Primitive(result)),
-    })
+    lifted_func_type(alloc, u, MOST_NAME_LEN, core)
 }

@@ -78,7 +78,7 @@ pub fn arbitrary_core_type(
         fuel.new) }
     // The script of a core type whose names can be read and for which the fuel lasts produces that type.
     ensures script { (e : CoreEntry) (rest : List ℕ) → FormedCore e (own_scope scopes.now).core_types
-        → CoreLimits config.now e → IsReadableCore e → core_need e ≤ fuel.old
+        → CoreLimits config.now e → IsReadableCore config.now e → core_need e ≤ fuel.old
         → length (own_scope scopes.now).core_types ≤ 2 ^ 63
         → u.old ≡ script_core config.now (own_scope scopes.now) fuel.old e ++ rest
         → IfOk result (λ t. (shown_shared_core t ≡ e) × (u.new ≡ rest)) }

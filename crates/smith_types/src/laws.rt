@@ -1,6 +1,6 @@
 //! Laws of how types are read. Each function does nothing: its contract is the law.
 
-ghost use Rattle.std.specs.Prelude.{◌≡◌, ◌≤◌, ◌↔◌, ◌∷◌, ◌+◌, ◌-◌, ◌^◌, ℕ, List, [], length, max, true, false, nat_eq};
+ghost use Rattle.std.specs.Prelude.{◌≡◌, ◌<◌, ◌≤◌, ◌↔◌, ◌∷◌, ◌+◌, ◌-◌, ◌^◌, ℕ, List, [], length, max, true, false, nat_eq};
 ghost use Rattle.smith_format.specs.declared.config.Config.{Config};
 ghost use Rattle.smith_input.specs.Reading.{IsDecided, IsReadAs};
 ghost use Rattle.smith_input.specs.Script.{AreBytes, script_among};
@@ -71,7 +71,7 @@ pub fn answers_need_no_more()
         → Made config own outer bytes fuel made rest left
         → (need (plain made) ≤ fuel)
         × (length (own ∷ outer) + declaring (plain made) ≤ max (length (own ∷ outer)) config.max_nesting_depth)
-        × IsReadableType (plain made) }
+        × IsReadableType config (plain made) }
 {}
 
 /// Everything that a type read on any input names was offered.
@@ -87,9 +87,10 @@ pub fn answers_are_offered()
 pub fn types_are_exact()
     ensures { (config : Config) (own : Marked) (outer : List Marked) (fuel : ℕ) (e : Entry)
         → config.max_nesting_depth ≤ 1000 → Fit (own ∷ outer) → length (own ∷ outer) ≤ 1000
+        → config.max_name_length < 2 ^ 64
         → ((bytes rest : List ℕ) × AreBytes bytes × MadeWith config own outer fuel bytes e rest)
         ↔ (FormedEntry e (scope_in own) (scopes_in_marked outer) × OfferedEntry e own outer
-        × EntryLimits config e × IsReadableType e × (need e ≤ fuel)
+        × EntryLimits config e × IsReadableType config e × (need e ≤ fuel)
         × (length (own ∷ outer) + declaring e ≤ max (length (own ∷ outer)) config.max_nesting_depth)) }
 {}
 
@@ -103,8 +104,8 @@ pub fn core_types_are_decided()
 /// which the fuel lasts, is read as that type.
 pub fn core_scripts_are_read()
     ensures { (config : Config) (around : Scope) (fuel : ℕ) (e : CoreEntry)
-        → FormedCore e around.core_types → CoreLimits config e → IsReadableCore e → core_need e ≤ fuel
-        → length around.core_types ≤ 2 ^ 63
+        → FormedCore e around.core_types → CoreLimits config e → IsReadableCore config e → core_need e ≤ fuel
+        → length around.core_types ≤ 2 ^ 63 → config.max_name_length < 2 ^ 64
         → IsReadAs (λ bytes made rest. MadeCore config around bytes fuel made rest (fuel - core_cost e))
         (script_core config around fuel e) e }
 {}
@@ -114,21 +115,22 @@ pub fn core_scripts_are_read()
 pub fn made_core_types_are_readable()
     ensures { (config : Config) (around : Scope) (bytes : List ℕ) (fuel : ℕ) (e : CoreEntry) (rest : List ℕ) (left : ℕ)
         → MadeCore config around bytes fuel e rest left
-        → FormedCore e around.core_types × CoreLimits config e × IsReadableCore e × (core_need e ≤ fuel)
+        → FormedCore e around.core_types × CoreLimits config e × IsReadableCore config e × (core_need e ≤ fuel)
         × (left ≤ fuel - core_cost e) }
 {}
 
 /// The script of such a core type is bytes.
 pub fn core_scripts_are_bytes()
     ensures { (config : Config) (around : Scope) (fuel : ℕ) (e : CoreEntry)
-        → FormedCore e around.core_types → CoreLimits config e → IsReadableCore e → core_need e ≤ fuel
-        → length around.core_types ≤ 2 ^ 63 → AreBytes (script_core config around fuel e) }
+        → FormedCore e around.core_types → CoreLimits config e → IsReadableCore config e → core_need e ≤ fuel
+        → length around.core_types ≤ 2 ^ 63 → config.max_name_length < 2 ^ 64 → AreBytes (script_core config around fuel e) }
 {}
 
 /// A core type is read, on some input, exactly if it is well formed in its scope and within the limits, its names can
 /// be read, and there is fuel for it.
 pub fn core_types_are_exact()
-    ensures { (config : Config) (around : Scope) (fuel : ℕ) (e : CoreEntry) → length around.core_types ≤ 2 ^ 63
+    ensures { (config : Config) (around : Scope) (fuel : ℕ) (e : CoreEntry)
+        → length around.core_types ≤ 2 ^ 63 → config.max_name_length < 2 ^ 64
         → ((bytes rest : List ℕ) × AreBytes bytes × (left : ℕ) × MadeCore config around bytes fuel e rest left)
-        ↔ (FormedCore e around.core_types × CoreLimits config e × IsReadableCore e × (core_need e ≤ fuel)) }
+        ↔ (FormedCore e around.core_types × CoreLimits config e × IsReadableCore config e × (core_need e ≤ fuel)) }
 {}

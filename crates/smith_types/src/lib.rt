@@ -6,7 +6,7 @@ mod core_types;
 pub mod laws;
 mod make;
 
-pub use canonical::{canonical_abi_for, inverse_scalar_canonical_abi_for};
+pub use canonical::{canonical_abi_for, inverse_scalar_canonical_abi_for, lifted_func_type};
 pub use core_types::arbitrary_core_type;
 pub use make::{
     ExternNames, arbitrary_marked_type, arbitrary_type, arbitrary_type_ref, named_extern,

@@ -155,21 +155,21 @@ one_made most names name small all made =
 
 -- Names in kebab case, and texts.
 
-pub short_read : (names : List (List ℕ)) (name : List ℕ) → IsReachable 100 names name → IsMadeShort names name
-short_read names name (text, read, made) = (text, within (last_word_is_a text) (leb-true (length text) _ read), made)
+pub short_read : (max : ℕ) → max ≤ 100 → (names : List (List ℕ)) (name : List ℕ) → IsReachable max names name → IsMadeShort names name
+short_read max few names name (text, read, made) = (text, within (last_word_is_a text) (leb-true (length text) _ read), made)
   where
-    within : (b : Bool) → length text ≤ (if b then 101 else 100) → length text ≤ 101
-    within true h = h
-    within false h = omega (arith, h)
+    within : (b : Bool) → length text ≤ (if b then max + 1 else max) → length text ≤ 101
+    within true h = omega (arith, h, few)
+    within false h = omega (arith, h, few)
 
-pub short_text_read : (names : List (List ℕ)) (name : List ℕ) → IsReachableText 100 names name → IsMadeShort names name
-short_text_read names name (text, read, made) = (text, omega (arith, leb-true (length text) 100 read), made)
+pub short_text_read : (max : ℕ) → max ≤ 100 → (names : List (List ℕ)) (name : List ℕ) → IsReachableText max names name → IsMadeShort names name
+short_text_read max few names name (text, read, made) = (text, omega (arith, leb-true (length text) max read, few), made)
 
 -- names after those before them
-pub all_made : (most : ℕ) (before ns : List (List ℕ)) → most + length ns ≤ 2 ^ 32 → AreMade most before → AreReachable 100 before ns
+pub all_made : (max : ℕ) → max ≤ 100 → (most : ℕ) (before ns : List (List ℕ)) → most + length ns ≤ 2 ^ 32 → AreMade most before → AreReachable max before ns
     → AllByRecursion (λ n. length n ≤ 1000) ns × AreMade (most + length ns) (before ++ ns)
-all_made most before [] few all read = (tt, none_more before (omega arith) all)
-all_made most before (n ∷ ns) few all read =
-    let one = one_made most before n (omega (arith, few)) all (short_read before n read.0) in
-    let more = all_made (suc most) (before ++ n ∷ []) ns (omega (arith, few)) one.1 read.1 in
+all_made max short most before [] few all read = (tt, none_more before (omega arith) all)
+all_made max short most before (n ∷ ns) few all read =
+    let one = one_made most before n (omega (arith, few)) all (short_read max short before n read.0) in
+    let more = all_made max short (suc most) (before ++ n ∷ []) ns (omega (arith, few)) one.1 read.1 in
     ((one.0, more.0), made_among (omega arith) (subst (AreMade (suc most + length ns)) (append_assoc before (n ∷ []) ns) more.1))

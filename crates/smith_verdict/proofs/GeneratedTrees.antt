@@ -74,7 +74,7 @@ module _ (config : Config) (fits : IsConsistent config) where
       → AllByRecursion (λ name. length name ≤ 1000) (import_names is) × AreMade (i + length is) (import_names (imports_of before) ++ import_names is)
   imports_made i e is t before l ns read =
       let count : length (import_names is) ≡ length is = length-map is (λ x. x.name) in
-      let made = all_made i (import_names (imports_of before)) (import_names is) (omega (arith, l.imports, count, length-append is (imports_of t))) ns.imported
+      let made = all_made config.max_name_length fits.names i (import_names (imports_of before)) (import_names is) (omega (arith, l.imports, count, length-append is (imports_of t))) ns.imported
       read in
       (made.0, made_among (omega (arith, count)) made.1)
 
@@ -83,7 +83,7 @@ module _ (config : Config) (fits : IsConsistent config) where
       → AllByRecursion (λ name. length name ≤ 1000) (export_names es) × AreMade (e + length es) (export_names (exports_of before) ++ export_names es)
   exports_made i e es t before l ns read =
       let count : length (export_names es) ≡ length es = length-map es (λ x. x.name) in
-      let made = all_made e (export_names (exports_of before)) (export_names es) (omega (arith, l.exports, count, length-append es (exports_of t))) ns.exported
+      let made = all_made config.max_name_length fits.names e (export_names (exports_of before)) (export_names es) (omega (arith, l.exports, count, length-append es (exports_of t))) ns.exported
       read.1 in
       (made.0, made_among (omega (arith, count)) made.1)
 
@@ -136,10 +136,10 @@ module _ (config : Config) (fits : IsConsistent config) where
           → IsReadablePart config p before → Rest config i e (first p t) → PartNames i e before → OfPart P p
       of_part (custom name contents) t before around i e formed kept read l ns = holds.names name l.names.0
       of_part (core_module text) t before around i e formed kept read l ns = tt
-      of_part (core_types ts) t before around i e formed kept read l ns = of_cores config P holds ts (scope_of before) formed kept read
+      of_part (core_types ts) t before around i e formed kept read l ns = of_cores config fits.names P holds ts (scope_of before) formed kept read
       of_part (component u) t before around i e formed kept read l ns =
           of_tree u ends (scope_of before ∷ around) 0 0 formed kept.1 read (rest_inner i e u t l) no_part_names
-      of_part (types ts) t before around i e formed kept read l ns = of_types config P holds ts (scope_of before) around formed kept read
+      of_part (types ts) t before around i e formed kept read l ns = of_types config fits.names P holds ts (scope_of before) around formed kept read
       of_part (canons fs) t before around i e formed kept read l ns = tt
       of_part (imports is) t before around i e formed kept read l ns = of_imports is (imports_made i e is t before l ns read).0
       of_part (exports es) t before around i e formed kept read l ns = of_exports es (exports_made i e es t before l ns read).0

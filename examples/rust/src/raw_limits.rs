@@ -33,6 +33,8 @@ pub struct RawLimits {
     must_validate: bool,
     reserved: [u8; 5],
     finish_after: usize,
+    max_name_length: usize,
+    loop_bits: usize,
 }
 
 impl RawLimits {
@@ -66,6 +68,8 @@ impl RawLimits {
             must_validate: limits.must_validate,
             reserved: [0; 5],
             finish_after: limits.finish_after,
+            max_name_length: limits.max_name_length,
+            loop_bits: limits.loop_bits,
         }
     }
 
@@ -97,6 +101,8 @@ impl RawLimits {
             bulk_memory_enabled: self.bulk_memory_enabled,
             must_validate: self.must_validate,
             finish_after: self.finish_after,
+            max_name_length: self.max_name_length,
+            loop_bits: self.loop_bits,
         }
     }
 }

@@ -22,7 +22,7 @@ use crate::component::{CanonicalSection, Section, TypeSection};
 use smith_format::Config;
 use smith_input::{Error, Unstructured, choose_offered};
 use smith_tree::{CanonItem, Func, canon_offers};
-use smith_types::{DefType, FuncType, Scopes, canonical_abi_for, inverse_scalar_canonical_abi_for};
+use smith_types::{DefType, FuncType, Scopes, canonical_abi_for, lifted_func_type};
 use std::alloc::{AllocError, Global};
 use std::mem;
 use std::rc::Rc;
@@ -68,7 +68,7 @@ impl<'a> CanonicalDraft<'a> {
     // A type that flattens as the type of the component function which the core function lowers.
     fn lifted_type(&self, core_func_index: u32, u: &mut Unstructured) -> Result<FuncType, Error>
         requires known { IsLowered (own_scope self.now.scopes.now) self.now.component.now.tables core_func_index }
-        ensures reads { IfOk result (λ f. ReadsLiftedTypeOf
+        ensures reads { IfOk result (λ f. ReadsLiftedTypeOf self.now.config.now
             (own_scope self.now.scopes.now) self.now.component.now.tables core_func_index u.old f u.new) }
         ensures input { Consumes result u.old u.new }
     {
@@ -80,7 +80,7 @@ impl<'a> CanonicalDraft<'a> {
             DefType::Defined(_) | DefType::Component(_) | DefType::Instance(_) => unreachable!(),
         };
         let core = canonical_abi_for(self.alloc, lowered)?;
-        inverse_scalar_canonical_abi_for(self.alloc, u, &core)
+        lifted_func_type(self.alloc, u, self.config.max_name_length, &core)
     }
 
     // Ends the canonical section, defines the type in a section of its own, and begins another with the lift.
@@ -161,13 +161,13 @@ impl<'a> CanonicalDraft<'a> {
         requires ordered { min ≤ max }
         requires draft { IsDraft max self.old }
         ensures loans { SameLoans self.old self.new }
-        ensures reads { OnOk result ((turns : List CanonItem) × Loop NoCanon (CanonTurn self.old.config.now) min max 0
-            (draft_of self.old) u.old turns u.new (draft_of self.new)) }
+        ensures reads { OnOk result ((turns : List CanonItem) × Loop NoCanon (CanonTurn self.old.config.now)
+            self.old.config.now.loop_bits min max 0 (draft_of self.old) u.old turns u.new (draft_of self.new)) }
         ensures drafts { OnOk result (DraftsOn self.old self.new) }
         ensures input { Consumes result u.old u.new }
     {
         for done in 0..max {
-            if !u.more(done, min, max) {
+            if !u.more_of(self.config.loop_bits, done, min, max) {
                 return Ok(());
             }
             if !self.turn(u)? {

@@ -40,7 +40,7 @@ fn read_import(
     let Some(ty) = arbitrary_type_ref(u, config, scopes, counts, true, false) else {
         return Ok(None);
     };
-    let (name, url) = named_extern(tables.alloc, u, &mut tables.imports)?;
+    let (name, url) = named_extern(tables.alloc, config, u, &mut tables.imports)?;
     totals.count(ty);
     scopes.note_import(ty);
     if let ComponentTypeRef::Func(i) = ty {
@@ -61,7 +61,7 @@ impl Progress {
         requires ordered { min ≤ max }
         ensures reads { IfOk result (λ v. Loop (NoImportValue self.old.config (stack_of self.old))
             (ReadsImportValue self.old.config (stack_of self.old) (externs_of self.old.inner.sections.items))
-            min max 0 [] u.old v.items u.new v.items) }
+            self.old.config.loop_bits min max 0 [] u.old v.items u.new v.items) }
         ensures counts { IfOk result (λ v. Imported self.old v.items self.new) }
         ensures input { Consumes result u.old u.new }
     {
@@ -70,7 +70,7 @@ impl Progress {
         let tables = &mut self.inner.tables;
         let mut imports = Vec::new(self.alloc);
         for done in 0..max {
-            if !u.more(done, min, max) {
+            if !u.more_of(self.config.loop_bits, done, min, max) {
                 return Ok(imports);
             }
             let Some(import) = read_import(&self.config, scopes, totals, tables, u)? else {

@@ -88,7 +88,7 @@ impl Progress {
     {
         let room = self.config.max_exports - self.inner.tables.exports.len();
         let exports = read_exports(
-            self.alloc,
+            &self.config,
             &mut self.scopes,
             &mut self.inner.tables,
             room,

@@ -98,13 +98,13 @@ fn function_types(
     most: usize,
 ) -> Result<Vec<FuncType>, Error>
     requires { valtypes.now ≡ configured config.now }
-    ensures reads { IfOk result (λ v. Loop Never (ReadsFunctionType config.now) 0 most 0 tt u.old v.items u.new tt) }
+    ensures reads { IfOk result (λ v. Loop Never (ReadsFunctionType config.now) config.now.loop_bits 0 most 0 tt u.old v.items u.new tt) }
     ensures memory { IfErr result (λ e. e ≡ Error.OutOfMemory) }
     ensures tail { IsTail u.new u.old }
 {
     let mut types = Vec::new(alloc);
     for done in 0..most {
-        if !u.more(done, 0, most) {
+        if !u.more_of(config.loop_bits, done, 0, most) {
             return Ok(types);
         }
         let func = configured_func_type(alloc, u, config, valtypes)?;
@@ -117,14 +117,19 @@ fn function_types(
 // As many memories as the limits allow.
 fn memories(alloc: Global, u: &mut Unstructured, config: &Config) -> Result<Vec<MemoryType>, Error>
     requires { config.now.min_memories ≤ config.now.max_memories }
-    ensures reads { IfOk result (λ v. Loop Never ReadsMemoryType config.now.min_memories config.now.max_memories 0 tt
+    ensures reads { IfOk result (λ v. Loop Never ReadsMemoryType config.now.loop_bits config.now.min_memories config.now.max_memories 0 tt
         u.old v.items u.new tt) }
     ensures memory { IfErr result (λ e. e ≡ Error.OutOfMemory) }
     ensures tail { IsTail u.new u.old }
 {
     let mut types = Vec::new(alloc);
     for done in 0..config.max_memories {
-        if !u.more(done, config.min_memories, config.max_memories) {
+        if !u.more_of(
+            config.loop_bits,
+            done,
+            config.min_memories,
+            config.max_memories,
+        ) {
             return Ok(types);
         }
         let ty = arbitrary_memtype(u, config);

@@ -17,7 +17,7 @@ pub(crate) fn read_core_function(
     making: &Making,
     u: &mut Unstructured,
 ) -> Result<Rc<FuncType>, Error>
-    ensures reads { IfOk result (λ t. ReadsFunction (configured making.now.config.now)
+    ensures reads { IfOk result (λ t. ReadsFunction making.now.config.now.loop_bits (configured making.now.config.now)
         (max_results making.now.config.now) u.old (shown_func t.value) u.new) }
     ensures input { Consumes result u.old u.new }
 {

@@ -8,9 +8,9 @@ ghost use Rattle.smith_types.specs.MakingCore.{names_taken};
 ghost use Rattle.smith_syntax.specs.ModuleTypes.{module_export_names, names_from};
 ghost use Rattle.smith_syntax.specs.Shown.{shown_decl};
 
-use smith_input::{Error, MAX_NAME_LEN, TakenNames, Unstructured, limited_string, new_string};
+use crate::core_types::making::Making;
+use smith_input::{Error, TakenNames, Unstructured, limited_string, new_string};
 use smith_syntax::ModuleTypeDef;
-use std::alloc::Global;
 
 // The name of an import from that module.
 fn imported_name<'a>(def: &'a ModuleTypeDef, from: &str) -> Option<&'a str>
@@ -116,32 +116,35 @@ impl<'a> TakenNames for Taken<'a> {
 // The two names of an import: the module's, and one that is imported from it for the first time.
 #[tactic(auto, using(std::proofs::lemmas::Grind::common_steps))]
 pub(crate) fn read_import_names(
-    alloc: Global,
+    making: &Making,
     u: &mut Unstructured,
     defs: &[ModuleTypeDef],
 ) -> Result<(String, String), Error>
-    ensures reads { IfOk result (λ n. (mid : List ℕ) × ReadsText 100 u.old (string_bytes n.0) mid
-        × ReadsNewText 100 (names_from (string_bytes n.0) (map shown_decl defs.now)) mid (string_bytes n.1) u.new) }
+    ensures reads { IfOk result (λ n. (mid : List ℕ)
+        × ReadsText making.now.config.now.max_name_length u.old (string_bytes n.0) mid
+        × ReadsNewText making.now.config.now.max_name_length
+        (names_from (string_bytes n.0) (map shown_decl defs.now)) mid (string_bytes n.1) u.new) }
     ensures input { Consumes result u.old u.new }
 {
-    let from = limited_string(alloc, MAX_NAME_LEN, u)?;
+    let from = limited_string(making.alloc, making.config.max_name_length, u)?;
     let taken = Taken {
         defs,
         imported: true,
         from: from.as_str(),
     };
-    let name = new_string(alloc, MAX_NAME_LEN, &taken, u)?;
+    let name = new_string(making.alloc, making.config.max_name_length, &taken, u)?;
     Ok((from, name))
 }
 
 // The name of an export, which is exported for the first time.
 pub(crate) fn read_export_name(
-    alloc: Global,
+    making: &Making,
     u: &mut Unstructured,
     defs: &[ModuleTypeDef],
 ) -> Result<String, Error>
     ensures reads { IfOk result (λ n.
-        ReadsNewText 100 (module_export_names (map shown_decl defs.now)) u.old (string_bytes n) u.new) }
+        ReadsNewText making.now.config.now.max_name_length (module_export_names (map shown_decl defs.now)) u.old
+        (string_bytes n) u.new) }
     ensures input { Consumes result u.old u.new }
 {
     let taken = Taken {
@@ -149,5 +152,5 @@ pub(crate) fn read_export_name(
         imported: false,
         from: "",
     };
-    new_string(alloc, MAX_NAME_LEN, &taken, u)
+    new_string(making.alloc, making.config.max_name_length, &taken, u)
 }

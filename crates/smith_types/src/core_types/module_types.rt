@@ -74,7 +74,7 @@ fn read_import(
     ensures kept { (around : _) → KeepsDeclared around declared.old → OnOk result (KeepsDeclared around declared.new) }
     ensures input { Consumes result u.old u.new }
 {
-    let (module, name) = read_import_names(making.alloc, u, &declared.counted.defs)?;
+    let (module, name) = read_import_names(making, u, &declared.counted.defs)?;
     match read_entity(making, u, declared) {
         None => Ok(false),
         Some(entity_type) => {
@@ -103,7 +103,7 @@ fn read_export(
     ensures kept { (around : _) → KeepsDeclared around declared.old → OnOk result (KeepsDeclared around declared.new) }
     ensures input { Consumes result u.old u.new }
 {
-    let name = read_export_name(making.alloc, u, &declared.counted.defs)?;
+    let name = read_export_name(making, u, &declared.counted.defs)?;
     match read_entity(making, u, declared) {
         None => Ok(false),
         Some(entity) => {
@@ -175,14 +175,14 @@ fn read_declarations(
     requires few { length declared.old.own.items ≤ 2 }
     ensures reads { OnOk result ((more : List ModuleDecl) ×
         Loop (EndsModuleType making.now.config.now (own_scope scopes.now))
-        (ReadsDecl making.now.config.now (own_scope scopes.now)) 0 100 0 (so_far declared.old fuel.old)
-        u.old more u.new (so_far declared.new fuel.new)) }
+        (ReadsDecl making.now.config.now (own_scope scopes.now)) making.now.config.now.loop_bits 0 100 0
+        (so_far declared.old fuel.old) u.old more u.new (so_far declared.new fuel.new)) }
     ensures kept { KeepsDeclared (own_scope scopes.now).core_types declared.old
         → OnOk result (KeepsDeclared (own_scope scopes.now).core_types declared.new) }
     ensures input { Consumes result u.old u.new }
 {
     for done in 0..100 {
-        if !u.more(done, 0, 100) {
+        if !u.more_of(making.config.loop_bits, done, 0, 100) {
             return Ok(());
         }
         burn(fuel);

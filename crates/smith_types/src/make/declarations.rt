@@ -67,7 +67,7 @@ pub(super) fn read_import(
     let Some(ty) = arbitrary_type_ref(u, making.config, scopes, UNCOUNTED, true, true) else {
         return Ok(None);
     };
-    let (name, url) = named_extern(making.alloc, u, imports)?;
+    let (name, url) = named_extern(making.alloc, making.config, u, imports)?;
     Ok(Some(Import { name, url, ty }))
 }
 
@@ -110,7 +110,7 @@ pub(super) fn read_export(
         unreachable!();
     };
     add_exported(scopes, ty)?;
-    let (name, url) = named_extern(making.alloc, u, exports)?;
+    let (name, url) = named_extern(making.alloc, making.config, u, exports)?;
     Ok(InstanceTypeDecl::Export { name, url, ty })
 }
 

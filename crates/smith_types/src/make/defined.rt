@@ -11,6 +11,7 @@ ghost use Rattle.smith_syntax.specs.Shown.{shown_defined};
 ghost use Rattle.smith_syntax.specs.Signature.{named};
 ghost use Rattle.smith_syntax.specs.declared.types.PrimitiveValType.TheVariants as prim;
 
+use super::making::Making;
 use super::members::read_members;
 use super::values::{read_maybe_value_type, read_primitive, read_value_type};
 use smith_input::{Error, Unstructured};
@@ -20,7 +21,6 @@ use smith_syntax::{
     RecordType, ResultType, TupleType, VariantType,
 };
 use smith_tree::{DefinedKind, defined_kinds};
-use std::alloc::Global;
 
 // What a type that would have no member becomes.
 fn bool_type() -> DefinedType
@@ -92,26 +92,26 @@ fn read_result_type(u: &mut Unstructured, scopes: &Scopes) -> ResultType
 
 // A defined type of one kind.
 fn read_defined_of(
-    alloc: Global,
+    making: &Making,
     u: &mut Unstructured,
     scopes: &Scopes,
     fuel: &mut u32,
     kind: DefinedKind,
 ) -> Result<DefinedType, Error>
     ensures made { IfOk result (λ t.
-        MadeAs (own_marked scopes.now) kind u.old fuel.old (shown_defined t) u.new fuel.new) }
+        MadeAs making.now.config.now (own_marked scopes.now) kind u.old fuel.old (shown_defined t) u.new fuel.new) }
     ensures input { Consumes result u.old u.new }
 {
     match kind {
         DefinedKind::Primitive => Ok(DefinedType::Primitive(read_primitive(u))),
-        DefinedKind::Record => Ok(record_type(read_members(alloc, u, scopes, fuel, (1, 100))?)),
-        DefinedKind::Variant => Ok(variant_type(read_members(alloc, u, scopes, fuel, (1, 100))?)),
+        DefinedKind::Record => Ok(record_type(read_members(making, u, scopes, fuel, (1, 100))?)),
+        DefinedKind::Variant => Ok(variant_type(read_members(making, u, scopes, fuel, (1, 100))?)),
         DefinedKind::List => Ok(DefinedType::List(ListType {
             elem_ty: read_value_type(u, scopes),
         })),
-        DefinedKind::Tuple => Ok(tuple_type(read_members(alloc, u, scopes, fuel, (1, 100))?)),
-        DefinedKind::Flags => Ok(flags_type(read_members(alloc, u, scopes, fuel, (1, 32))?)),
-        DefinedKind::Enum => Ok(enum_type(read_members(alloc, u, scopes, fuel, (1, 100))?)),
+        DefinedKind::Tuple => Ok(tuple_type(read_members(making, u, scopes, fuel, (1, 100))?)),
+        DefinedKind::Flags => Ok(flags_type(read_members(making, u, scopes, fuel, (1, 32))?)),
+        DefinedKind::Enum => Ok(enum_type(read_members(making, u, scopes, fuel, (1, 100))?)),
         DefinedKind::Option => Ok(DefinedType::Option(OptionType {
             inner_ty: read_value_type(u, scopes),
         })),
@@ -121,15 +121,15 @@ fn read_defined_of(
 
 // A defined type: a choice of nine kinds, and a type of that kind.
 pub(super) fn read_defined_type(
-    alloc: Global,
+    making: &Making,
     u: &mut Unstructured,
     scopes: &Scopes,
     fuel: &mut u32,
 ) -> Result<DefinedType, Error>
     ensures made { IfOk result (λ t.
-        MadeDefined (own_marked scopes.now) u.old fuel.old (shown_defined t) u.new fuel.new) }
+        MadeDefined making.now.config.now (own_marked scopes.now) u.old fuel.old (shown_defined t) u.new fuel.new) }
     ensures input { Consumes result u.old u.new }
 {
     let kind = *u.choose(defined_kinds());
-    read_defined_of(alloc, u, scopes, fuel, kind)
+    read_defined_of(making, u, scopes, fuel, kind)
 }

@@ -6,20 +6,25 @@ ghost use Rattle.smith_input.specs.Reading.{IsTail};
 ghost use Rattle.smith_types.specs.Made.{MadeFunction, ReadsResult};
 ghost use Rattle.smith_scopes.specs.Scopes.{own_marked};
 
+use super::making::Making;
 use super::members::read_members;
 use super::values::read_value_type;
 use smith_format::burn;
 use smith_input::{Error, Unstructured};
 use smith_scopes::Scopes;
 use smith_syntax::{ComponentValType, FuncType};
-use std::alloc::Global;
 
 // The result of a function, or none: a loop of at most one turn.
-fn read_result(u: &mut Unstructured, scopes: &Scopes, fuel: &mut u32) -> Option<ComponentValType>
-    ensures reads { ReadsResult (own_marked scopes.now) u.old fuel.old result u.new fuel.new }
+fn read_result(
+    making: &Making,
+    u: &mut Unstructured,
+    scopes: &Scopes,
+    fuel: &mut u32,
+) -> Option<ComponentValType>
+    ensures reads { ReadsResult making.now.config.now (own_marked scopes.now) u.old fuel.old result u.new fuel.new }
     ensures tail { IsTail u.new u.old }
 {
-    if !u.more(0, 0, 1) {
+    if !u.more_of(making.config.loop_bits, 0, 0, 1) {
         return None;
     }
     burn(fuel);
@@ -31,15 +36,16 @@ fn read_result(u: &mut Unstructured, scopes: &Scopes, fuel: &mut u32) -> Option<
 
 // A function type: at most 16 parameters, and then a result or none.
 pub(super) fn read_function_type(
-    alloc: Global,
+    making: &Making,
     u: &mut Unstructured,
     scopes: &Scopes,
     fuel: &mut u32,
 ) -> Result<FuncType, Error>
-    ensures made { IfOk result (λ f. MadeFunction (own_marked scopes.now) u.old fuel.old f u.new fuel.new) }
+    ensures made { IfOk result (λ f. MadeFunction making.now.config.now (own_marked scopes.now) u.old fuel.old f
+        u.new fuel.new) }
     ensures input { Consumes result u.old u.new }
 {
-    let params = read_members(alloc, u, scopes, fuel, (0, 16))?;
-    let result = read_result(u, scopes, fuel);
+    let params = read_members(making, u, scopes, fuel, (0, 16))?;
+    let result = read_result(making, u, scopes, fuel);
     Ok(FuncType { params, result })
 }

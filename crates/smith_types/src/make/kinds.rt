@@ -52,12 +52,12 @@ fn read_type_of(
 {
     match kind {
         TypeKind::Defined => {
-            let ty = read_defined_type(making.alloc, u, scopes, fuel)?;
+            let ty = read_defined_type(making, u, scopes, fuel)?;
             let mark = scopes.defined_mark(&ty);
             Ok((DefType::Defined(ty), mark))
         }
         TypeKind::Function => {
-            let func = read_function_type(making.alloc, u, scopes, fuel)?;
+            let func = read_function_type(making, u, scopes, fuel)?;
             let mark = scopes.function_mark(&func);
             Ok((DefType::Func(Rc::new(making.alloc, func)?), mark))
         }

@@ -1,6 +1,7 @@
 //! Members of a type from the input: a loop that takes fuel.
 
 ghost use Rattle.std.specs.Prelude.{◌≤◌, ℕ, List, map, string_bytes, IfOk};
+ghost use Rattle.smith_format.specs.declared.config.Config.{Config};
 ghost use Rattle.smith_input.specs.Names.{ReadsNew};
 ghost use Rattle.smith_input.specs.Consumes.{Consumes};
 ghost use Rattle.smith_syntax.specs.Entries.{Field, Case};
@@ -10,12 +11,12 @@ ghost use Rattle.smith_scopes.specs.Scopes.{own_marked};
 ghost use Rattle.smith_syntax.specs.Signature.{named};
 ghost use Rattle.smith_syntax.specs.declared.types.ComponentValType.{ComponentValType as Val};
 
+use super::making::Making;
 use super::values::{read_maybe_value_type, read_value_type};
 use smith_format::burn;
-use smith_input::{Error, MAX_NAME_LEN, Unstructured, new_kebab_string};
+use smith_input::{Error, Unstructured, new_kebab_string};
 use smith_scopes::Scopes;
 use smith_syntax::ComponentValType;
-use std::alloc::Global;
 
 // What a loop reads, one after another. A member that has a name has a new one.
 pub(super) trait Member: Drop {
@@ -23,43 +24,44 @@ pub(super) trait Member: Drop {
 
     ghost shown: { Self → Shown };
 
-    ghost reads_member: { Marked → List Shown → List ℕ → Shown → List ℕ → Type 0 };
+    ghost reads_member: { Config → Marked → List Shown → List ℕ → Shown → List ℕ → Type 0 };
 
     // A member after those so far.
     fn read(
-        alloc: Global,
+        making: &Making,
         u: &mut Unstructured,
         scopes: &Scopes,
         so_far: &[Self],
     ) -> Result<Self, Error>
         ensures read { IfOk result
-            (λ m. reads_member (own_marked scopes.now) (map shown so_far.now) u.old (shown m) u.new) }
+            (λ m. reads_member making.now.config.now (own_marked scopes.now) (map shown so_far.now) u.old (shown m) u.new) }
         ensures input { Consumes result u.old u.new };
 }
 
 // The members of a type: at least `counts.0` if the fuel lasts, and at most `counts.1`.
 pub(super) fn read_members<M: Member>(
-    alloc: Global,
+    making: &Making,
     u: &mut Unstructured,
     scopes: &Scopes,
     fuel: &mut u32,
     counts: (usize, usize),
 ) -> Result<Vec<M>, Error>
     requires { counts.0 ≤ counts.1 }
-    ensures reads { IfOk result (λ v. ReadsMembers (M.reads_member (own_marked scopes.now)) counts.0 counts.1 u.old
-        fuel.old (map M.shown v.items) u.new fuel.new) }
+    ensures reads { IfOk result (λ v. ReadsMembers making.now.config.now
+        (M.reads_member making.now.config.now (own_marked scopes.now)) counts.0 counts.1 u.old fuel.old
+        (map M.shown v.items) u.new fuel.new) }
     ensures input { Consumes result u.old u.new }
 {
-    let mut members = Vec::new(alloc);
+    let mut members = Vec::new(making.alloc);
     for done in 0..counts.1 {
-        if !u.more(done, counts.0, counts.1) {
+        if !u.more_of(making.config.loop_bits, done, counts.0, counts.1) {
             return Ok(members);
         }
         burn(fuel);
         if *fuel == 0 {
             return Ok(members);
         }
-        let member = M::read(alloc, u, scopes, &members)?;
+        let member = M::read(making, u, scopes, &members)?;
         members.push(member)?;
     }
     Ok(members)
@@ -70,10 +72,10 @@ impl Member for ComponentValType {
 
     ghost shown = { λ v. v };
 
-    ghost reads_member = { λ own so_far. ReadsVal own };
+    ghost reads_member = { λ config own so_far. ReadsVal own };
 
     fn read(
-        _alloc: Global,
+        _making: &Making,
         u: &mut Unstructured,
         scopes: &Scopes,
         _so_far: &[ComponentValType],
@@ -87,15 +89,15 @@ impl Member for String {
 
     ghost shown = { string_bytes };
 
-    ghost reads_member = { λ own. ReadsNew 100 };
+    ghost reads_member = { λ config own. ReadsNew config.max_name_length };
 
     fn read(
-        alloc: Global,
+        making: &Making,
         u: &mut Unstructured,
         _scopes: &Scopes,
         so_far: &[String],
     ) -> Result<String, Error> {
-        new_kebab_string(alloc, MAX_NAME_LEN, &so_far, u)
+        new_kebab_string(making.alloc, making.config.max_name_length, &so_far, u)
     }
 }
 
@@ -104,15 +106,15 @@ impl Member for (String, ComponentValType) {
 
     ghost shown = { λ f. named f };
 
-    ghost reads_member = { λ own. ReadsNamed (ReadsVal own) };
+    ghost reads_member = { λ config own. ReadsNamed config (ReadsVal own) };
 
     fn read(
-        alloc: Global,
+        making: &Making,
         u: &mut Unstructured,
         scopes: &Scopes,
         so_far: &[(String, ComponentValType)],
     ) -> Result<(String, ComponentValType), Error> {
-        let name = new_kebab_string(alloc, MAX_NAME_LEN, &so_far, u)?;
+        let name = new_kebab_string(making.alloc, making.config.max_name_length, &so_far, u)?;
         Ok((name, read_value_type(u, scopes)))
     }
 }
@@ -122,15 +124,15 @@ impl Member for (String, Option<ComponentValType>) {
 
     ghost shown = { λ c. named c };
 
-    ghost reads_member = { λ own. ReadsNamed (ReadsMaybe own) };
+    ghost reads_member = { λ config own. ReadsNamed config (ReadsMaybe own) };
 
     fn read(
-        alloc: Global,
+        making: &Making,
         u: &mut Unstructured,
         scopes: &Scopes,
         so_far: &[(String, Option<ComponentValType>)],
     ) -> Result<(String, Option<ComponentValType>), Error> {
-        let name = new_kebab_string(alloc, MAX_NAME_LEN, &so_far, u)?;
+        let name = new_kebab_string(making.alloc, making.config.max_name_length, &so_far, u)?;
         Ok((name, read_maybe_value_type(u, scopes)))
     }
 }

@@ -130,7 +130,7 @@ fn read_declarations(
 {
     let mut declared = TypeBody::new(making.alloc, importing);
     for done in 0..100 {
-        if !u.more(done, 0, 100) {
+        if !u.more_of(making.config.loop_bits, done, 0, 100) {
             return Ok(declared);
         }
         burn(fuel);

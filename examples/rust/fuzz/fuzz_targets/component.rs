@@ -4,7 +4,7 @@ use libfuzzer_sys::fuzz_target;
 use lupinanon::{generate, Limits};
 
 fuzz_target!(|data: &[u8]| {
-    let limits = Limits { must_validate: true, ..Limits::default() };
+    let limits = Limits { must_validate: true, ..Limits::fuzz() };
     if let Ok(made) = generate(&limits, data) {
         accepts(&made.bytes);
     }

@@ -11,4 +11,4 @@ pub returns-clause-tags : goal.returns-clause-tags
 returns-clause-tags c = λ candidates bytes t o left rest r s. tag_unique r s
 
 pub returns-clause-functions : goal.returns-clause-functions
-returns-clause-functions c = λ valtypes max_results bytes f g left rest r s. function_unique r s
+returns-clause-functions c = λ bits valtypes max_results bytes f g left rest r s. function_unique r s

@@ -8,5 +8,5 @@ use Rattle.smith_format.proofs.make.make_values.Given as goal
 abbrev pub invariant-loop-done : goal.invariant-loop-done
 invariant-loop-done l = record {
   tail : IsTail l.u l.fn.u;
-  onward : Onward Never (ReadsValue l.valtypes) 0 l.max tt l.fn.u l.types.items l.done tt l.u;
+  onward : Onward Never (ReadsValue l.valtypes) l.bits 0 l.max tt l.fn.u l.types.items l.done tt l.u;
 }

@@ -15,9 +15,9 @@ pub returns-in_ok-say_signature-in-Func : goal.returns-in_ok-say_signature-in-Fu
 returns-in_ok-say_signature-in-Func c own =
     let is = ap shown_type_node c.in-Func.is ∙ shown_function c.in-Func.signature in
     rw is (ends c.say_position.result _ _ (c.in_ok-say_signature-in-Func.ensures {u = tt})
-    (rw (c.equals.ensures c.in-Func.signature (c.requires ∙ ap Some is)) at c.say_position.ensures))
+    (rw (c.equals.ensures c.in-Func.signature (c.requires.at ∙ ap Some is)) at c.say_position.ensures))
 
 pub say_position-requires : goal.say_position-requires
 say_position-requires c =
     ascend_as (is_of_signature c.in-Func.signature) (map shown_type_node c.args.here.now.types) _
-    (c.equals.ensures c.in-Func.signature (c.requires ∙ ap Some (ap shown_type_node c.in-Func.is ∙ shown_function c.in-Func.signature)))
+    (c.equals.ensures c.in-Func.signature (c.requires.at ∙ ap Some (ap shown_type_node c.in-Func.is ∙ shown_function c.in-Func.signature)))

@@ -5,6 +5,7 @@ use Rattle.smith_script_types.proofs.names.say_name.Goals as goal
 
 pub returns : goal.returns
 returns c =
-    let text : c.front.result.now ≡ take 100 (stem_of (is_within 100) c.args.count c.args.name.now) =
-    c.front.ensures ∙ ap (take 100) (c.stem_of-text.ensures ∙ ap (stem_of (is_within 100) c.args.count) c.as_bytes.ensures.value) in
+    let max = c.args.config.now.max_name_length in
+    let text : c.front.result.now ≡ take max (stem_of (is_within max) c.args.count c.args.name.now) =
+    c.front.ensures ∙ ap (take max) (c.stem_of-text.ensures ∙ ap (stem_of (is_within max) c.args.count) c.as_bytes.ensures.value) in
     rw text at c.say_kebab.ensures

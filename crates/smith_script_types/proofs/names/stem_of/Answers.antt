@@ -10,10 +10,11 @@ loop-turn-init g c =
     let name = c.args.name.now in
     let digits = c.decimal_len-digits.result in
     let excess = c.saturating_sub-excess.result in
+    let longest = c.longest.result in
     let less : excess / digits ≤ excess = omega arith in
     let times : excess / digits * digits ≤ excess = omega arith in
-    let is : excess ≡ length name - 101 = c.saturating_sub-excess.ensures in
-    sym (first_cut can_read digits c.decimal_len-digits.ensures.some c.refuses_long.ensures (excess / digits) (length name) name
+    let is : excess ≡ length name - (longest + 1) = omega (arith, c.saturating_sub-excess.ensures, c.saturating_sub.ensures) in
+    sym (first_cut can_read digits c.decimal_len-digits.ensures.some longest c.longest.ensures (excess / digits) (length name) name
     (omega (arith, less, is)) (omega (arith, times, is)))
 
 pub loop-turn-preserved : goal.loop-turn-preserved

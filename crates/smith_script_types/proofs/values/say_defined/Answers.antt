@@ -7,20 +7,20 @@ use Rattle.smith_script_types.proofs.values.say_defined.Goals as goal
 
 pub returns-in-Record : goal.returns-in-Record
 returns-in-Record c =
-    rw (c.in-Record.is, members_map (script_field (shown_marked c.args.own.now)) named 1 100 c.in-Record.ty.fields.items)
+    rw (c.in-Record.is, members_map (script_field c.args.config.now (shown_marked c.args.own.now)) named 1 100 c.in-Record.ty.fields.items)
     (rw c.deref.ensures.value at c.say_list.ensures)
 
 pub returns-in-Variant : goal.returns-in-Variant
 returns-in-Variant c =
-    rw (c.in-Variant.is, members_map (script_case (shown_marked c.args.own.now)) named 1 100 c.in-Variant.ty.cases.items)
+    rw (c.in-Variant.is, members_map (script_case c.args.config.now (shown_marked c.args.own.now)) named 1 100 c.in-Variant.ty.cases.items)
     (rw c.deref-in-Variant.ensures.value at c.say_list-in-Variant.ensures)
 
 pub returns-in-Flags : goal.returns-in-Flags
 returns-in-Flags c =
-    rw (c.in-Flags.is, members_map script_label string_bytes 1 32 c.in-Flags.ty.fields.items)
+    rw (c.in-Flags.is, members_map (script_label c.args.config.now) string_bytes 1 32 c.in-Flags.ty.fields.items)
     (rw c.deref-in-Flags.ensures.value at c.say_list-in-Flags.ensures)
 
 pub returns-in-Enum : goal.returns-in-Enum
 returns-in-Enum c =
-    rw (c.in-Enum.is, members_map script_label string_bytes 1 100 c.in-Enum.ty.variants.items)
+    rw (c.in-Enum.is, members_map (script_label c.args.config.now) string_bytes 1 100 c.in-Enum.ty.variants.items)
     (rw c.deref-in-Enum.ensures.value at c.say_list-in-Enum.ensures)

@@ -8,5 +8,5 @@ use Rattle.smith_types.proofs.canonical.lifted_params.Given as goal
 abbrev pub invariant-loop-ty : goal.invariant-loop-ty
 invariant-loop-ty l = record {
   tail : IsTail l.u l.fn.u;
-  onward : Onward l.core l.fn.u l.ty-index l.u (map named l.params.items);
+  onward : Onward l.max_name_length l.core l.fn.u l.ty-index l.u (map named l.params.items);
 }

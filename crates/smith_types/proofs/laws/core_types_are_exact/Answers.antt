@@ -8,13 +8,13 @@ use Rattle.smith_types.proofs.CoreScriptBytes.{small_core}
 use Rattle.smith_types.proofs.laws.core_types_are_exact.Goals as goal
 
 pub returns : goal.returns
-returns c config around fuel e few = (
+returns c config around fuel e few short = (
   λ (bytes, rest, all, left, made). (let f = core_fits made in (f.formed, f.limits, f.readable, f.takes.enough)),
   λ (formed, limits, texts, need). (
     script_core config around fuel e ++ [],
     [],
-    (small_join (small_core config around fuel e formed limits texts need few) small_none).are,
+    (small_join (small_core config around fuel e formed limits texts need few short) small_none).are,
     fuel - core_cost e,
-    core_read config around fuel e [] formed limits texts need few,
+    core_read config around fuel e [] formed limits texts need few short,
   ),
 )

@@ -1,4 +1,4 @@
-use Rattle.std.proofs.Common.{◌≡◌, ◌<◌, refl, sym, ap, ◌∙◌, subst, arith, true, false, append-nil, length, length-drop}
+use Rattle.std.proofs.Common.{◌≡◌, ◌<◌, refl, rules, sym, ap, ◌∙◌, subst, arith, true, false, append-nil, length, length-drop}
 use Rattle.std.proofs.lemmas.Result.{IfOk-weaker}
 use Rattle.smith_input.proofs.Reading.{tail_trans, more_tail}
 use Rattle.smith_syntax.specs.Entries.{FullDecl, function, in_order}
@@ -100,12 +100,18 @@ items::read_type_decl-returns-clause-scopes t c =
       outer = same_changed adds;
     }
 
-pub scoped::read_declarations-returns-then-not-more-clause-made : goal.scoped::read_declarations-returns-then-not-more-clause-made
-scoped::read_declarations-returns-then-not-more-clause-made t c = stops c.loop-done.invariant.progress _ c.more.result c.more.ensures c.if-not-more.true
+pub scoped::read_declarations-returns-in_err-declare-clause-input : goal.scoped::read_declarations-returns-in_err-declare-clause-input
+scoped::read_declarations-returns-in_err-declare-clause-input t c = record {
+  tail = tail_trans c.declare.ensures.input.tail (tail_trans (more_tail c.more_of.ensures) c.loop-done.invariant.tail);
+  memory = search rules;
+}
+
+pub scoped::read_declarations-returns-then-not-more_of-clause-made : goal.scoped::read_declarations-returns-then-not-more_of-clause-made
+scoped::read_declarations-returns-then-not-more_of-clause-made t c = stops c.loop-done.invariant.progress _ c.more_of.result c.more_of.ensures c.if-not-more_of.true
 
 pub scoped::read_declarations-returns-then-fuel-eq0-clause-made : goal.scoped::read_declarations-returns-then-fuel-eq0-clause-made
 scoped::read_declarations-returns-then-fuel-eq0-clause-made t c =
-    spends c.loop-done.invariant.progress _ c.more.result c.burn.new.fuel c.more.ensures c.if-not-more.false c.burn.ensures c.if-fuel-eq0.true
+    spends c.loop-done.invariant.progress _ c.more_of.result c.burn.new.fuel c.more_of.ensures c.if-not-more_of.false c.burn.ensures c.if-fuel-eq0.true
 
 pub scoped::read_declarations-loop-done-preserved : goal.scoped::read_declarations-loop-done-preserved
 scoped::read_declarations-loop-done-preserved t c =
@@ -113,10 +119,10 @@ scoped::read_declarations-loop-done-preserved t c =
     let adds = c.in_ok-declare.ensures.made p.so_far p.own_is p.names in
     let size = (declaration_fits adds.made).takes.within in
     record {
-      progress = goes_on p _ _ c.more.result c.burn.new.fuel _ _ _ c.more.ensures c.if-not-more.false c.burn.ensures (omega (arith, c.if-fuel-eq0.false)) adds;
+      progress = goes_on p _ _ c.more_of.result c.burn.new.fuel _ _ _ c.more_of.ensures c.if-not-more_of.false c.burn.ensures (omega (arith, c.if-fuel-eq0.false)) adds;
       outer = same_trans c.loop-done.invariant.outer c.in_ok-declare.ensures.outer;
       fuel = omega (arith, size, c.burn.ensures, c.loop-done.invariant.fuel);
-      tail = tail_trans c.in_ok-declare.ensures.input.tail (tail_trans (more_tail c.more.ensures) c.loop-done.invariant.tail);
+      tail = tail_trans c.in_ok-declare.ensures.input.tail (tail_trans (more_tail c.more_of.ensures) c.loop-done.invariant.tail);
     }
 
 pub scoped::read_declarations-returns-clause-made : goal.scoped::read_declarations-returns-clause-made

@@ -37,5 +37,5 @@ returns-clause-mark c = λ keeps.
     ∙ sym (mark_plain (full_type c.in_ok-made.made.0.value) (own_marked c.args.scopes.now) (outer_marked c.args.scopes.now))
 
 pub returns-clause-script : goal.returns-clause-script
-returns-clause-script c e rest said begins = type_scripted c.args.config.now c.requires.consistent.nesting _ _ _ _ e _ _ rest _ said begins
+returns-clause-script c e rest said begins = type_scripted c.args.config.now said.names c.requires.consistent.nesting _ _ _ _ e _ _ rest _ said begins
     c.in_ok-made.ensures.made

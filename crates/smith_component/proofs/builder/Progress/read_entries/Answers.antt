@@ -12,17 +12,17 @@ use Rattle.smith_component.proofs.builder.Progress.read_entries.Goals as goal
 pub loop-done-init : goal.loop-done-init
 loop-done-init g c = grind (arith, tail_same, begins)
 
-pub returns-then-not-more-clause-entries : goal.returns-then-not-more-clause-entries
-returns-then-not-more-clause-entries g c = stops _ _ _ _ _ _ _ _ _ _ _ _ c.if-not-more.true c.more.ensures c.loop-done.invariant.onward
+pub returns-then-not-more_of-clause-entries : goal.returns-then-not-more_of-clause-entries
+returns-then-not-more_of-clause-entries g c = stops _ _ _ _ _ _ _ _ _ _ _ _ _ c.if-not-more_of.true c.more_of.ensures c.loop-done.invariant.onward
 
 pub returns-in_err-push-clause-input : goal.returns-in_err-push-clause-input
 returns-in_err-push-clause-input g c = record {
-  tail = turn_left c.read.ensures.input.tail c.more.ensures c.loop-done.invariant.tail;
+  tail = turn_left c.read.ensures.input.tail c.more_of.ensures c.loop-done.invariant.tail;
   memory = search rules;
 }
 
 pub returns-clause-entries : goal.returns-clause-entries
-returns-clause-entries g c = ends_full _ _ _ _ _ _ _ _ _ _ c.loop-done-test.false c.loop-done.invariant.onward
+returns-clause-entries g c = ends_full _ _ _ _ _ _ _ _ _ _ _ c.loop-done-test.false c.loop-done.invariant.onward
 
 pub read-requires : goal.read-requires
 read-requires g c =
@@ -43,11 +43,11 @@ loop-done-preserved g c =
     let entry = c.in_ok-entry.entry in
     let i = c.loop-done.invariant in
     let e = c.in_ok-entry.ensures in
-    let R : List Marked → Type 0 = λ o. E.reads c.args.self.now.config o (own_marked c.loop-done.scopes) c.more.new.self entry c.read.new.u
+    let R : List Marked → Type 0 = λ o. E.reads c.args.self.now.config o (own_marked c.loop-done.scopes) c.more_of.new.self entry c.read.new.u
     (own_marked c.read.new.scopes) in
     record {
-      tail = turn_left c.read.ensures.input.tail c.more.ensures i.tail;
+      tail = turn_left c.read.ensures.input.tail c.more_of.ensures i.tail;
       count = omega (arith, e.count, i.count);
       around = around_then i.around e.around;
-      onward = goes_on _ _ _ _ _ _ _ _ _ _ _ _ _ _ _ _ c.if-not-more.false c.more.ensures (subst R i.around.outer e.read) c.in_ok-push.ensures.items i.onward;
+      onward = goes_on _ _ _ _ _ _ _ _ _ _ _ _ _ _ _ _ _ c.if-not-more_of.false c.more_of.ensures (subst R i.around.outer e.read) c.in_ok-push.ensures.items i.onward;
     }

@@ -15,6 +15,6 @@ invariant-loop-done g l =
       tail : IsTail l.u l.fn.u;
       count : E.count (own_marked l.scopes) ≡ E.count (own_marked b.scopes) + l.done;
       around : KeepsAround b.scopes l.scopes;
-      onward : Onward Never (E.reads b.config (outer_marked b.scopes)) l.min l.max (own_marked b.scopes) l.fn.u l.entries.items l.done
+      onward : Onward Never (E.reads b.config (outer_marked b.scopes)) b.config.loop_bits l.min l.max (own_marked b.scopes) l.fn.u l.entries.items l.done
           (own_marked l.scopes) l.u;
     }

@@ -44,18 +44,18 @@ loop-done-init c =
     let tabled = i.1.0.tabled in
     let before = externs_of b.inner.sections.items in
     let S : List Import → Type 0 = λ is. ImportsState b.config (stack_of b) before is (own_marked b.scopes) b.totals b.inner.tables in
-    let O : List Import → Type 0 = λ is. Onward (NoImportValue b.config (stack_of b)) (ReadsImportValue b.config (stack_of b) before) c.args.min c.args.max []
+    let O : List Import → Type 0 = λ is. Onward (NoImportValue b.config (stack_of b)) (ReadsImportValue b.config (stack_of b) before) b.config.loop_bits c.args.min c.args.max []
     c.args.u.now is 0 is c.args.u.now in
     record {
       tail = tail_same c.args.u.now;
       within = omega (arith, spaces.most, o.exports, tabled.counts, ap length tabled.functions);
-      onward = subst O (sym none) (begins _ _ _ _ _ _ [] refl);
+      onward = subst O (sym none) (begins _ _ _ _ _ _ _ [] refl);
       around = record { outer = refl; depth = refl };
       importing = subst S (sym none) (first b i);
     }
 
-pub returns-then-not-more-clause-reads : goal.returns-then-not-more-clause-reads
-returns-then-not-more-clause-reads c = stops _ _ _ _ _ _ _ _ _ _ _ _ c.if-not-more.true c.more.ensures c.loop-done.invariant.onward
+pub returns-then-not-more_of-clause-reads : goal.returns-then-not-more_of-clause-reads
+returns-then-not-more_of-clause-reads c = stops _ _ _ _ _ _ _ _ _ _ _ _ _ c.if-not-more_of.true c.more_of.ensures c.loop-done.invariant.onward
 
 pub returns-in_default-clause-reads : goal.returns-in_default-clause-reads
 returns-in_default-clause-reads c =
@@ -63,10 +63,10 @@ returns-in_default-clause-reads c =
     let l = c.loop-done in
     let P : Option Import → Type 0 =
     λ i. ImportsOne b.config (stack_of b) (externs_of b.inner.sections.items) l.imports.items (own_marked c.read_import.new.scopes)
-    c.read_import.new.totals c.read_import.new.tables c.more.new.self i c.read_import.new.u in
+    c.read_import.new.totals c.read_import.new.tables c.more_of.new.self i c.read_import.new.u in
     let none = subst P c.in_default.is
     (c.in_ok-import.ensures.imports (stack_of b) (externs_of b.inner.sections.items) l.imports.items l.invariant.importing) in
-    ends_early _ _ _ _ _ _ _ _ _ _ _ _ _ _ c.if-not-more.false c.more.ensures none.0 l.invariant.onward
+    ends_early _ _ _ _ _ _ _ _ _ _ _ _ _ _ _ c.if-not-more_of.false c.more_of.ensures none.0 l.invariant.onward
 
 pub returns-in_default-clause-counts : goal.returns-in_default-clause-counts
 returns-in_default-clause-counts c =
@@ -74,7 +74,7 @@ returns-in_default-clause-counts c =
     let l = c.loop-done in
     let P : Option Import → Type 0 =
     λ i. ImportsOne b.config (stack_of b) (externs_of b.inner.sections.items) l.imports.items (own_marked c.read_import.new.scopes)
-    c.read_import.new.totals c.read_import.new.tables c.more.new.self i c.read_import.new.u in
+    c.read_import.new.totals c.read_import.new.tables c.more_of.new.self i c.read_import.new.u in
     let none = subst P c.in_default.is
     (c.in_ok-import.ensures.imports (stack_of b) (externs_of b.inner.sections.items) l.imports.items l.invariant.importing) in
     record {
@@ -85,24 +85,24 @@ returns-in_default-clause-counts c =
 
 pub returns-in_err-push-clause-input : goal.returns-in_err-push-clause-input
 returns-in_err-push-clause-input c = record {
-  tail = turn_left c.in_ok-import.ensures.input.tail c.more.ensures c.loop-done.invariant.tail;
+  tail = turn_left c.in_ok-import.ensures.input.tail c.more_of.ensures c.loop-done.invariant.tail;
   memory = search rules;
 }
 
 pub returns-in_err-import-clause-input : goal.returns-in_err-import-clause-input
 returns-in_err-import-clause-input c = record {
-  tail = turn_left c.read_import.ensures.input.tail c.more.ensures c.loop-done.invariant.tail;
+  tail = turn_left c.read_import.ensures.input.tail c.more_of.ensures c.loop-done.invariant.tail;
   memory = search rules;
 }
 
 pub returns-in_default-clause-input : goal.returns-in_default-clause-input
 returns-in_default-clause-input c = record {
-  tail = turn_left c.read_import.ensures.input.tail c.more.ensures c.loop-done.invariant.tail;
+  tail = turn_left c.read_import.ensures.input.tail c.more_of.ensures c.loop-done.invariant.tail;
   memory = tt;
 }
 
 pub returns-clause-reads : goal.returns-clause-reads
-returns-clause-reads c = ends_full _ _ _ _ _ _ _ _ _ _ c.loop-done-test.false c.loop-done.invariant.onward
+returns-clause-reads c = ends_full _ _ _ _ _ _ _ _ _ _ _ c.loop-done-test.false c.loop-done.invariant.onward
 
 pub loop-done-preserved : goal.loop-done-preserved
 loop-done-preserved c =
@@ -114,13 +114,13 @@ loop-done-preserved c =
     let all = c.in_ok-push.ensures.items in
     let P : Option Import → Type 0 =
     λ i. ImportsOne b.config stack before so_far (own_marked c.read_import.new.scopes) c.read_import.new.totals c.read_import.new.tables
-    c.more.new.self i c.read_import.new.u in
+    c.more_of.new.self i c.read_import.new.u in
     let one = subst P c.in-Some.is (c.in_ok-import.ensures.imports stack before so_far l.invariant.importing) in
-    let R : List Import → Type 0 = λ z. ReadsImportValue b.config stack before so_far c.more.new.self c.in-Some.import c.read_import.new.u z in
+    let R : List Import → Type 0 = λ z. ReadsImportValue b.config stack before so_far c.more_of.new.self c.in-Some.import c.read_import.new.u z in
     record {
-      tail = turn_left c.in_ok-import.ensures.input.tail c.more.ensures l.invariant.tail;
+      tail = turn_left c.in_ok-import.ensures.input.tail c.more_of.ensures l.invariant.tail;
       within = c.in_ok-import.ensures.within;
-      onward = goes_on _ _ _ _ _ _ _ _ _ _ _ _ _ _ _ _ c.if-not-more.false c.more.ensures (subst R (sym all) one.0) all l.invariant.onward;
+      onward = goes_on _ _ _ _ _ _ _ _ _ _ _ _ _ _ _ _ _ c.if-not-more_of.false c.more_of.ensures (subst R (sym all) one.0) all l.invariant.onward;
       around = around_then l.invariant.around c.in_ok-import.ensures.around;
       importing = subst (λ z. ImportsState b.config stack before z (own_marked c.read_import.new.scopes) c.read_import.new.totals c.read_import.new.tables)
           (sym all) one.1;

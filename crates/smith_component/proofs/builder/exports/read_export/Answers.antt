@@ -46,7 +46,8 @@ returns-clause-tables c =
     }
 
 pub returns-clause-exports : goal.returns-clause-exports
-returns-clause-exports c config outer t es h =
+returns-clause-exports c outer t es h =
+    let config = c.args.config.now in
     let own : Marked = own_marked c.args.scopes.now in
     let old : Tables = c.args.tables.now in
     let f : ℕ = c.choose_index-func_index.result in
@@ -69,10 +70,10 @@ returns-clause-exports c config outer t es h =
     )
 
 pub returns-then-is_empty-clause-exports : goal.returns-then-is_empty-clause-exports
-returns-then-is_empty-clause-exports c config outer t es h = grind (arith, common_steps, none_there, no_items)
+returns-then-is_empty-clause-exports c outer t es h = grind (arith, common_steps, none_there, no_items)
 
 pub returns-then-not-has_room-clause-exports : goal.returns-then-not-has_room-clause-exports
-returns-then-not-has_room-clause-exports c config outer t es h = grind (arith, room_at, no_room)
+returns-then-not-has_room-clause-exports c outer t es h = grind (arith, room_at, no_room)
 
 pub returns-clause-around : goal.returns-clause-around
 returns-clause-around c = record {

@@ -2,7 +2,6 @@ use Rattle.std.proofs.Common.{◌≡◌, ◌+◌, ◌-◌, ◌≤◌, List, [], 
 use Rattle.smith_input.specs.Reading.{IsTail}
 use Rattle.smith_input.proofs.Loops.{Onward}
 use Rattle.smith_format.specs.Consistency.{max_u32}
-use Rattle.smith_format.specs.declared.config.Config.{Config}
 use Rattle.smith_scopes.specs.Scopes.{own_marked, own_scope}
 use Rattle.smith_component.specs.SectionsState.{KeepsAround, ExportsState}
 use Rattle.smith_component.specs.ExportReading.{NoExport, ReadsExport}
@@ -21,9 +20,9 @@ invariant-loop-done l =
       known : IsKnown (own_scope l.scopes) l.tables;
       room : length l.tables.functions.items + (l.max - l.done) ≤ max_u32;
       around : KeepsAround l.fn.scopes l.scopes;
-      onward : (config : Config) (outer : List Tree) (t : Tree) → ExportsState config outer t [] (own_marked l.fn.scopes) l.fn.tables
-          → Onward (NoExport config outer t) (ReadsExport config outer t) 0 l.max [] l.fn.u (map shown_export l.exports.items) l.done
+      onward : (outer : List Tree) (t : Tree) → ExportsState l.fn.config outer t [] (own_marked l.fn.scopes) l.fn.tables
+          → Onward (NoExport l.fn.config outer t) (ReadsExport l.fn.config outer t) l.fn.config.loop_bits 0 l.max [] l.fn.u (map shown_export l.exports.items) l.done
           (map shown_export l.exports.items) l.u;
-      exporting : (config : Config) (outer : List Tree) (t : Tree) → ExportsState config outer t [] (own_marked l.fn.scopes) l.fn.tables
-          → ExportsState config outer t (map shown_export l.exports.items) (own_marked l.scopes) l.tables;
+      exporting : (outer : List Tree) (t : Tree) → ExportsState l.fn.config outer t [] (own_marked l.fn.scopes) l.fn.tables
+          → ExportsState l.fn.config outer t (map shown_export l.exports.items) (own_marked l.scopes) l.tables;
     }

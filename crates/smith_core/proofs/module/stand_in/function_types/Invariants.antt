@@ -8,5 +8,5 @@ use Rattle.smith_core.proofs.module.stand_in.function_types.Given as goal
 abbrev pub invariant-loop-done : goal.invariant-loop-done
 invariant-loop-done l = record {
   tail : IsTail l.u l.fn.u;
-  onward : Onward Never (ReadsFunctionType l.fn.config) 0 l.fn.most tt l.fn.u l.types.items l.done tt l.u;
+  onward : Onward Never (ReadsFunctionType l.fn.config) l.fn.config.loop_bits 0 l.fn.most tt l.fn.u l.types.items l.done tt l.u;
 }

@@ -8,5 +8,5 @@ use Rattle.smith_core.proofs.module.stand_in.memories.Given as goal
 abbrev pub invariant-loop-done : goal.invariant-loop-done
 invariant-loop-done l = record {
   tail : IsTail l.u l.fn.u;
-  onward : Onward Never ReadsMemoryType l.fn.config.min_memories l.fn.config.max_memories tt l.fn.u l.types.items l.done tt l.u;
+  onward : Onward Never ReadsMemoryType l.fn.config.loop_bits l.fn.config.min_memories l.fn.config.max_memories tt l.fn.u l.types.items l.done tt l.u;
 }

@@ -18,6 +18,6 @@ invariant-loop-done l =
       kept : KeepsDeclared around.core_types l.fn.declared → KeepsDeclared around.core_types l.declared;
       read : List ModuleDecl;
       onward : Onward (EndsModuleType l.making.config.now around) (ReadsDecl l.making.config.now around)
-          0 100 (so_far l.fn.declared l.fn.fuel) l.fn.u read l.done
+          l.making.config.now.loop_bits 0 100 (so_far l.fn.declared l.fn.fuel) l.fn.u read l.done
           (so_far l.declared l.fuel) l.u;
     }

@@ -16,9 +16,9 @@ returns-in-None-clause-adds c around fuel =
     (c.read_entity.ensures.reads fuel) in
     let from = string_bytes c.in_ok-module.module in
     let name = string_bytes c.in_ok-module.name in
-    let N : List _ → Type 0 = λ ds. (mid : List ℕ) × ReadsText 100 c.args.u.now from mid
-    × ReadsNewText 100 (names_from from (map shown_decl ds)) mid name c.read_import_names.new.u in
-    let R : List ℕ → Type 0 = λ r. ReadsImportNames s c.args.u.now from name r in
+    let N : List _ → Type 0 = λ ds. (mid : List ℕ) × ReadsText c.args.making.now.config.now.max_name_length c.args.u.now from mid
+    × ReadsNewText c.args.making.now.config.now.max_name_length (names_from from (map shown_decl ds)) mid name c.read_import_names.new.u in
+    let R : List ℕ → Type 0 = λ r. ReadsImportNames c.args.making.now.config.now s c.args.u.now from name r in
     ((from, name, subst R (sym none.1) (subst N c.deref.ensures.value c.in_ok-module.ensures.reads), none.0), refl)
 
 pub returns-in_ok-push-in-Some-clause-adds : goal.returns-in_ok-push-in-Some-clause-adds
@@ -28,8 +28,8 @@ returns-in_ok-push-in-Some-clause-adds c around fuel =
     (c.read_entity.ensures.reads fuel) in
     let from = string_bytes c.in_ok-module.module in
     let name = string_bytes c.in_ok-module.name in
-    let N : List _ → Type 0 = λ ds. (mid : List ℕ) × ReadsText 100 c.args.u.now from mid
-    × ReadsNewText 100 (names_from from (map shown_decl ds)) mid name c.read_import_names.new.u in
+    let N : List _ → Type 0 = λ ds. (mid : List ℕ) × ReadsText c.args.making.now.config.now.max_name_length c.args.u.now from mid
+    × ReadsNewText c.args.making.now.config.now.max_name_length (names_from from (map shown_decl ds)) mid name c.read_import_names.new.u in
     let decls = pushed shown_decl old.counted.defs.items c.push.new.self.defs.items _ c.in_ok-push-in-Some.ensures.items in (
       imports from name c.in-Some.entity_type,
       (

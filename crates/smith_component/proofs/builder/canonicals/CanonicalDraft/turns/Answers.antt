@@ -10,21 +10,21 @@ use Rattle.smith_component.proofs.builder.canonicals.CanonicalDraft.turns.Goals 
 pub loop-done-init : goal.loop-done-init
 loop-done-init c = grind (arith, tail_same, drafts_none, begins)
 
-pub returns-then-not-more-clause-reads : goal.returns-then-not-more-clause-reads
-returns-then-not-more-clause-reads c = grind (arith, stops)
+pub returns-then-not-more_of-clause-reads : goal.returns-then-not-more_of-clause-reads
+returns-then-not-more_of-clause-reads c = grind (arith, stops)
 
 pub returns-clause-reads : goal.returns-clause-reads
 returns-clause-reads c = grind (arith, ends_full)
 
 pub returns-in_err-turn-clause-input : goal.returns-in_err-turn-clause-input
 returns-in_err-turn-clause-input c = record {
-  tail = turn_left c.turn.ensures.input.tail c.more.ensures c.loop-done.invariant.tail;
+  tail = turn_left c.turn.ensures.input.tail c.more_of.ensures c.loop-done.invariant.tail;
   memory = search rules;
 }
 
 pub returns-then-not-branch-clause-input : goal.returns-then-not-branch-clause-input
 returns-then-not-branch-clause-input c = record {
-  tail = turn_left c.turn.ensures.input.tail c.more.ensures c.loop-done.invariant.tail;
+  tail = turn_left c.turn.ensures.input.tail c.more_of.ensures c.loop-done.invariant.tail;
   memory = tt;
 }
 
@@ -34,9 +34,9 @@ turn-requires c = grind arith
 pub returns-then-not-branch-clause-reads : goal.returns-then-not-branch-clause-reads
 returns-then-not-branch-clause-reads c =
     let o = c.loop-done.invariant.onward in
-    let none = drafted (draft_of c.loop-done.self) (draft_of c.turn.new.self) c.more.new.self c.turn.new.u c.loop-done.invariant.loans.config
+    let none = drafted (draft_of c.loop-done.self) (draft_of c.turn.new.self) c.more_of.new.self c.turn.new.u c.loop-done.invariant.loans.config
     c.if-not-branch.true c.in_ok-turn.ensures.reads in
-    (o.0, ends_early _ _ _ _ _ _ o.0 _ _ _ _ _ _ _ c.if-not-more.false c.more.ensures none o.1)
+    (o.0, ends_early _ _ _ _ _ _ _ o.0 _ _ _ _ _ _ _ c.if-not-more_of.false c.more_of.ensures none o.1)
 
 pub returns-then-not-branch-clause-drafts : goal.returns-then-not-branch-clause-drafts
 returns-then-not-branch-clause-drafts c = drafts_then c.loop-done.invariant.drafts c.in_ok-turn.ensures.drafts
@@ -48,11 +48,11 @@ loop-done-preserved c =
     let e = c.in_ok-turn.ensures in
     let s = draft_of c.loop-done.self in
     let next = draft_of c.turn.new.self in
-    let turn = drafted s next c.more.new.self c.turn.new.u i.loans.config c.if-not-branch.false e.reads in
+    let turn = drafted s next c.more_of.new.self c.turn.new.u i.loans.config c.if-not-branch.false e.reads in
     record {
-      tail = turn_left c.turn.ensures.input.tail c.more.ensures i.tail;
+      tail = turn_left c.turn.ensures.input.tail c.more_of.ensures i.tail;
       loans = loans_then i.loans c.turn.ensures.loans;
       drafts = drafts_then i.drafts e.drafts;
-      few = omega (arith, i.few, turn_functions c.args.self.now.config.now s c.more.new.self turn.0 c.turn.new.u next turn.1);
-      onward = (o.0 ++ turn.0 ∷ [], goes_on _ _ _ _ _ _ o.0 (o.0 ++ turn.0 ∷ []) turn.0 _ s next _ _ _ _ c.if-not-more.false c.more.ensures turn.1 refl o.1);
+      few = omega (arith, i.few, turn_functions c.args.self.now.config.now s c.more_of.new.self turn.0 c.turn.new.u next turn.1);
+      onward = (o.0 ++ turn.0 ∷ [], goes_on _ _ _ _ _ _ _ o.0 (o.0 ++ turn.0 ∷ []) turn.0 _ s next _ _ _ _ c.if-not-more_of.false c.more_of.ensures turn.1 refl o.1);
     }

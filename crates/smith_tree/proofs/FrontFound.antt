@@ -1,6 +1,7 @@
 -- What declarations begin with for the canonical ABI, and what follows it.
-use Rattle.std.proofs.Common.{◌≡◌, ℕ, ◌<◌, Bool, true, false, ◌&&◌, ◌||◌, List, [], ◌∷◌, ◌++◌, length, refl, sym, ap, ◌∙◌}
-use Rattle.std.proofs.Common.{append_assoc, arith, nat_lt, bytes_eq}
+use Rattle.std.proofs.Common.{◌≡◌, ℕ, ◌<◌, Bool, true, false, ◌&&◌, ◌||◌, List, [], ◌∷◌, ◌++◌, length, take, refl, sym, ap, ◌∙◌}
+use Rattle.std.proofs.Common.{append_assoc, arith, length-append, nat_lt, bytes_eq, ◌-◌}
+use Rattle.std.proofs.Math.Seq.{take-append_seam}
 use Rattle.std.proofs.lemmas.Bool.{false≢true, and_parts, lt-ltb}
 use Rattle.std.proofs.lemmas.Bool.Decides.{nat_tests}
 use Rattle.std.proofs.lemmas.Slice.Eq.{bytes_eq-Decides}
@@ -15,7 +16,26 @@ use Rattle.smith_format.specs.declared.types.ValType.TheVariants.{I32}
 use Rattle.smith_syntax.specs.Entries.{ModuleDecl, declares, exports}
 use Rattle.smith_syntax.specs.ModuleTypes.{after_free, after_front, after_function, after_memory, after_realloc, free, is_export}
 use Rattle.smith_syntax.specs.ModuleTypes.{is_function_of, is_i32, is_of_kind, is_type, realloc, same_i32s}
-use Rattle.smith_types.proofs.ModuleFronts.{free_decls, front_decls, function_decls, memory_decls, realloc_decls}
+use Rattle.smith_tree.specs.ModuleScript.{in_front}
+
+-- the shapes: with an export of a memory or without, with a function that allocates or without, with one that frees or without
+
+abbrev pub memory_decls : Option MemoryType → List ModuleDecl
+memory_decls None = []
+memory_decls (Some m) = exports (codes "memory") (Memory m) ∷ []
+
+-- a function type, and the export of a function of it, or nothing
+abbrev pub function_decls : List ℕ → Function → ℕ → Bool → List ModuleDecl
+function_decls name f i b = if b then declares f ∷ exports name (Func i) ∷ [] else []
+
+abbrev pub realloc_decls : Bool → List ModuleDecl
+realloc_decls r = function_decls (codes "canonical_abi_realloc") realloc 0 r
+
+abbrev pub free_decls : Bool → Bool → List ModuleDecl
+free_decls r f = function_decls (codes "canonical_abi_free") free (if r then 1 else 0) f
+
+abbrev pub front_decls : Option MemoryType → Bool → Bool → List ModuleDecl
+front_decls m r f = memory_decls m ++ realloc_decls r ++ free_decls r f
 
 -- what is in front
 
@@ -124,3 +144,10 @@ module _ {ds no_memory no_realloc no_free : List ModuleDecl} (x : Fronted ds no_
   pub whole_front : ds ≡ front_decls x.memory x.reallocs x.frees ++ no_free
   whole_front = x.first ∙ (ap (λ z. memory_decls x.memory ++ z) (x.second ∙ ap (λ z. realloc_decls x.reallocs ++ z) x.third)
       ∙ lines_joined x.memory x.reallocs x.frees no_free)
+
+-- The declarations in front of others.
+pub in_front_is : (ds front behind : List ModuleDecl) → ds ≡ front ++ behind → in_front ds behind ≡ front
+in_front_is ds front behind e =
+    let long = ap length e ∙ length-append front behind in
+    let count : length ds - length behind ≡ length front = omega (arith, long) in
+    ap (λ n. take n ds) count ∙ (ap (take (length front)) e ∙ take-append_seam front behind)
