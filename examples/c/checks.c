@@ -110,12 +110,6 @@ static int refusals_have_their_statuses(void) {
     limits.max_nesting_depth = 1001;
     WANT(refusal(&limits, plan, 8) == LUPINANON_INCONSISTENT_LIMITS);
     lupinanon_default_limits(&limits, sizeof limits);
-    limits.max_name_length = 101;
-    WANT(refusal(&limits, plan, 8) == LUPINANON_INCONSISTENT_LIMITS);
-    lupinanon_default_limits(&limits, sizeof limits);
-    limits.loop_bits = 9;
-    WANT(refusal(&limits, plan, 8) == LUPINANON_INCONSISTENT_LIMITS);
-    lupinanon_default_limits(&limits, sizeof limits);
     limits.min_imports = 1;
     WANT(refusal(&limits, plan, 0) == LUPINANON_MINIMUM_NOT_MET);
     lupinanon_default_limits(&limits, sizeof limits);
