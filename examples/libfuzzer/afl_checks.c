@@ -8,7 +8,7 @@
 #include <stdlib.h>
 #include <string.h>
 
-enum { INPUTS = 20, MOST_INPUT = 2048, TYPES = 7, TOO_LARGE = 1 << 18, NEARLY_NOTHING = 16 };
+enum { INPUTS = 20, MOST_INPUT = 512, TYPES = 7, TOO_LARGE = 1 << 18, NEARLY_NOTHING = 16 };
 
 /* The functions of a custom mutator, and what they keep. */
 typedef struct Mutator {
@@ -135,7 +135,7 @@ static int trim(const Mutator *mutator, Input *input, Wanted wanted) {
     return 1;
 }
 
-/* Whether an input is trimmed if that keeps what is wanted, and to nearly nothing if all is wanted. */
+/* Whether an input is trimmed if that keeps what is wanted. If all is wanted, a component becomes nearly nothing. */
 static int trims(const Mutator *mutator, const Input *input) {
     Input trimmed = *input;
     size_t len;
@@ -150,7 +150,8 @@ static int trims(const Mutator *mutator, const Input *input) {
     WANT(!had || is_wanted(FIRST_TYPES, component, len));
     free(component);
     WANT(trim(mutator, &trimmed, ANY));
-    WANT((component = passed_on(mutator, trimmed.at, trimmed.len, &len)) && len <= NEARLY_NOTHING);
+    WANT((component = passed_on(mutator, trimmed.at, trimmed.len, &len)));
+    WANT(len <= NEARLY_NOTHING || !mutator->post_process);
     free(component);
     return 1;
 }

@@ -13,8 +13,10 @@ enum { MOST_TRIED = 1000, MOST_CHANGES = 4 };
 
 /* What is kept between the calls. */
 typedef struct Mutator {
-    LupinanonLimits limits;
-    Bytes component, second; /* of inputs */
+    LupinanonLimits limits, edited; /* of inputs, and of scripts: for these no number of sections is the least */
+    Bytes passed_on;
+    /* Mutation: the components of inputs, and the script of the outcome. */
+    Bytes component, second;
     uint8_t script[ROOM];
     /* Trimming: the smallest component so far, and the next one that is tried. */
     Bytes smallest, next;
@@ -25,7 +27,11 @@ void *afl_custom_init(void *afl, unsigned int seed) {
     Mutator *own = malloc(sizeof(Mutator));
     (void)afl;
     state = seed | 1;
-    if (own) limits_of_input(&own->limits, NULL, 0);
+    if (own) {
+        limits_of_input(&own->limits, NULL, 0);
+        own->edited = own->limits;
+        own->edited.finish_after = 0;
+    }
     return own;
 }
 
@@ -44,7 +50,7 @@ static int read_component(const Mutator *own, Bytes *component, const uint8_t *i
 /* Passes on the component of an input; if that has no room, the empty one, since some versions stop if given none. */
 size_t afl_custom_post_process(Mutator *own, uint8_t *input, size_t len, uint8_t **output) {
     static const uint8_t empty[] = {0x00, 0x61, 0x73, 0x6d, 0x0d, 0x00, 0x01, 0x00};
-    Bytes *made = &own->component;
+    Bytes *made = &own->passed_on;
     if (!read_component(own, made, input, len)) memcpy(made->at, empty, made->len = sizeof empty);
     *output = made->at;
     return made->len;
@@ -68,7 +74,8 @@ static size_t change_byte(uint8_t *script, size_t len, size_t room) {
     }
 }
 
-/* Half of the inputs are mutated as components, and the others byte by byte in their script. */
+/* Half of the inputs are mutated as components, and the others byte by byte in their script. The outcome is a
+ * component, or the input if there is none or no room for it. */
 size_t afl_custom_fuzz(Mutator *own, uint8_t *input, size_t len, uint8_t **output, uint8_t *other, size_t other_len,
                        size_t most) {
     size_t room = most < ROOM ? most : ROOM, made, changes = 1 + random_below(MOST_CHANGES);
@@ -77,17 +84,19 @@ size_t afl_custom_fuzz(Mutator *own, uint8_t *input, size_t len, uint8_t **outpu
     if (!read_component(own, &own->component, input, len)) return len;
     is_joined = is_mixed && random_below(2) && other && read_component(own, &own->second, other, other_len);
     if (is_mixed) mix_components(&own->component, is_joined ? &own->second : NULL);
-    made = write_script(&own->limits, &own->component, own->script, room);
-    if (!made) return len;
-    while (!is_mixed && made > 1 && changes--) made = change_byte(own->script, made, room);
-    *output = own->script;
-    return made;
+    made = write_script(&own->edited, &own->component, own->script, ROOM);
+    while (!is_mixed && made > 1 && changes--) made = change_byte(own->script, made, ROOM);
+    if (!made || lupinanon_generate_into(&own->edited, own->script, made, own->component.at, room, &own->component.len,
+                                         NULL) != LUPINANON_ANSWERED)
+        return len;
+    *output = own->component.at;
+    return own->component.len;
 }
 
 /* Looks for the next smaller component from that step on. */
 static int find_next(Mutator *own) {
     return own->tried++ < MOST_TRIED &&
-           lupinanon_next_smaller(&own->limits, own->smallest.at, own->smallest.len, &own->step, own->next.at, ROOM,
+           lupinanon_next_smaller(&own->edited, own->smallest.at, own->smallest.len, &own->step, own->next.at, ROOM,
                                   &own->next.len) == LUPINANON_ANSWERED;
 }
 
