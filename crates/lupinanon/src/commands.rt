@@ -281,7 +281,8 @@ fn stats_command<'a>(alloc: Global) -> Result<Command<'a>, AllocError> {
     let paths = "Components, and folders with components *.wasm";
     let inputs = "Count the components of inputs: each file, and in folders all but *.wasm";
     let json = "Print it as JSON";
-    let listed = "List the combinations, each with how many components have it, and which is the first";
+    let listed =
+        "List the combinations, each with how many components have it, and which is the first";
     let within = ArgGroup::new(alloc, "within")
         .args(&["profile", "limits", "limit"])?
         .multiple(true)

@@ -5,11 +5,10 @@ use crate::inspecting::{REFUSED, bytes_in, refuse};
 use crate::limits_file::config_of;
 use crate::options::{Counted, Page};
 use crate::places::status_of_print;
-use crate::print_error;
 use smith_component::{Config, Error, Unstructured, generate};
 use smith_read::{ReadError, read};
 use smith_stats::{Json, Listed, Tally};
-use std::alloc::AllocError;
+use std::alloc::{AllocError, Global};
 use std::process::ExitCode;
 
 // Settles what may have run out of memory at a file.
@@ -58,6 +57,17 @@ fn add_input(
     }
 }
 
+// Adds a path.
+fn push(paths: &mut Vec<String>, path: String) -> Result<(), AllocError> {
+    paths.push(path)?;
+    Ok(())
+}
+
+// Adds a path that is given.
+fn push_given(alloc: Global, paths: &mut Vec<String>, path: &str) -> Result<(), AllocError> {
+    push(paths, String::from_str(alloc, path)?)
+}
+
 // Adds the paths of the files in a folder that are counted.
 fn add_folder(
     rt: &HostRuntime,
@@ -72,16 +82,9 @@ fn add_folder(
     };
     for name in &names {
         let path = path_in(rt, folder, name, ending)?;
-        let pushed = paths.push(path);
-        settled(rt, folder, pushed.map_err(AllocError::from))?;
+        settled(rt, folder, push(paths, path))?;
     }
     Ok(())
-}
-
-// Adds the path of a file.
-fn add_path(rt: &HostRuntime, paths: &mut Vec<String>, path: &str) -> Result<(), ExitCode> {
-    let added = String::from_str(rt.alloc(), path).and_then(|path| Ok(paths.push(path)?));
-    settled(rt, path, added)
 }
 
 // The paths of the files that are counted.
@@ -91,7 +94,7 @@ fn paths_of(rt: &HostRuntime, counted: &Counted<'_>) -> Result<Vec<String>, Exit
         if is_folder(rt, path)? {
             add_folder(rt, &mut paths, path, counted.are_inputs)?;
         } else {
-            add_path(rt, &mut paths, path)?;
+            settled(rt, path, push_given(rt.alloc(), &mut paths, path))?;
         }
     }
     Ok(paths)

@@ -153,7 +153,7 @@ impl Combining {
         }
     }
 
-    #[cycle(combining)]
+    #[cycle(finding)]
     fn add_type(&mut self, ty: &TypeNode, depth: u32) -> Result<(), AllocError> {
         let known = match ty {
             TypeNode::Defined(ty) => self.add_defined(ty)?,
@@ -172,7 +172,7 @@ impl Combining {
     }
 
     // The declarations of a type, in a scope of their own. Returns the longest chain of its types.
-    #[cycle(combining)]
+    #[cycle(finding)]
     fn add_decls(
         &mut self,
         within: Within,
@@ -186,7 +186,7 @@ impl Combining {
         Ok(self.scopes.end())
     }
 
-    #[cycle(combining)]
+    #[cycle(finding)]
     fn add_decl(&mut self, decl: &DeclNode, depth: u32) -> Result<(), AllocError> {
         match decl {
             DeclNode::Core(ty) => self.add_core_type(ty),

@@ -168,7 +168,10 @@ impl fmt::Display for Listed<'_> {
                 chain,
             } = *combination;
             let files = reached.files;
-            let name = self.names.get(reached.first).map_or("", |name| name.as_str());
+            let name = self
+                .names
+                .get(reached.first)
+                .map_or("", |name| name.as_str());
             writeln!(
                 f,
                 "{files:>10}  {within:?} {part:?} {sort:?} {origin:?} {chain:?}  {name}"
