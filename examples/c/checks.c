@@ -593,6 +593,55 @@ static int bad_arguments_say_no_limits(void) {
     return 1;
 }
 
+static size_t sum_of(const uint8_t *counters, size_t len) {
+    size_t sum = 0;
+    while (len) sum += counters[--len];
+    return sum;
+}
+
+static int features_are_refused(void) {
+    LupinanonLimits limits;
+    uint8_t counters[64] = {0};
+    Overlapping memory;
+    lupinanon_default_limits(&limits, sizeof limits);
+    WANT(lupinanon_features(NULL, plan, 8, counters, 64) == LUPINANON_BAD_ARGUMENT);
+    WANT(lupinanon_features(&limits, NULL, 8, counters, 64) == LUPINANON_BAD_ARGUMENT);
+    WANT(lupinanon_features(&limits, plan, 8, NULL, 64) == LUPINANON_BAD_ARGUMENT);
+    WANT(lupinanon_features(&limits, plan, 8, counters, SIZE_MAX) == LUPINANON_BAD_ARGUMENT);
+    WANT(lupinanon_features(&limits, memory.bytes, 8, memory.bytes + 7, 8) == LUPINANON_BAD_ARGUMENT);
+    limits.simd_enabled = 2;
+    WANT(lupinanon_features(&limits, plan, 8, counters, 64) == LUPINANON_BAD_FLAG);
+    lupinanon_default_limits(&limits, sizeof limits);
+    limits.min_types = 101;
+    WANT(lupinanon_features(&limits, plan, 8, counters, 64) == LUPINANON_INCONSISTENT_LIMITS);
+    WANT(!sum_of(counters, 64));
+    return 1;
+}
+
+/* The component has one combination: a type that is declared at the root. */
+static int features_are_counted(void) {
+    LupinanonLimits limits;
+    uint8_t counters[64] = {0}, others[64];
+    long refused = 0;
+    int32_t status;
+    lupinanon_default_limits(&limits, sizeof limits);
+    WANT(lupinanon_features(&limits, plan, 8, NULL, 0) == LUPINANON_ANSWERED);
+    WANT(lupinanon_features(&limits, NULL, 0, counters, 64) == LUPINANON_ANSWERED && !sum_of(counters, 64));
+    WANT(lupinanon_features(&limits, plan, 8, counters, 64) == LUPINANON_ANSWERED && sum_of(counters, 64) == 1);
+    memset(others, 255, 64);
+    WANT(lupinanon_features(&limits, plan, 8, others, 64) == LUPINANON_ANSWERED && sum_of(others, 64) == 64 * 255);
+    do {
+        until_refusal = refused++;
+        memcpy(others, counters, 64);
+        status = lupinanon_features(&limits, plan, 8, counters, 64);
+        if (until_refusal < 0) WANT(status == LUPINANON_OUT_OF_MEMORY && !memcmp(counters, others, 64));
+    } while (until_refusal < 0);
+    until_refusal = -1;
+    WANT(refused > 1 && status == LUPINANON_ANSWERED && sum_of(counters, 64) == 2);
+    WANT(memchr(counters, 2, 64));
+    return 1;
+}
+
 /* What is generated from an input, and in how many allocations. */
 typedef struct Entry {
     const char *name;
@@ -866,6 +915,7 @@ int main(void) {
     if (!bad_arguments_are_refused() || !memory_is_refused_in_turn() || !growths_are_refused_in_turn()) return 1;
     if (!older_structs_are_taken() || !newer_structs_are_taken() || !wrong_sizes_are_refused()) return 1;
     if (!limits_overlap_by_their_size() || !limits_arrive()) return 1;
+    if (!features_are_refused() || !features_are_counted()) return 1;
     if (!first_bytes_say_limits() || !first_bytes_say_limits_of_each_size() || !bad_arguments_say_no_limits()) return 1;
     if (!left_may_be_null() || !overlaps_are_refused() || !words_are_right() || !components_are_judged()) return 1;
     if (!bad_arguments_have_no_script() || !overlaps_have_no_script() || !components_have_scripts()) return 1;

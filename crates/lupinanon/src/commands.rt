@@ -77,7 +77,8 @@ Status:
   2  bad arguments, limits that are refused, or a failed read or write, such as of a file that is already there";
 
 const AFTER_STATS: &str =
-    "A shape is a sort of thing together with what it is in, such as u32 in records.
+    "A shape is a sort of thing together with what it is in, such as u32 in records. A combination is a thing
+together with what it is in, what it refers to, how that came there, and how long a chain it ends.
 
 Status:
   0  what is in the components is printed
@@ -275,11 +276,22 @@ fn corpus_command<'a>(alloc: Global) -> Result<Command<'a>, AllocError> {
 }
 
 fn stats_command<'a>(alloc: Global) -> Result<Command<'a>, AllocError> {
-    let about = "Count what is in the components of a folder, by sort and by place";
-    let folder = input(alloc, "FOLDER", "The folder with the components *.wasm");
-    plain(alloc, "stats", about, AFTER_STATS)
-        .arg(folder.required(true))?
-        .arg(switch(alloc, "json", "Print it as JSON"))
+    let about = "Count what is in components, by sort and by place";
+    let paths = "Components, and folders with components *.wasm";
+    let inputs = "Count the components of inputs: each file, and in folders all but *.wasm";
+    let json = "Print it as JSON";
+    let listed =
+        "List the combinations, each with how many components have it, and which is the first";
+    let within = ArgGroup::new(alloc, "within")
+        .args(&["profile", "limits", "limit"])?
+        .multiple(true)
+        .requires_arg("inputs")?;
+    let files = plain(alloc, "stats", about, AFTER_STATS)
+        .arg(input(alloc, "PATH", paths).required(true).num_args(1..))?
+        .arg(switch(alloc, "inputs", inputs))?
+        .arg(switch(alloc, "json", json))?
+        .arg(switch(alloc, "combinations", listed).conflicts_with("json")?)?;
+    with_limits(alloc, files)?.group(within)
 }
 
 /// The program's command.

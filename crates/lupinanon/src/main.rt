@@ -65,7 +65,7 @@ fn run(rt: &HostRuntime) -> Result<ExitCode, ExitCode> {
                 limits,
             },
         ) => corpus::corpus(rt, folder, origin, &limits),
-        Ok(Task::Stats { folder, is_json }) => stats::stats(rt, folder, is_json),
+        Ok(Task::Stats(counted)) => stats::stats(rt, &counted),
         Err(error) => {
             let printed = error.print(rt);
             if error.use_stderr() {

@@ -10,6 +10,8 @@ void lupinanon_proved_fuzz_limits(void *limits);
 int32_t lupinanon_proved_swarm_limits(void *limits, const uint8_t *input, size_t input_len, size_t *taken);
 int32_t lupinanon_proved_generate_into(const void *limits, const uint8_t *input, size_t input_len, uint8_t *output,
                                        size_t output_len, size_t *bytes_len, size_t *left);
+int32_t lupinanon_proved_features(const void *limits, const uint8_t *input, size_t input_len, uint8_t *counters,
+                                  size_t counters_len);
 int32_t lupinanon_proved_check(const uint8_t *bytes, size_t bytes_len, size_t *offset);
 int32_t lupinanon_proved_validate(const uint8_t *bytes, size_t bytes_len, size_t *rule, size_t *offset);
 int32_t lupinanon_proved_print(const uint8_t *bytes, size_t bytes_len, uint8_t *output, size_t output_len,
@@ -281,6 +283,20 @@ int32_t lupinanon_generate(const LupinanonLimits *limits, const uint8_t *input, 
     }
     *bytes_len = *left = 0;
     return LUPINANON_OUT_OF_MEMORY;
+}
+
+int32_t lupinanon_features(const LupinanonLimits *limits, const uint8_t *input, size_t input_len, uint8_t *counters,
+                           size_t counters_len) {
+    LupinanonLimits room;
+    uint8_t nothing = 0;
+    if (!limits) return LUPINANON_BAD_ARGUMENT;
+    {
+        Memory written = {counters, counters_len}, read = {input, input_len};
+        limits = good_limits(&room, limits, read, &written, 1);
+    }
+    if (!limits) return LUPINANON_BAD_ARGUMENT;
+    return lupinanon_proved_features(WITHOUT_SIZE(limits), input ? input : &nothing, input_len,
+                                     counters ? counters : &nothing, counters_len);
 }
 
 int32_t lupinanon_check(const uint8_t *bytes, size_t bytes_len, size_t *offset) {

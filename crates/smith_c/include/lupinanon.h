@@ -1,7 +1,7 @@
 /* WebAssembly components from a fuzzer's bytes.
  *
- * Eighteen functions are proved: those that lupinanon_default_limits, lupinanon_fuzz_limits, lupinanon_swarm_limits,
- * lupinanon_generate_into, lupinanon_check, lupinanon_validate, lupinanon_print, lupinanon_script_into,
+ * Nineteen functions are proved: those that lupinanon_default_limits, lupinanon_fuzz_limits, lupinanon_swarm_limits,
+ * lupinanon_generate_into, lupinanon_features, lupinanon_check, lupinanon_validate, lupinanon_print, lupinanon_script_into,
  * lupinanon_smaller, lupinanon_next_smaller, lupinanon_without, lupinanon_join, lupinanon_change_count,
  * lupinanon_changed, lupinanon_next_changed and lupinanon_next_miswritten call after a check of their arguments. That
  * check, and all else, is plain C.
@@ -201,6 +201,19 @@ int32_t lupinanon_generate_into(const LupinanonLimits *limits, const uint8_t *in
  * are 0. */
 int32_t lupinanon_generate(const LupinanonLimits *limits, const uint8_t *input, size_t input_len, uint8_t **bytes,
                            size_t *bytes_len, size_t *left);
+
+/* Counts what is in the component that the input produces within the limits, for a fuzzer that takes counters as coverage,
+ * such as the extra counters of libFuzzer. Each combination in it, of a thing with what it is in and what it refers to
+ * (docs/FORMATS.md), has one of the counters, which depends on `counters_len` and on nothing else. To each of them 1 is
+ * added, once for each combination, but none passes 255.
+ *
+ * LUPINANON_ANSWERED: they are counted. Otherwise the counters are as they were, and the status is that of
+ * lupinanon_generate_into, or says that memory ran out.
+ * LUPINANON_UNREAD: no call of this library returns it here.
+ *
+ * Input and counters may be NULL if their length is 0. */
+int32_t lupinanon_features(const LupinanonLimits *limits, const uint8_t *input, size_t input_len, uint8_t *counters,
+                           size_t counters_len);
 
 /* Whether bytes are a component that is well formed, by the rules of docs/JUDGEMENT.md.
  *

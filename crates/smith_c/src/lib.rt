@@ -4,6 +4,7 @@
 
 pub mod change;
 pub mod check;
+pub mod features;
 pub mod into;
 pub mod limits;
 pub mod make;
