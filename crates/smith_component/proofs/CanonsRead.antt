@@ -51,12 +51,12 @@ Spoken config (component_type ds) = Unit {0}
 Spoken config (instance_type ds) = Unit {0}
 
 -- Those of types that can be read can.
-pub types_spoken : {config : Config} (es : List Entry) (own : Scope) (outer : List Scope) → FormedTypes es own outer → AllByRecursion (IsReadableType config) es → AllByRecursion (Spoken config) es
-types_spoken [] own outer f r = tt
-types_spoken (defined t ∷ es) own outer f r = (tt, types_spoken es (with_type own (defined t)) outer f.1 r.1)
-types_spoken (function s ∷ es) own outer f r = ((f.0.0, r.0), types_spoken es (with_type own (function s)) outer f.1 r.1)
-types_spoken (component_type ds ∷ es) own outer f r = (tt, types_spoken es (with_type own (component_type ds)) outer f.1 r.1)
-types_spoken (instance_type ds ∷ es) own outer f r = (tt, types_spoken es (with_type own (instance_type ds)) outer f.1 r.1)
+pub types_spoken : (config : Config) (es : List Entry) (own : Scope) (outer : List Scope) → FormedTypes es own outer → AllByRecursion (IsReadableType config) es → AllByRecursion (Spoken config) es
+types_spoken config [] own outer f r = tt
+types_spoken config (defined t ∷ es) own outer f r = (tt, types_spoken config es (with_type own (defined t)) outer f.1 r.1)
+types_spoken config (function s ∷ es) own outer f r = ((f.0.0, r.0), types_spoken config es (with_type own (function s)) outer f.1 r.1)
+types_spoken config (component_type ds ∷ es) own outer f r = (tt, types_spoken config es (with_type own (component_type ds)) outer f.1 r.1)
+types_spoken config (instance_type ds ∷ es) own outer f r = (tt, types_spoken config es (with_type own (instance_type ds)) outer f.1 r.1)
 
 -- the choice of an item that is offered
 item_read : (s : Spaces) (k : ℕ) (b : Bool) (item : CanonItem) (rest : List ℕ) → slice_get (canon_offers s) k ≡ Some (b, item) → b ≡ true

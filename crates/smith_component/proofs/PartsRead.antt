@@ -195,4 +195,4 @@ spoken_past config p outer before readable formed h =
     (λ ts e. said ts (subst (λ q. FormedPart q outer before) e formed) (subst (λ q. IsReadablePart config q before) e readable))
   where
     said : (ts : List Entry) → FormedPart (types ts) outer before → IsReadablePart config (types ts) before → AllByRecursion (Spoken config) ts
-    said ts f r = types_spoken ts (scope_of before) outer f r
+    said ts f r = types_spoken config ts (scope_of before) outer f r

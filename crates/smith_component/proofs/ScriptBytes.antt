@@ -101,10 +101,10 @@ small_exports config short t s (x ∷ xs) f k few = (
 small_canon_item : (s : Spaces) (item : CanonItem) → Small (script_among canon_equal.eq (canon_items s) item)
 small_canon_item s item = grind (arith, offers_few, small_few)
 
-small_canon : {config : Config} → config.max_name_length < 2 ^ 64 → (s : Spaces) (c : Canon) → FormedCanon s c → AllByRecursion (Spoken config) s.types → functions_at s ≤ 2 ^ 64 → length s.types ≤ 2 ^ 64
+small_canon : (config : Config) → config.max_name_length < 2 ^ 64 → (s : Spaces) (c : Canon) → FormedCanon s c → AllByRecursion (Spoken config) s.types → functions_at s ≤ 2 ^ 64 → length s.types ≤ 2 ^ 64
     → Small (script_canon config s c)
-small_canon short s (lower f) (signature, has, scalar) spoken few many = grind (arith, small_join, small_canon_item, small_place)
-small_canon {config} short s (lift c t) (signature, lowered, f, is, lowers, has, flat) spoken few many =
+small_canon config short s (lower f) (signature, has, scalar) spoken few many = grind (arith, small_join, small_canon_item, small_place)
+small_canon config short s (lift c t) (signature, lowered, f, is, lowers, has, flat) spoken few many =
     let below : c < length s.core_functions = slice_get_within s.core_functions c f lowers in
     let said : Spoken config (function signature) = all_at (Spoken config) s.types t (function signature) spoken is in
     let type : Small (script_lift config s t (Some (function signature))) =
@@ -113,13 +113,13 @@ small_canon {config} short s (lift c t) (signature, lowered, f, is, lowers, has,
     small_join (small_canon_item s (canon_item_of (lift c t))) (small_join (small_pick (length s.core_functions) c (omega (arith, few)) below)
     (subst (λ o. Small (script_lift config s t o)) (sym is) type))
 
-small_canons : {config : Config} → config.max_name_length < 2 ^ 64 → (cs : List Canon) (s : Spaces) → FormedCanons cs s → AllByRecursion (Spoken config) s.types → length s.types ≤ 2 ^ 64
+small_canons : (config : Config) → config.max_name_length < 2 ^ 64 → (cs : List Canon) (s : Spaces) → FormedCanons cs s → AllByRecursion (Spoken config) s.types → length s.types ≤ 2 ^ 64
     → functions_at s + length cs ≤ 2 ^ 64 → Along (λ u c. Small (script_canon config u c)) after_canon s cs
-small_canons short [] s f spoken many few = tt
-small_canons short (c ∷ cs) s f spoken many few =
+small_canons config short [] s f spoken many few = tt
+small_canons config short (c ∷ cs) s f spoken many few =
     let keep = canon_keeps s c in (
-      small_canon short s c f.0 spoken (omega (arith, few)) many,
-      small_canons short cs (after_canon s c) f.1 (subst (AllByRecursion (Spoken config)) (sym keep.types) spoken) (omega (arith, many, ap length keep.types))
+      small_canon config short s c f.0 spoken (omega (arith, few)) many,
+      small_canons config short cs (after_canon s c) f.1 (subst (AllByRecursion (Spoken config)) (sym keep.types) spoken) (omega (arith, many, ap length keep.types))
           (omega (arith, few, functions_after s c)),
     )
 
@@ -221,7 +221,7 @@ module _ (config : Config) (consistent : IsConsistent config) (outer : List Tree
       let count : function_count before + length fs ≤ config.max_funcs = omega (arith, limits.functions, function_count-add before (canons fs)) in
       let spaces = functions_counted before in
       small_loop (script_canon config) after_canon 0 (config.max_funcs - function_count before) 0 (spaces_of before) fs
-      (small_canons (omega (arith, consistent.names)) fs (spaces_of before) said.known.formed.0 said.known.spoken (omega (arith, front.types, consistent.types))
+      (small_canons config (omega (arith, consistent.names)) fs (spaces_of before) said.known.formed.0 said.known.spoken (omega (arith, front.types, consistent.types))
       (omega (arith, count, spaces.most, front.exports, consistent.funcs)))
 
   small_export_part : (es : List ExportEntry) (t : Tree) → Said config outer before (first (exports es) t)

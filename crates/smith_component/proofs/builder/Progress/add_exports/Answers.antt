@@ -78,7 +78,7 @@ returns-clause-does c =
     let count : c.len.result ≡ length (exports_of stack.inner) = omega (arith, c.len.ensures, names_held b i) in
     let room : b.config.max_exports - c.len.result ≡ b.config.max_exports - length (exports_of stack.inner) =
     ap (λ n. b.config.max_exports - n) count in
-    let exported = c.in_ok-exports.ensures.reads b.config stack.outer stack.inner (first b i) in
+    let exported = c.in_ok-exports.ensures.reads stack.outer stack.inner (first b i) in
     let reads : ReadsExports b.config stack.outer stack.inner c.args.u.now es c.read_exports.new.u =
     subst R room exported.reads in
     let after = exported.state in
