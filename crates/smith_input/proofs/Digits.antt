@@ -1,5 +1,6 @@
 -- The decimal digits of a number, of any size.
-use Rattle.std.proofs.Common.{ℕ, zero, suc, ◌/◌, ◌%◌, ◌<◌, inr, Bool, true, false, if◌then◌else◌, List, [], ◌∷◌, length, arith, ◌≡◌, ◌+◌, ◌≤◌, ◌^◌, ap, ◌∙◌, length-append}
+use Rattle.std.proofs.Common.{ℕ, zero, suc, ◌/◌, ◌%◌, ◌<◌, inr, Bool, true, false, if◌then◌else◌, List, [], ◌∷◌, length, arith, ◌≡◌, ◌+◌, ◌≤◌, ◌^◌, ap, ◌∙◌}
+use Rattle.std.proofs.Common.{length-append}
 use Rattle.std.specs.Prelude.{◌==◌}
 use Rattle.std.specs.Fmt.{decimal, digits, digits_onto, digit_glyph}
 use Rattle.std.specs.List.{AllByRecursion}
