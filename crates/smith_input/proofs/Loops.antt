@@ -113,7 +113,7 @@ loop_read {bits = bits} {min = min} {max = max} script next P one [] done s rest
 loop_read {Ends = Ends} {Item = Item} {bits = bits} {min = min} {max = max} script next P one (x ∷ xs) done s rest all some few =
     let later : List ℕ = script_loop script next min max (done + 1) (next s x) xs in
     let r = loop_read {Ends = Ends} {Item = Item} {bits = bits} {min = min} {max = max} script next P one xs (done + 1) (next s x) rest all.1 (omega arith)
-        (omega arith) in
+    (omega arith) in
     let whole : ((script_more min done ++ script s x) ++ later) ++ rest ≡ script_more min done ++ (script s x ++ (later ++ rest)) =
     append_assoc (script_more min done ++ script s x) later rest ∙ append_assoc (script_more min done) (script s x) (later ++ rest) in
     subst
@@ -158,7 +158,7 @@ module _ {S A : Type 0} (Ends : S → List ℕ → List ℕ → S → Type 0) (I
   goes_on so_far next x done s t b mid after answer e m one more onward = λ xs rest u l.
       let whole : so_far ++ x ∷ xs ≡ next ++ xs = sym (append_assoc so_far (x ∷ []) xs) ∙ ap (λ ys. ys ++ xs) (sym more) in
       subst (λ ys. Loop Ends Item bits min max 0 first start ys rest u) whole
-          (onward (x ∷ xs) rest u (an_item (subst (λ a. More bits done min max b a mid) e m) one l))
+      (onward (x ∷ xs) rest u (an_item (subst (λ a. More bits done min max b a mid) e m) one l))
 
 -- a loop of at most one turn
 module _ {S A : Type 0} {Ends : S → List ℕ → List ℕ → S → Type 0} {Item : S → List ℕ → A → List ℕ → S → Type 0} {bits : ℕ} {s : S} {b mid : List ℕ}
