@@ -139,7 +139,8 @@ pub rows_end : {S A B : Type 0} (f : A → B) (says : S → B → List ℕ) (aft
 rows_end f says after max done s xs i h = ap (script_loop says after 0 max done s) (map_dropped f xs i h)
 
 -- a parameter of a lift, and the ones after it
-pub params_at : (config : Config) (xs : List (String Global × ComponentValType)) (count i : ℕ) (x : String Global × ComponentValType) → i < length xs → x ≡ get_or xs i x
+pub params_at : (config : Config) (xs : List (String Global × ComponentValType)) (count i : ℕ) (x : String Global × ComponentValType) → i < length xs
+    → x ≡ get_or xs i x
     → script_params config count (map named (drop i xs))
     ≡ script_label config count (string_bytes x.0) ++ script_scalar x.1 ++ script_params config (count + 1) (map named (drop (i + 1) xs))
 params_at config xs count i x h e =
