@@ -37,8 +37,7 @@ text_readable {text = text} r = (
   ),
 )
 
-pub new_readable : {config : Config} {names : List (List ℕ)} {b name rest : List ℕ} → ReadsNewText config.max_name_length names b name rest
-    → IsReadableNewText config names name
+pub new_readable : {config : Config} {names : List (List ℕ)} {b name rest : List ℕ} → ReadsNewText config.max_name_length names b name rest → IsReadableNewText config names name
 new_readable r = (new_text_utf8 r, new_text_reachable r)
 
 -- one more declaration

@@ -54,9 +54,5 @@ loop-done-preserved c =
       loans = loans_then i.loans c.turn.ensures.loans;
       drafts = drafts_then i.drafts e.drafts;
       few = omega (arith, i.few, turn_functions c.args.self.now.config.now s c.more_of.new.self turn.0 c.turn.new.u next turn.1);
-      onward = (
-        o.0 ++ turn.0 ∷ [],
-        goes_on _ _ _ _ _ _ _ o.0
-            (o.0 ++ turn.0 ∷ []) turn.0 _ s next _ _ _ _ c.if-not-more_of.false c.more_of.ensures turn.1 refl o.1,
-      );
+      onward = (o.0 ++ turn.0 ∷ [], goes_on _ _ _ _ _ _ _ o.0 (o.0 ++ turn.0 ∷ []) turn.0 _ s next _ _ _ _ c.if-not-more_of.false c.more_of.ensures turn.1 refl o.1);
     }
