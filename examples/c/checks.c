@@ -110,12 +110,6 @@ static int refusals_have_their_statuses(void) {
     limits.max_nesting_depth = 1001;
     WANT(refusal(&limits, plan, 8) == LUPINANON_INCONSISTENT_LIMITS);
     lupinanon_default_limits(&limits, sizeof limits);
-    limits.max_name_length = 101;
-    WANT(refusal(&limits, plan, 8) == LUPINANON_INCONSISTENT_LIMITS);
-    lupinanon_default_limits(&limits, sizeof limits);
-    limits.loop_bits = 9;
-    WANT(refusal(&limits, plan, 8) == LUPINANON_INCONSISTENT_LIMITS);
-    lupinanon_default_limits(&limits, sizeof limits);
     limits.min_imports = 1;
     WANT(refusal(&limits, plan, 0) == LUPINANON_MINIMUM_NOT_MET);
     lupinanon_default_limits(&limits, sizeof limits);
@@ -367,7 +361,8 @@ static int words_are_right(void) {
     WANT(!strcmp(lupinanon_status_name(LUPINANON_UNREAD), "unread"));
     WANT(!strcmp(lupinanon_status_name(LUPINANON_NO_SCRIPT), "no script"));
     WANT(!strcmp(lupinanon_status_name(LUPINANON_NO_SMALLER), "no smaller component"));
-    WANT(!strcmp(lupinanon_status_name(LUPINANON_NO_CHANGE + 1), "unknown status"));
+    WANT(!strcmp(lupinanon_status_name(LUPINANON_NO_TEXT), "no text"));
+    WANT(!strcmp(lupinanon_status_name(LUPINANON_NO_TEXT + 1), "unknown status"));
     WANT(!strcmp(lupinanon_status_name(-1), "unknown status"));
     return 1;
 }
@@ -451,6 +446,8 @@ static const Arriving arriving[] = {
                0x00)),
     /* the byte that would finish the component is the choice of a custom section */
     MADE(finish_after, 1, BYTES(0x00), BYTES(PREAMBLE, 0x00, 0x01, 0x00)),
+    REFUSED(max_name_length, 101, TYPE, LUPINANON_INCONSISTENT_LIMITS),
+    REFUSED(loop_bits, 9, TYPE, LUPINANON_INCONSISTENT_LIMITS),
 };
 
 static void set(LupinanonLimits *limits, const Arriving *it) {
@@ -593,6 +590,55 @@ static int bad_arguments_say_no_limits(void) {
     set_what_stays(&limits);
     limits.size--;
     WANT(lupinanon_swarm_limits(&limits, front, 21, &taken) == LUPINANON_BAD_ARGUMENT && taken == 0);
+    return 1;
+}
+
+static size_t sum_of(const uint8_t *counters, size_t len) {
+    size_t sum = 0;
+    while (len) sum += counters[--len];
+    return sum;
+}
+
+static int features_are_refused(void) {
+    LupinanonLimits limits;
+    uint8_t counters[64] = {0};
+    Overlapping memory;
+    lupinanon_default_limits(&limits, sizeof limits);
+    WANT(lupinanon_features(NULL, plan, 8, counters, 64) == LUPINANON_BAD_ARGUMENT);
+    WANT(lupinanon_features(&limits, NULL, 8, counters, 64) == LUPINANON_BAD_ARGUMENT);
+    WANT(lupinanon_features(&limits, plan, 8, NULL, 64) == LUPINANON_BAD_ARGUMENT);
+    WANT(lupinanon_features(&limits, plan, 8, counters, SIZE_MAX) == LUPINANON_BAD_ARGUMENT);
+    WANT(lupinanon_features(&limits, memory.bytes, 8, memory.bytes + 7, 8) == LUPINANON_BAD_ARGUMENT);
+    limits.simd_enabled = 2;
+    WANT(lupinanon_features(&limits, plan, 8, counters, 64) == LUPINANON_BAD_FLAG);
+    lupinanon_default_limits(&limits, sizeof limits);
+    limits.min_types = 101;
+    WANT(lupinanon_features(&limits, plan, 8, counters, 64) == LUPINANON_INCONSISTENT_LIMITS);
+    WANT(!sum_of(counters, 64));
+    return 1;
+}
+
+/* The component has one combination: a type that is declared at the root. */
+static int features_are_counted(void) {
+    LupinanonLimits limits;
+    uint8_t counters[64] = {0}, others[64];
+    long refused = 0;
+    int32_t status;
+    lupinanon_default_limits(&limits, sizeof limits);
+    WANT(lupinanon_features(&limits, plan, 8, NULL, 0) == LUPINANON_ANSWERED);
+    WANT(lupinanon_features(&limits, NULL, 0, counters, 64) == LUPINANON_ANSWERED && !sum_of(counters, 64));
+    WANT(lupinanon_features(&limits, plan, 8, counters, 64) == LUPINANON_ANSWERED && sum_of(counters, 64) == 1);
+    memset(others, 255, 64);
+    WANT(lupinanon_features(&limits, plan, 8, others, 64) == LUPINANON_ANSWERED && sum_of(others, 64) == 64 * 255);
+    do {
+        until_refusal = refused++;
+        memcpy(others, counters, 64);
+        status = lupinanon_features(&limits, plan, 8, counters, 64);
+        if (until_refusal < 0) WANT(status == LUPINANON_OUT_OF_MEMORY && !memcmp(counters, others, 64));
+    } while (until_refusal < 0);
+    until_refusal = -1;
+    WANT(refused > 1 && status == LUPINANON_ANSWERED && sum_of(counters, 64) == 2);
+    WANT(memchr(counters, 2, 64));
     return 1;
 }
 
@@ -869,6 +915,7 @@ int main(void) {
     if (!bad_arguments_are_refused() || !memory_is_refused_in_turn() || !growths_are_refused_in_turn()) return 1;
     if (!older_structs_are_taken() || !newer_structs_are_taken() || !wrong_sizes_are_refused()) return 1;
     if (!limits_overlap_by_their_size() || !limits_arrive()) return 1;
+    if (!features_are_refused() || !features_are_counted()) return 1;
     if (!first_bytes_say_limits() || !first_bytes_say_limits_of_each_size() || !bad_arguments_say_no_limits()) return 1;
     if (!left_may_be_null() || !overlaps_are_refused() || !words_are_right() || !components_are_judged()) return 1;
     if (!bad_arguments_have_no_script() || !overlaps_have_no_script() || !components_have_scripts()) return 1;

@@ -1,4 +1,4 @@
-/* What checks.c, answers.c, edits.c and changes.c share: bytes, and allocations that are refused. */
+/* What checks.c, answers.c, edits.c, changes.c and texts.c share: bytes, and allocations that are refused. */
 #ifndef CHECKS_H
 #define CHECKS_H
 

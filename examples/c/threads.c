@@ -1,13 +1,13 @@
 /* Two threads make components at once, each in an output of its own, and produce the same bytes. Then the deepest
- * components are made, checked and validated, and made again from their scripts, in a thread whose stack is as
- * lupinanon.h says. Built with -fsanitize=thread if the compiler has it. */
+ * components are made, counted, checked, validated and printed, and made again from their scripts, in a thread whose
+ * stack is as lupinanon.h says. Built with -fsanitize=thread if the compiler has it. */
 #include "lupinanon.h"
 #include <pthread.h>
 #include <stdio.h>
 #include <stdlib.h>
 #include <string.h>
 
-enum { INPUT = 512, OUTPUT = 1 << 16, RUNS = 200, MOST_DEPTH = 1000, DEEP_INPUT = 4096 };
+enum { INPUT = 512, OUTPUT = 1 << 16, TEXT = 1 << 18, RUNS = 200, MOST_DEPTH = 1000, DEEP_INPUT = 4096 };
 
 static uint8_t input[INPUT];
 
@@ -49,7 +49,7 @@ struct Deep {
     size_t depth;
     uint8_t input[DEEP_INPUT];
     size_t input_len, len;
-    int32_t made, checked, validated, scripted, made_again, too_deep;
+    int32_t made, counted, checked, validated, printed, scripted, made_again, too_deep;
     int is_same;
 };
 
@@ -78,17 +78,19 @@ static void put_components(struct Deep *deep) {
 }
 
 static void *make_and_check(void *argument) {
-    static uint8_t output[OUTPUT], script[OUTPUT], again[OUTPUT];
+    static uint8_t output[OUTPUT], text[TEXT], script[OUTPUT], again[OUTPUT], counters[OUTPUT];
     struct Deep *deep = (struct Deep *)argument;
-    size_t script_len, again_len;
+    size_t text_len, script_len, again_len;
     LupinanonLimits limits;
     lupinanon_default_limits(&limits, sizeof limits);
     limits.max_nesting_depth = deep->depth;
     limits.max_components = MOST_DEPTH;
     limits.max_type_size = 10 * MOST_DEPTH;
     deep->made = lupinanon_generate_into(&limits, deep->input, deep->input_len, output, OUTPUT, &deep->len, NULL);
+    deep->counted = lupinanon_features(&limits, deep->input, deep->input_len, counters, sizeof counters);
     deep->checked = lupinanon_check(output, deep->len, NULL);
     deep->validated = lupinanon_validate(output, deep->len, NULL, NULL);
+    deep->printed = lupinanon_print(output, deep->len, text, TEXT, &text_len);
     deep->scripted = lupinanon_script_into(&limits, output, deep->len, script, OUTPUT, &script_len, NULL);
     deep->made_again = lupinanon_generate_into(&limits, script, script_len, again, OUTPUT, &again_len, NULL);
     deep->is_same = again_len == deep->len && !memcmp(again, output, again_len);
@@ -105,8 +107,8 @@ static int has_room(struct Deep *deep, size_t len) {
     if (pthread_create(&thread, &attributes, make_and_check, deep) || pthread_join(thread, NULL)) return 0;
     pthread_attr_destroy(&attributes);
     printf("threads: %zu bytes, %zu deep, in %zu bytes of stack\n", deep->len, deep->depth, size);
-    if (deep->made || deep->checked != LUPINANON_WELL_FORMED || deep->len != len) return 0;
-    if (deep->validated != LUPINANON_VALID) return 0;
+    if (deep->made || deep->counted || deep->checked != LUPINANON_WELL_FORMED || deep->len != len) return 0;
+    if (deep->validated != LUPINANON_VALID || deep->printed != LUPINANON_ANSWERED) return 0;
     return !deep->scripted && !deep->made_again && deep->is_same && deep->too_deep == LUPINANON_NO_SCRIPT;
 }
 

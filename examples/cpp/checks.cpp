@@ -2,6 +2,7 @@
 #include "lupinanon.hpp"
 #include <algorithm>
 #include <cstdio>
+#include <string>
 #include <string_view>
 
 using lupinanon::Answer;
@@ -26,6 +27,8 @@ static constexpr auto type_of_u32 = "\0asm\r\0\1\0\7\2\1\x79"sv;
 // Types 0 and 1 are `bool` and a list of type 0; or of type 1, which is not there yet.
 static constexpr auto list = "\0asm\r\0\1\0\7\4\2\x7f\x70\0"sv;
 static constexpr auto of_itself = "\0asm\r\0\1\0\7\4\2\x7f\x70\1"sv;
+// A core module with a section of functions, which has none.
+static constexpr auto other_module = "\0asm\r\0\1\0\1\x0b\0asm\1\0\0\0\3\1\0"sv;
 
 static lupinanon::Limits too_deep() {
     auto limits = lupinanon::default_limits();
@@ -94,6 +97,18 @@ static bool judges() {
     return true;
 }
 
+// The text of a hundred types of a byte each, for which the first output has no room.
+static bool writes_texts() {
+    const auto text = lupinanon::print(view(list));
+    WANT(text && *text == "(component\n  (type (;0;) bool)\n  (type (;1;) (list 0))\n)\n"sv);
+    const std::string types = "\0asm\r\0\1\0\7\x65\x64"s + std::string(100, '\x7f');
+    const auto long_text = lupinanon::print(view(types));
+    WANT(long_text && long_text->ends_with("\n  (type (;99;) bool)\n)\n"sv));
+    WANT(lupinanon::print(view(other_module)).error() == Error::no_text);
+    WANT(lupinanon::print({}).error() == Error::unread);
+    return true;
+}
+
 static bool writes_scripts() {
     auto limits = lupinanon::default_limits();
     const auto script = lupinanon::script(limits, view(type_of_u32));
@@ -147,8 +162,8 @@ static bool makes_near_misses() {
 }
 
 int main() {
-    const bool all = makes_a_component() && outputs_grow() && says_limits() && judges() && writes_scripts() &&
-                     makes_smaller_ones() && makes_near_misses();
+    const bool all = makes_a_component() && outputs_grow() && says_limits() && judges() && writes_texts() &&
+                     writes_scripts() && makes_smaller_ones() && makes_near_misses();
     if (all) std::printf("each function of lupinanon.hpp does what lupinanon.h says\n");
     return all ? 0 : 1;
 }

@@ -37,7 +37,7 @@ static const struct Word words[] = {
     SECTION("module", "", "\x01\x08\x00" "asm\x01\x00\x00\x00"),
     SECTION("core_function_type", "", "\x03\x04\x01\x60\x00\x00"),
     SECTION("module_type", "", "\x03\x03\x01\x50\x00"),
-    SECTION("component", "", "\x04\x08\x00" "asm\x0d\x00\x01\x00"),
+    SECTION("component", "", "\x04\x20\x00" "asm\x0d\x00\x01\x00" LAST),
     SECTION("types", "", FUNCTION),
     SECTION("import", FUNCTION, "\x0a\x06\x01\x00\x01" "a\x01\x00"),
     SECTION("lower", IMPORT, "\x08\x05\x01\x01\x00\x00\x00"),

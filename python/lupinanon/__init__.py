@@ -42,6 +42,7 @@ __all__ = [
     "script",
     "smaller",
     "swarm_limits",
+    "text",
     "validate",
     "version",
     "without",
@@ -182,6 +183,17 @@ def validate(component):
     rule, offset = number(), number()
     status = library.lupinanon_validate(component, len(component), rule, offset)
     return _validated(status, rule, offset)
+
+
+def text(component):
+    """Returns the component, well formed or not, in the text format, with indexes as comments.
+
+    Raises Error if the bytes are no component, or if a core module in it has more than function types and memories.
+    """
+    component = as_bytes(component)
+    status, found = written(8 * len(component), library.lupinanon_print, component, len(component))
+    _require(status)
+    return found.decode()
 
 
 def script(component, limits=None, **keywords):

@@ -45,6 +45,7 @@ class Status(IntEnum):
     BOUND = 15
     OUTSIDE = 16
     NO_CHANGE = 17
+    NO_TEXT = 18
 
 
 class Limits(Structure):
@@ -189,6 +190,7 @@ FUNCTIONS = {
     "generate_into": (c_int32, [POINTER(Limits), *BYTES, *OUTPUT, NUMBER]),
     "check": (c_int32, [*BYTES, NUMBER]),
     "validate": (c_int32, [*BYTES, NUMBER, NUMBER]),
+    "print": (c_int32, [*BYTES, *OUTPUT]),
     "script_into": (c_int32, [POINTER(Limits), *BYTES, *OUTPUT, NUMBER]),
     "smaller": (c_int32, [POINTER(Limits), *BYTES, c_size_t, *OUTPUT]),
     "next_smaller": (c_int32, [POINTER(Limits), *BYTES, NUMBER, *OUTPUT]),

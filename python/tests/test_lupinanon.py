@@ -114,6 +114,15 @@ class JudgeTest(Refuses):
         outside = lupinanon.validate(PREAMBLE + b"\7\x82\0\1\x7f")
         self.assertEqual((outside.answer, outside.offset), (Answer.OUTSIDE, 9))
 
+    def test_texts(self):
+        self.assertEqual(lupinanon.text(PREAMBLE), "(component)\n")
+        self.assertEqual(lupinanon.text(OF_ITSELF), "(component\n  (type (;0;) bool)\n  (type (;1;) (list 1))\n)\n")
+        types = PREAMBLE + b"\7\x65\x64" + b"\x7f" * 100
+        lines = [f"  (type (;{index};) bool)" for index in range(100)]
+        self.assertEqual(lupinanon.text(types).splitlines(), ["(component", *lines, ")"])
+        self.refuses(Status.UNREAD, None, lupinanon.text, b"")
+        self.refuses(Status.NO_TEXT, None, lupinanon.text, PREAMBLE + b"\1\x0b\0asm\1\0\0\0\3\1\0")
+
     def test_scripts(self):
         self.assertEqual(lupinanon.script(TYPE_OF_U32), PLAN[:7])
         self.refuses(Status.UNREAD, 0, lupinanon.script, b"")

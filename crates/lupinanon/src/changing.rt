@@ -1,6 +1,6 @@
 //! Writing the component in a file with one token or one list of entries changed, and what it is to validators.
 
-use crate::inspecting::{REFUSED, UNREAD, bytes_in, refuse};
+use crate::inspecting::{REFUSED, UNREAD, bytes_in, refuse, refuse_unread};
 use crate::options::{Change, Which};
 use crate::places::{is_terminal, status_of_print};
 use crate::scripting::write_bytes;
@@ -37,11 +37,12 @@ fn settled<T: Drop>(
 fn found<T: Drop>(
     rt: &HostRuntime,
     path: Option<&str>,
+    bytes: &[u8],
     done: Result<T, ChangeError>,
 ) -> Result<T, ExitCode> {
     match done {
         Ok(value) => Ok(value),
-        Err(error) => Err(refuse(rt, path, &error, status_of(&error))),
+        Err(error) => Err(refuse_unread(rt, path, bytes, &error, status_of(&error))),
     }
 }
 
@@ -66,7 +67,12 @@ fn write_numbered(
     bytes: &[u8],
     number: usize,
 ) -> Result<ExitCode, ExitCode> {
-    match found(rt, change.input, changed_bytes(rt.alloc(), bytes, number))? {
+    match found(
+        rt,
+        change.input,
+        bytes,
+        changed_bytes(rt.alloc(), bytes, number),
+    )? {
         Some(bytes) => write_step(rt, change, &Step { number, bytes }),
         None => {
             let why = "the change of that number leads to nothing";
@@ -82,7 +88,12 @@ fn write_next(
     bytes: &[u8],
     from: usize,
 ) -> Result<ExitCode, ExitCode> {
-    match found(rt, change.input, next_changed(rt.alloc(), bytes, from))? {
+    match found(
+        rt,
+        change.input,
+        bytes,
+        next_changed(rt.alloc(), bytes, from),
+    )? {
         Some(step) => write_step(rt, change, &step),
         None => {
             let why = "no change from that number on leads to something";
@@ -95,7 +106,7 @@ fn write_next(
 fn tree_of(rt: &HostRuntime, path: Option<&str>, bytes: &[u8]) -> Result<ComponentTree, ExitCode> {
     match read(rt.alloc(), bytes) {
         Ok(tree) => Ok(tree),
-        Err(error) => found(rt, path, Err(ChangeError::from(error))),
+        Err(error) => found(rt, path, bytes, Err(ChangeError::from(error))),
     }
 }
 
@@ -124,7 +135,7 @@ fn print_changes(rt: &HostRuntime, path: Option<&str>, bytes: &[u8]) -> Result<E
     let most = settled(rt, path, changes(rt.alloc(), &tree))?;
     let mut from: usize = 0;
     for _ in 0..most {
-        let Some(step) = found(rt, path, next_changed(rt.alloc(), bytes, from))? else {
+        let Some(step) = found(rt, path, bytes, next_changed(rt.alloc(), bytes, from))? else {
             break;
         };
         print_step(rt, path, &tree, &step)?;

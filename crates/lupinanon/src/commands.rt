@@ -1,7 +1,7 @@
 //! The commands of the command line, their arguments and what their help says.
 
 use clap::builder::ValueParser;
-use clap::{Arg, ArgAction, Command, value_parser};
+use clap::{Arg, ArgAction, ArgGroup, Command, value_parser};
 use smith_limits::PROFILES;
 use std::alloc::{AllocError, Global};
 
@@ -77,7 +77,8 @@ Status:
   2  bad arguments, limits that are refused, or a failed read or write, such as of a file that is already there";
 
 const AFTER_STATS: &str =
-    "A shape is a sort of thing together with what it is in, such as u32 in records.
+    "A shape is a sort of thing together with what it is in, such as u32 in records. A combination is a thing
+together with what it is in, what it refers to, how that came there, and how long a chain it ends.
 
 Status:
   0  what is in the components is printed
@@ -121,6 +122,11 @@ fn switch<'a>(alloc: Global, name: &'a str, help: &'a str) -> Arg<'a> {
         .long(name)
         .action(ArgAction::SetTrue)
         .help(help)
+}
+
+// That one of these options has to be there, and no more than one.
+fn one_of<'a>(alloc: Global, names: &[&'a str]) -> Result<ArgGroup<'a>, AllocError> {
+    Ok(ArgGroup::new(alloc, "wanted").args(names)?.required(true))
 }
 
 fn output<'a>(alloc: Global, help: &'a str) -> Arg<'a> {
@@ -206,8 +212,9 @@ fn smaller_command<'a>(alloc: Global) -> Result<Command<'a>, AllocError> {
         .arg(component(alloc))?
         .arg(output(alloc, TO_COMPONENT))?;
     with_limits(alloc, files)?
-        .arg(which.required_unless_present("from")?)?
-        .arg(from.conflicts_with("number")?)?
+        .group(one_of(alloc, &["number", "from"])?)?
+        .arg(which)?
+        .arg(from)?
         .arg(any)
 }
 
@@ -218,20 +225,13 @@ fn change_command<'a>(alloc: Global) -> Result<Command<'a>, AllocError> {
     let list =
         "List the changes that lead to something: the number, what is changed, and what that is";
     let which = number(alloc, "number", "K", which).short('k');
-    let from = number(alloc, "from", "K", from).conflicts_with("number")?;
-    let list = switch(alloc, "list", list)
-        .conflicts_with("number")?
-        .conflicts_with("from")?
-        .conflicts_with("output")?;
+    let list = switch(alloc, "list", list).conflicts_with("output")?;
     plain(alloc, "change", about, AFTER_CHANGE)
+        .group(one_of(alloc, &["number", "from", "list"])?)?
         .arg(component(alloc))?
         .arg(output(alloc, TO_COMPONENT))?
-        .arg(
-            which
-                .required_unless_present("from")?
-                .required_unless_present("list")?,
-        )?
-        .arg(from)?
+        .arg(which)?
+        .arg(number(alloc, "from", "K", from))?
         .arg(list)
 }
 
@@ -246,7 +246,8 @@ fn with_draw<'a>(alloc: Global, command: Command<'a>) -> Result<Command<'a>, All
     let bytes = option(alloc, "bytes", "N", bytes);
     let seed = option(alloc, "seed", "SEED", seed);
     command
-        .arg(count.required_unless_present("from")?)?
+        .group(one_of(alloc, &["count", "from"])?)?
+        .arg(count)?
         .arg(bytes.value_parser(value_parser!(usize).range(..=1_048_576)))?
         .arg(seed.value_parser(value_parser!(u64)))?
         .arg(switch(alloc, "swarm", swarm))?
@@ -258,7 +259,6 @@ fn corpus_command<'a>(alloc: Global) -> Result<Command<'a>, AllocError> {
     let from = "Write the scripts of the components *.wasm in that folder, and no random inputs";
     let to = "The folder where they go, which is made if it is missing";
     let from = option(alloc, "from", "FOLDER", from)
-        .conflicts_with("count")?
         .conflicts_with("bytes")?
         .conflicts_with("seed")?
         .conflicts_with("swarm")?
@@ -276,11 +276,22 @@ fn corpus_command<'a>(alloc: Global) -> Result<Command<'a>, AllocError> {
 }
 
 fn stats_command<'a>(alloc: Global) -> Result<Command<'a>, AllocError> {
-    let about = "Count what is in the components of a folder, by sort and by place";
-    let folder = input(alloc, "FOLDER", "The folder with the components *.wasm");
-    plain(alloc, "stats", about, AFTER_STATS)
-        .arg(folder.required(true))?
-        .arg(switch(alloc, "json", "Print it as JSON"))
+    let about = "Count what is in components, by sort and by place";
+    let paths = "Components, and folders with components *.wasm";
+    let inputs = "Count the components of inputs: each file, and in folders all but *.wasm";
+    let json = "Print it as JSON";
+    let listed =
+        "List the combinations, each with how many components have it, and which is the first";
+    let within = ArgGroup::new(alloc, "within")
+        .args(&["profile", "limits", "limit"])?
+        .multiple(true)
+        .requires_arg("inputs")?;
+    let files = plain(alloc, "stats", about, AFTER_STATS)
+        .arg(input(alloc, "PATH", paths).required(true).num_args(1..))?
+        .arg(switch(alloc, "inputs", inputs))?
+        .arg(switch(alloc, "json", json))?
+        .arg(switch(alloc, "combinations", listed).conflicts_with("json")?)?;
+    with_limits(alloc, files)?.group(within)
 }
 
 /// The program's command.
@@ -289,7 +300,6 @@ pub fn command<'a>(alloc: Global) -> Result<Command<'a>, AllocError> {
     plain(alloc, "lupinanon", ABOUT, AFTER)
         .bin_name("lupinanon")?
         .version("0.1.0")
-        .disable_help_subcommand(true)
         .subcommand_required(true)
         .subcommand(generate_command(alloc)?)?
         .subcommand(plain(alloc, "limits", limits, AFTER_LIMITS))?

@@ -35,6 +35,33 @@ pub fn components_in(rt: &HostRuntime, folder: &str) -> Result<Vec<String>, Exit
     settled(rt, folder, listed(rt, folder))
 }
 
+fn listed_inputs(rt: &HostRuntime, folder: &str) -> io::Result<Vec<String>> {
+    let mut names = Vec::new(rt.alloc());
+    for entry in fs::read_dir(rt, folder)? {
+        let entry = entry?;
+        let name = entry.file_name();
+        if entry.file_type()?.is_file() && name.strip_suffix(COMPONENT_ENDING).is_none() {
+            names.push(String::from_str(rt.alloc(), name)?)?;
+        }
+    }
+    names.sort()?;
+    Ok(names)
+}
+
+/// The names of the files in a folder that are not named `*.wasm`, in order, or the status after a message.
+pub fn inputs_in(rt: &HostRuntime, folder: &str) -> Result<Vec<String>, ExitCode> {
+    settled(rt, folder, listed_inputs(rt, folder))
+}
+
+fn is_at_folder(rt: &HostRuntime, path: &str) -> io::Result<bool> {
+    Ok(fs::metadata(rt, path)?.is_dir())
+}
+
+/// Whether a path is that of a folder, or the status after a message.
+pub fn is_folder(rt: &HostRuntime, path: &str) -> Result<bool, ExitCode> {
+    settled(rt, path, is_at_folder(rt, path))
+}
+
 /// Makes a folder if there is none, or returns the status after a message.
 pub fn make_folder(rt: &HostRuntime, folder: &str) -> Result<(), ExitCode> {
     settled(rt, folder, fs::create_dir_all(rt, folder))

@@ -8,7 +8,7 @@ ghost use Rattle.lupinanon.specs.Converting.{IsOfLimits, IsWithinError, WritesWi
 use crate::limits_file::{LimitsTable, config_of, refuse_both, refuse_limits, table_of};
 use crate::options::Options;
 use crate::places::{
-    STANDARD_INPUT, STANDARD_OUTPUT, Sink, Source, print_fault, refuse_terminal, source_of,
+    STANDARD_INPUT, Sink, Source, print_fault, refuse_terminal, source_of, status_of_fault,
 };
 use crate::print_error;
 use smith_limits::{Fault, limits_of};
@@ -56,7 +56,7 @@ pub fn convert_within<R: Read, W: Write>(
     }
 }
 
-// Prints why a run failed, and returns its status.
+// The status that a failed run ends with, after a message that says why it failed, unless nothing reads the output.
 fn status_of_run(
     rt: &HostRuntime,
     options: &Options<'_>,
@@ -67,7 +67,7 @@ fn status_of_run(
     let status = error.status();
     let _status = match error {
         RunError::ReadFault => print_fault(rt, options.input, STANDARD_INPUT, source.fault()),
-        RunError::WriteFault => print_fault(rt, options.output, STANDARD_OUTPUT, sink.fault()),
+        RunError::WriteFault => return status_of_fault(rt, options.output, sink.fault()),
         RunError::InputTooLong => {
             let why = format_args!("the input has more than {LONGEST_INPUT} bytes");
             print_error(rt, why)

@@ -4,6 +4,7 @@ use crate::FAULT;
 use crate::places::{STANDARD_INPUT, Source, print_fault, source_of, status_of_print};
 use crate::scripting::write_bytes;
 use crate::show::Shown;
+use smith_core::CORE_PREAMBLE;
 use smith_print::print as text_of;
 use smith_read::read;
 use smith_verdict::{Answer, Outside, Verdict, answer, check as check_bytes};
@@ -51,6 +52,20 @@ pub fn refuse<W: fmt::Display>(
     ExitCode::from(status)
 }
 
+/// Prints why the bytes of a file are not read as a component, and returns the status.
+pub fn refuse_unread<W: fmt::Display>(
+    rt: &HostRuntime,
+    path: Option<&str>,
+    bytes: &[u8],
+    why: &W,
+    status: u8,
+) -> ExitCode {
+    if bytes.starts_with(&CORE_PREAMBLE) {
+        return refuse(rt, path, &"a core module, not a component", status);
+    }
+    refuse(rt, path, why, status)
+}
+
 // The status of a component that is not well formed, or of bytes that are none.
 fn verdict_status(verdict: &Verdict) -> u8 {
     match verdict {
@@ -90,6 +105,9 @@ fn report<W: fmt::Display>(
 pub fn check(rt: &HostRuntime, path: Option<&str>) -> Result<ExitCode, ExitCode> {
     let bytes = bytes_in(rt, path)?;
     match check_bytes(rt.alloc(), &bytes) {
+        Ok(verdict) if verdict_status(&verdict) == UNREAD => {
+            Err(refuse_unread(rt, path, &bytes, &verdict, UNREAD))
+        }
         Ok(verdict) => report(rt, path, &verdict, verdict_status(&verdict)),
         Err(_) => Err(refuse(rt, path, &"out of memory", FAULT)),
     }
@@ -126,7 +144,7 @@ pub fn show(rt: &HostRuntime, path: Option<&str>) -> Result<ExitCode, ExitCode> 
                 printed => status_of_print(rt, printed),
             }
         }
-        Err(error) => Err(refuse(rt, path, &error, REFUSED)),
+        Err(error) => Err(refuse_unread(rt, path, &bytes, &error, REFUSED)),
     }
 }
 
@@ -139,7 +157,7 @@ pub fn print(
     let bytes = bytes_in(rt, path)?;
     let component = match read(rt.alloc(), &bytes) {
         Ok(component) => component,
-        Err(error) => return Err(refuse(rt, path, &error, REFUSED)),
+        Err(error) => return Err(refuse_unread(rt, path, &bytes, &error, REFUSED)),
     };
     match text_of(rt.alloc(), &component) {
         Ok(text) => write_bytes(rt, output, text.as_bytes()),

@@ -76,8 +76,10 @@ fn table_of_profiles(rt: &HostRuntime, profiles: &[&str]) -> Result<Table, ExitC
 fn table_of_setting(rt: &HostRuntime, setting: &str) -> Result<Table, ExitCode> {
     match toml::table_from_str(rt.alloc(), setting) {
         Ok(table) if table.len() == 1 => Ok(table),
-        Ok(_) => Err(print_error(rt, format_args!("--limit {setting}: must be KEY=VALUE"))),
-        Err(error) => Err(refuse_toml(rt, format_args!("--limit {setting}"), &error)),
+        Err(error) if setting.contains('=') => {
+            Err(refuse_toml(rt, format_args!("--limit {setting}"), &error))
+        }
+        _ => Err(print_error(rt, format_args!("--limit {setting}: must be KEY=VALUE"))),
     }
 }
 

@@ -45,7 +45,7 @@ fn words_of(rt: &HostRuntime) -> Result<Vec<String>, ExitCode> {
     }
 }
 
-// Does what the words ask for. Returns the status, which is an error after a message.
+// Does what the words ask for. Returns the status, which is an error after a message or a failed write.
 fn run(rt: &HostRuntime) -> Result<ExitCode, ExitCode> {
     let words = words_of(rt)?;
     match options::task_of(rt.alloc(), words.as_slice()) {
@@ -65,7 +65,7 @@ fn run(rt: &HostRuntime) -> Result<ExitCode, ExitCode> {
                 limits,
             },
         ) => corpus::corpus(rt, folder, origin, &limits),
-        Ok(Task::Stats { folder, is_json }) => stats::stats(rt, folder, is_json),
+        Ok(Task::Stats(counted)) => stats::stats(rt, &counted),
         Err(error) => {
             let printed = error.print(rt);
             if error.use_stderr() {

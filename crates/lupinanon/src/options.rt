@@ -35,11 +35,8 @@ pub enum Task<'a> {
         origin: Origin<'a>,
         limits: Limits<'a>,
     },
-    /// Count what is in the components of a folder.
-    Stats {
-        folder: &'a str,
-        is_json: bool,
-    },
+    /// Count what is in components.
+    Stats(Counted<'a>),
 }
 
 /// Where limits are from: the default ones, those of profiles over them, the file's over these, and settings over all.
@@ -116,6 +113,26 @@ pub enum Origin<'a> {
     Broken(Draw),
     /// They are the scripts of the components in this folder.
     Folder(&'a str),
+}
+
+/// Components whose contents are counted.
+#[derive(Drop)]
+pub struct Counted<'a> {
+    /// Files, and folders of files.
+    pub paths: Vec<&'a str>,
+    /// Whether the files are inputs, and the components those that they produce within the limits.
+    pub are_inputs: bool,
+    pub limits: Limits<'a>,
+    pub page: Page,
+}
+
+/// How counts are printed.
+#[derive(Clone, Copy)]
+pub enum Page {
+    Lines,
+    Json,
+    /// The combinations alone.
+    Combinations,
 }
 
 /// The file of that name; none is standard input or output, which `-` names.
@@ -207,6 +224,26 @@ fn origin_of<'a>(matches: &ArgMatches<'a>) -> Origin<'a> {
     Origin::Random(draw_of(matches, 1024))
 }
 
+fn page_of(matches: &ArgMatches<'_>) -> Page {
+    if matches.get_flag("json") {
+        return Page::Json;
+    }
+    if matches.get_flag("combinations") {
+        return Page::Combinations;
+    }
+    Page::Lines
+}
+
+fn counted_of<'a>(alloc: Global, matches: &ArgMatches<'a>) -> Result<Counted<'a>, AllocError> {
+    let paths = matches.get_strs("input").unwrap_or_default();
+    Ok(Counted {
+        paths: Vec::from_slice(alloc, paths)?,
+        are_inputs: matches.get_flag("inputs"),
+        limits: limits_of(alloc, matches)?,
+        page: page_of(matches),
+    })
+}
+
 /// What the words ask for. The first is the program's name.
 pub fn task_of<'a, S: AsStr>(alloc: Global, words: &'a [S]) -> Result<Task<'a>, Error> {
     let matches = command(alloc)?.try_get_matches_from(words)?;
@@ -229,10 +266,7 @@ pub fn task_of<'a, S: AsStr>(alloc: Global, words: &'a [S]) -> Result<Task<'a>, 
             origin: origin_of(found),
             limits: limits_of(alloc, found)?,
         },
-        "stats" => Task::Stats {
-            folder: found.get_str("input").unwrap_or("."),
-            is_json: found.get_flag("json"),
-        },
+        "stats" => Task::Stats(counted_of(alloc, found)?),
         _ => Task::PrintLimits,
     })
 }

@@ -160,11 +160,24 @@ pub fn source_of(rt: &HostRuntime, path: Option<&str>) -> Result<Source, ExitCod
     }
 }
 
-/// The status after something was printed, or was not, which a message reports.
+/// The status that a failed write ends with: success if nothing reads the output any more, and otherwise that of a
+/// fault, after a message.
+pub fn status_of_fault(
+    rt: &HostRuntime,
+    path: Option<&str>,
+    fault: Option<&io::Error>,
+) -> ExitCode {
+    match fault {
+        Some(error) if error.kind() == io::ErrorKind::BrokenPipe => ExitCode::SUCCESS,
+        _ => print_fault(rt, path, STANDARD_OUTPUT, fault),
+    }
+}
+
+/// The status after something was printed, which is an error if it was not.
 pub fn status_of_print(rt: &HostRuntime, printed: io::Result<()>) -> Result<ExitCode, ExitCode> {
     match printed {
         Ok(()) => Ok(ExitCode::SUCCESS),
-        Err(error) => Err(print_fault(rt, None, STANDARD_OUTPUT, Some(&error))),
+        Err(error) => Err(status_of_fault(rt, None, Some(&error))),
     }
 }
 

@@ -1,6 +1,6 @@
 //! Writing a component that is smaller than the one in a file.
 
-use crate::inspecting::{REFUSED, UNREAD, bytes_in, refuse};
+use crate::inspecting::{REFUSED, UNREAD, bytes_in, refuse, refuse_unread};
 use crate::limits_file::{config_of, refuse_both};
 use crate::options::{Choice, Options};
 use crate::places::is_terminal;
@@ -31,7 +31,7 @@ fn write_numbered(
             let why = "there is no smaller component of that number";
             Err(refuse(rt, options.input, &why, REFUSED))
         }
-        Err(error) => Err(refuse(rt, options.input, &error, status_of(&error))),
+        Err(error) => Err(refuse_unread(rt, options.input, bytes, &error, status_of(&error))),
     }
 }
 
@@ -53,7 +53,7 @@ fn write_next(
             let why = "there is no smaller component from that step on";
             Err(refuse(rt, options.input, &why, REFUSED))
         }
-        Err(error) => Err(refuse(rt, options.input, &error, status_of(&error))),
+        Err(error) => Err(refuse_unread(rt, options.input, bytes, &error, status_of(&error))),
     }
 }
 

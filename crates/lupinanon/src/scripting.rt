@@ -1,10 +1,10 @@
 //! Writing the script of a component in a file: the input that produces it.
 
 use crate::FAULT;
-use crate::inspecting::{REFUSED, bytes_in, refuse};
+use crate::inspecting::{REFUSED, bytes_in, refuse, refuse_unread};
 use crate::limits_file::{config_of, refuse_both};
 use crate::options::Options;
-use crate::places::{STANDARD_OUTPUT, Sink, print_fault, refuse_terminal};
+use crate::places::{Sink, refuse_terminal, status_of_fault};
 use smith_component::Config;
 use smith_read::offset_of;
 use smith_run::{Form, page};
@@ -30,6 +30,7 @@ pub fn refuse_script(
             Err(_) => refuse(rt, path, &"out of memory", REFUSED),
         },
         ScriptError::InconsistentLimits => refuse(rt, path, error, FAULT),
+        ScriptError::Unread { .. } => refuse_unread(rt, path, bytes, error, REFUSED),
         _ => refuse(rt, path, error, REFUSED),
     }
 }
@@ -48,7 +49,7 @@ fn script_text(
     }
 }
 
-/// Writes bytes to the file, or to standard output if there is none. Returns the status, an error after a message.
+/// Writes bytes to the file, or to standard output if there is none. Returns the status, an error if a write fails.
 pub fn write_bytes(
     rt: &HostRuntime,
     path: Option<&str>,
@@ -56,7 +57,7 @@ pub fn write_bytes(
 ) -> Result<ExitCode, ExitCode> {
     let mut sink = Sink::new(rt, path);
     if sink.write_all(bytes).is_err() || sink.flush().is_err() {
-        return Err(print_fault(rt, path, STANDARD_OUTPUT, sink.fault()));
+        return Err(status_of_fault(rt, path, sink.fault()));
     }
     Ok(ExitCode::SUCCESS)
 }

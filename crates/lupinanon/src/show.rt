@@ -7,13 +7,14 @@ mod walk;
 
 use core_types::show_core_type;
 use smith_core::COMPONENT_PREAMBLE;
+use smith_print::next;
 use smith_read::{ComponentTree, Contents, Export, Func, ImportNode, MOST_DEPTH, Step, Steps};
 use smith_stats::ref_label;
 use smith_syntax::ComponentTypeRef;
 use std::alloc::Global;
 use std::fmt;
 use types::show_type;
-use walk::{Walk, next};
+use walk::Walk;
 
 /// A component, and the bytes that it was read from.
 #[derive(Clone, Copy)]
@@ -55,11 +56,11 @@ fn show_extern<W: fmt::Write>(
     walk.pass_entry::<ImportNode>()?;
     let spaces = &mut walk.spaces;
     let (index, relation, ty) = match to {
-        ComponentTypeRef::Module(ty) => (next(&mut spaces.modules), "of core type", ty),
-        ComponentTypeRef::Func(ty) => (next(&mut spaces.functions), "of type", ty),
-        ComponentTypeRef::TypeEq(ty) => (next(&mut spaces.types), "equal to type", ty),
-        ComponentTypeRef::Component(ty) => (next(&mut spaces.components), "of type", ty),
-        ComponentTypeRef::Instance(ty) => (next(&mut spaces.instances), "of type", ty),
+        ComponentTypeRef::Module(ty) => (next(&mut spaces.modules)?, "of core type", ty),
+        ComponentTypeRef::Func(ty) => (next(&mut spaces.functions)?, "of type", ty),
+        ComponentTypeRef::TypeEq(ty) => (next(&mut spaces.types)?, "equal to type", ty),
+        ComponentTypeRef::Component(ty) => (next(&mut spaces.components)?, "of type", ty),
+        ComponentTypeRef::Instance(ty) => (next(&mut spaces.instances)?, "of type", ty),
     };
     let what = ref_label(to);
     writeln!(f, "{word} {name:?}: {what} {index} {relation} {ty}")
@@ -71,7 +72,7 @@ fn show_export<W: fmt::Write>(
     export: &Export,
 ) -> fmt::Result {
     walk.pass_entry::<Export>()?;
-    let index = next(&mut walk.spaces.functions);
+    let index = next(&mut walk.spaces.functions)?;
     let name = export.name.as_str();
     let func = export.func_index;
     writeln!(
@@ -91,14 +92,14 @@ fn show_canon<W: fmt::Write>(
             func_ty,
             core_func_index,
         } => {
-            let index = next(&mut walk.spaces.functions);
+            let index = next(&mut walk.spaces.functions)?;
             writeln!(
                 f,
                 "function {index}: lift of core function {core_func_index} to type {func_ty}"
             )
         }
         Func::CanonLower { func_index } => {
-            let index = next(&mut walk.spaces.core_functions);
+            let index = next(&mut walk.spaces.core_functions)?;
             writeln!(f, "core function {index}: lower of function {func_index}")
         }
     }
@@ -112,7 +113,7 @@ fn show_contents<W: fmt::Write>(
 ) -> fmt::Result {
     let what = match contents {
         Contents::Parts(_) => {
-            let index = next(&mut walk.spaces.components);
+            let index = next(&mut walk.spaces.components)?;
             walk.enter()?;
             walk.pass(COMPONENT_PREAMBLE.len());
             return writeln!(f, "component {index}");
@@ -158,7 +159,7 @@ fn show_step<W: fmt::Write>(
         }
         Step::CoreModule(_) => {
             walk.pass(len);
-            let index = next(&mut walk.spaces.modules);
+            let index = next(&mut walk.spaces.modules)?;
             writeln!(f, "core module {index} of {len} bytes")
         }
         Step::Begin(contents) => show_contents(f, walk, contents),

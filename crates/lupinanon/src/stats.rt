@@ -1,42 +1,123 @@
-//! What is in the components of a folder.
+//! What is in components.
 
-use crate::folders::{COMPONENT_ENDING, components_in, path_in};
-use crate::inspecting::{REFUSED, bytes_in, refuse};
+use crate::folders::{COMPONENT_ENDING, components_in, inputs_in, is_folder, path_in};
+use crate::inspecting::{REFUSED, bytes_in, refuse, refuse_unread};
+use crate::limits_file::config_of;
+use crate::options::{Counted, Page};
 use crate::places::status_of_print;
+use smith_component::{Config, Error, Unstructured, generate};
 use smith_read::{ReadError, read};
-use smith_stats::{Json, Tally};
-use std::alloc::AllocError;
+use smith_stats::{Json, Listed, Tally};
+use std::alloc::{AllocError, Global};
 use std::process::ExitCode;
 
-// Adds what is in a file, or names what is wrong with it. Returns the status after a message if it stops.
-fn add_file(rt: &HostRuntime, tally: &mut Tally, path: &str) -> Result<(), ExitCode> {
-    let bytes = bytes_in(rt, Some(path))?;
-    let added = match read(rt.alloc(), &bytes) {
-        Ok(component) => tally.add(bytes.len(), &component),
-        Err(ReadError::OutOfMemory) => Err(AllocError),
-        Err(error) => {
-            let _status = refuse(rt, Some(path), &error, REFUSED);
-            tally.add_unread();
-            Ok(())
-        }
-    };
+// Settles what may have run out of memory at a file.
+fn settled(rt: &HostRuntime, path: &str, added: Result<(), AllocError>) -> Result<(), ExitCode> {
     match added {
         Ok(()) => Ok(()),
         Err(_) => Err(refuse(rt, Some(path), &"out of memory", REFUSED)),
     }
 }
 
-/// Prints how much there is in the components of a folder, by sort and by place.
-pub fn stats(rt: &HostRuntime, folder: &str, is_json: bool) -> Result<ExitCode, ExitCode> {
-    let mut tally = Tally::new(rt.alloc());
-    for name in &components_in(rt, folder)? {
-        let path = path_in(rt, folder, name, COMPONENT_ENDING)?;
-        add_file(rt, &mut tally, &path)?;
+// Adds what is in a component, or names what is wrong with it. Returns the status after a message if it stops.
+fn add_component(
+    rt: &HostRuntime,
+    tally: &mut Tally,
+    path: &str,
+    bytes: &[u8],
+) -> Result<(), ExitCode> {
+    let added = match read(rt.alloc(), bytes) {
+        Ok(component) => tally.add(bytes.len(), &component),
+        Err(ReadError::OutOfMemory) => Err(AllocError),
+        Err(error) => {
+            let _status = refuse_unread(rt, Some(path), bytes, &error, REFUSED);
+            tally.add_unread();
+            Ok(())
+        }
+    };
+    settled(rt, path, added)
+}
+
+// Adds what is in the component of an input, or names why there is none.
+fn add_input(
+    rt: &HostRuntime,
+    tally: &mut Tally,
+    config: &Config,
+    path: &str,
+    input: &[u8],
+) -> Result<(), ExitCode> {
+    match generate(rt.alloc(), *config, &mut Unstructured::new(input)) {
+        Ok(generated) => add_component(rt, tally, path, &generated.bytes),
+        Err(Error::OutOfMemory) => settled(rt, path, Err(AllocError)),
+        Err(error) => {
+            let _status = refuse(rt, Some(path), &error, REFUSED);
+            tally.add_unread();
+            Ok(())
+        }
     }
-    let printed = if is_json {
-        println!(rt; "{}", Json(&tally))
+}
+
+// Adds a path.
+fn push(paths: &mut Vec<String>, path: String) -> Result<(), AllocError> {
+    paths.push(path)?;
+    Ok(())
+}
+
+// Adds a path that is given.
+fn push_given(alloc: Global, paths: &mut Vec<String>, path: &str) -> Result<(), AllocError> {
+    push(paths, String::from_str(alloc, path)?)
+}
+
+// Adds the paths of the files in a folder that are counted.
+fn add_folder(
+    rt: &HostRuntime,
+    paths: &mut Vec<String>,
+    folder: &str,
+    are_inputs: bool,
+) -> Result<(), ExitCode> {
+    let (names, ending) = if are_inputs {
+        (inputs_in(rt, folder)?, "")
     } else {
-        print!(rt; "{tally}")
+        (components_in(rt, folder)?, COMPONENT_ENDING)
+    };
+    for name in &names {
+        let path = path_in(rt, folder, name, ending)?;
+        settled(rt, folder, push(paths, path))?;
+    }
+    Ok(())
+}
+
+// The paths of the files that are counted.
+fn paths_of(rt: &HostRuntime, counted: &Counted<'_>) -> Result<Vec<String>, ExitCode> {
+    let mut paths = Vec::new(rt.alloc());
+    for path in &counted.paths {
+        if is_folder(rt, path)? {
+            add_folder(rt, &mut paths, path, counted.are_inputs)?;
+        } else {
+            settled(rt, path, push_given(rt.alloc(), &mut paths, path))?;
+        }
+    }
+    Ok(paths)
+}
+
+/// Prints how much there is in components, by sort and by place, or the combinations in them.
+pub fn stats(rt: &HostRuntime, counted: &Counted<'_>) -> Result<ExitCode, ExitCode> {
+    let config = config_of(rt, &counted.limits)?;
+    let paths = paths_of(rt, counted)?;
+    let mut tally = Tally::new(rt.alloc());
+    for path in &paths {
+        let bytes = bytes_in(rt, Some(path))?;
+        if counted.are_inputs {
+            add_input(rt, &mut tally, &config, path, &bytes)?;
+        } else {
+            add_component(rt, &mut tally, path, &bytes)?;
+        }
+    }
+    let (tally, names) = (&tally, paths.as_slice());
+    let printed = match counted.page {
+        Page::Lines => print!(rt; "{tally}"),
+        Page::Json => println!(rt; "{}", Json(tally)),
+        Page::Combinations => print!(rt; "{}", Listed { tally, names }),
     };
     status_of_print(rt, printed)
 }

@@ -10,8 +10,12 @@ void lupinanon_proved_fuzz_limits(void *limits);
 int32_t lupinanon_proved_swarm_limits(void *limits, const uint8_t *input, size_t input_len, size_t *taken);
 int32_t lupinanon_proved_generate_into(const void *limits, const uint8_t *input, size_t input_len, uint8_t *output,
                                        size_t output_len, size_t *bytes_len, size_t *left);
+int32_t lupinanon_proved_features(const void *limits, const uint8_t *input, size_t input_len, uint8_t *counters,
+                                  size_t counters_len);
 int32_t lupinanon_proved_check(const uint8_t *bytes, size_t bytes_len, size_t *offset);
 int32_t lupinanon_proved_validate(const uint8_t *bytes, size_t bytes_len, size_t *rule, size_t *offset);
+int32_t lupinanon_proved_print(const uint8_t *bytes, size_t bytes_len, uint8_t *output, size_t output_len,
+                               size_t *text_len);
 int32_t lupinanon_proved_script_into(const void *limits, const uint8_t *bytes, size_t bytes_len, uint8_t *output,
                                      size_t output_len, size_t *script_len, size_t *offset);
 int32_t lupinanon_proved_smaller(const void *limits, const uint8_t *bytes, size_t bytes_len, size_t k, uint8_t *output,
@@ -184,6 +188,7 @@ const char *lupinanon_status_name(int32_t status) {
     case LUPINANON_BOUND: return "beyond a bound";
     case LUPINANON_OUTSIDE: return "not judged";
     case LUPINANON_NO_CHANGE: return "no change";
+    case LUPINANON_NO_TEXT: return "no text";
     default: return "unknown status";
     }
 }
@@ -280,6 +285,20 @@ int32_t lupinanon_generate(const LupinanonLimits *limits, const uint8_t *input, 
     return LUPINANON_OUT_OF_MEMORY;
 }
 
+int32_t lupinanon_features(const LupinanonLimits *limits, const uint8_t *input, size_t input_len, uint8_t *counters,
+                           size_t counters_len) {
+    LupinanonLimits room;
+    uint8_t nothing = 0;
+    if (!limits) return LUPINANON_BAD_ARGUMENT;
+    {
+        Memory written = {counters, counters_len}, read = {input, input_len};
+        limits = good_limits(&room, limits, read, &written, 1);
+    }
+    if (!limits) return LUPINANON_BAD_ARGUMENT;
+    return lupinanon_proved_features(WITHOUT_SIZE(limits), input ? input : &nothing, input_len,
+                                     counters ? counters : &nothing, counters_len);
+}
+
 int32_t lupinanon_check(const uint8_t *bytes, size_t bytes_len, size_t *offset) {
     uint8_t nothing = 0;
     size_t not_needed;
@@ -304,6 +323,18 @@ int32_t lupinanon_validate(const uint8_t *bytes, size_t bytes_len, size_t *rule,
         if (!may_pass(&read, 1, written, 2)) return LUPINANON_BAD_ARGUMENT;
     }
     return lupinanon_proved_validate(bytes ? bytes : &nothing, bytes_len, rule, offset);
+}
+
+int32_t lupinanon_print(const uint8_t *bytes, size_t bytes_len, uint8_t *output, size_t output_len, size_t *text_len) {
+    uint8_t nothing = 0;
+    if (text_len) *text_len = 0;
+    if (!text_len) return LUPINANON_BAD_ARGUMENT;
+    {
+        Memory written[] = {{output, output_len}, MEMORY_OF(text_len)}, read = {bytes, bytes_len};
+        if (!may_pass(&read, 1, written, 2)) return LUPINANON_BAD_ARGUMENT;
+    }
+    return lupinanon_proved_print(bytes ? bytes : &nothing, bytes_len, output ? output : &nothing, output_len,
+                                  text_len);
 }
 
 int32_t lupinanon_script_into(const LupinanonLimits *limits, const uint8_t *bytes, size_t bytes_len, uint8_t *output,

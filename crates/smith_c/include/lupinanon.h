@@ -1,10 +1,10 @@
 /* WebAssembly components from a fuzzer's bytes.
  *
- * Seventeen functions are proved: those that lupinanon_default_limits, lupinanon_fuzz_limits, lupinanon_swarm_limits,
- * lupinanon_generate_into, lupinanon_check, lupinanon_validate, lupinanon_script_into, lupinanon_smaller,
- * lupinanon_next_smaller, lupinanon_without, lupinanon_join, lupinanon_change_count, lupinanon_changed,
- * lupinanon_next_changed and lupinanon_next_miswritten call after a check of their arguments. That check, and all else,
- * is plain C.
+ * Nineteen functions are proved: those that lupinanon_default_limits, lupinanon_fuzz_limits, lupinanon_swarm_limits,
+ * lupinanon_generate_into, lupinanon_features, lupinanon_check, lupinanon_validate, lupinanon_print, lupinanon_script_into,
+ * lupinanon_smaller, lupinanon_next_smaller, lupinanon_without, lupinanon_join, lupinanon_change_count,
+ * lupinanon_changed, lupinanon_next_changed and lupinanon_next_miswritten call after a check of their arguments. That
+ * check, and all else, is plain C.
  *
  * What the caller owes, and nothing checks:
  *  - A pointer that is not NULL points to what its type says, and a length says how much lies there. Limits are as many
@@ -130,12 +130,13 @@ enum LupinanonStatus {
     LUPINANON_INVALID = 14,            /* no validator may accept the bytes */
     LUPINANON_BOUND = 15,              /* the bytes are a well-formed component beyond a bound of a validator's own */
     LUPINANON_OUTSIDE = 16,            /* the bytes are not judged: a validator may accept or refuse them */
-    LUPINANON_NO_CHANGE = 17           /* the change leads to nothing, or none from that number on to something */
+    LUPINANON_NO_CHANGE = 17,          /* the change leads to nothing, or none from that number on to something */
+    LUPINANON_NO_TEXT = 18             /* a core module in the component has more than function types and memories */
 };
 
 /* How many bytes of stack a call takes at most, with a fifth to spare: within limits of that max_nesting_depth, and at
- * 1000 also lupinanon_check, lupinanon_validate and lupinanon_script_into of any bytes: theirs grows with how deep the
- * bytes nest, whatever the limits. At 1000, the greatest depth, that is 2 MiB. */
+ * 1000 also lupinanon_check, lupinanon_validate, lupinanon_print and lupinanon_script_into of any bytes: theirs grows
+ * with how deep the bytes nest, whatever the limits. At 1000, the greatest depth, that is 2 MiB. */
 #define LUPINANON_STACK(max_nesting_depth) (49152 + 2048 * (size_t)(max_nesting_depth))
 
 /* What lupinanon_check, lupinanon_validate and lupinanon_script_into write if they know no offset. */
@@ -201,6 +202,19 @@ int32_t lupinanon_generate_into(const LupinanonLimits *limits, const uint8_t *in
 int32_t lupinanon_generate(const LupinanonLimits *limits, const uint8_t *input, size_t input_len, uint8_t **bytes,
                            size_t *bytes_len, size_t *left);
 
+/* Counts what is in the component that the input produces within the limits, for a fuzzer that takes counters as coverage,
+ * such as the extra counters of libFuzzer. Each combination in it, of a thing with what it is in and what it refers to
+ * (docs/FORMATS.md), has one of the counters, which depends on `counters_len` and on nothing else. To each of them 1 is
+ * added, once for each combination, but none passes 255.
+ *
+ * LUPINANON_ANSWERED: they are counted. Otherwise the counters are as they were, and the status is that of
+ * lupinanon_generate_into, or says that memory ran out.
+ * LUPINANON_UNREAD: no call of this library returns it here.
+ *
+ * Input and counters may be NULL if their length is 0. */
+int32_t lupinanon_features(const LupinanonLimits *limits, const uint8_t *input, size_t input_len, uint8_t *counters,
+                           size_t counters_len);
+
 /* Whether bytes are a component that is well formed, by the rules of docs/JUDGEMENT.md.
  *
  * LUPINANON_WELL_FORMED: they are.
@@ -230,6 +244,17 @@ int32_t lupinanon_check(const uint8_t *bytes, size_t bytes_len, size_t *offset);
  * A number keeps its meaning in all later versions, which may add others at the end of each group.
  * Bytes may be NULL if their length is 0, and `rule` and `offset` if they are not needed. */
 int32_t lupinanon_validate(const uint8_t *bytes, size_t bytes_len, size_t *rule, size_t *offset);
+
+/* Writes the component that bytes are, well formed or not, in the text format to the front of the output, with indexes
+ * as comments. The text ends in a line feed, and no 0 follows it.
+ *
+ * LUPINANON_ANSWERED: *text_len bytes are written.
+ * LUPINANON_NO_ROOM: *text_len is how long the text is, and otherwise it is 0. Nothing is written to the output.
+ * LUPINANON_NO_TEXT: it has no text here, since a core module in it has more than function types and memories.
+ * LUPINANON_UNREAD: as of lupinanon_check.
+ *
+ * Bytes and output may be NULL if their length is 0. */
+int32_t lupinanon_print(const uint8_t *bytes, size_t bytes_len, uint8_t *output, size_t output_len, size_t *text_len);
 
 /* Writes the script of the component that bytes are to the front of the output: an input from which
  * lupinanon_generate_into produces these bytes, within the same limits, with nothing left. Each component

@@ -6,7 +6,8 @@
  *         your_validator(made->component);
  *
  * lupinanon.h says what each function does, what each limit means, and how much stack a call takes. No function here
- * throws, except for what std::vector throws if there is no memory; compiled without exceptions, the program then ends.
+ * throws, except for what std::vector and std::string throw if there is no memory; compiled without exceptions, the
+ * program then ends.
  */
 #ifndef LUPINANON_HPP
 #define LUPINANON_HPP
@@ -20,6 +21,7 @@
 #include <cstdint>
 #include <optional>
 #include <span>
+#include <string>
 #include <string_view>
 #include <utility>
 #include <variant>
@@ -45,7 +47,8 @@ enum class Error : std::int32_t {
     unread = LUPINANON_UNREAD,
     no_script = LUPINANON_NO_SCRIPT,
     no_smaller = LUPINANON_NO_SMALLER,
-    no_change = LUPINANON_NO_CHANGE
+    no_change = LUPINANON_NO_CHANGE,
+    no_text = LUPINANON_NO_TEXT
 };
 
 /* An error in words, as "out of memory". */
@@ -133,9 +136,10 @@ inline std::optional<std::size_t> known(std::size_t number) noexcept {
 }
 
 /* What a call writes into an output of that room, or else of the room that it then asks for. */
-template <class Call>
-Result<Bytes> written(std::size_t room, Call call) {
-    Bytes output(room);
+template <class Output = Bytes, class Call>
+Result<Output> written(std::size_t room, Call call) {
+    Output output;
+    output.resize(room);
     std::size_t len = 0;
     auto try_call = [&] { return call(reinterpret_cast<std::uint8_t *>(output.data()), output.size(), &len); };
     std::int32_t status = try_call();
@@ -224,6 +228,14 @@ inline Result<Validated> validate(BytesView bytes) {
     std::size_t rule = LUPINANON_NO_RULE, offset = LUPINANON_NO_OFFSET;
     const auto status = lupinanon_validate(detail::data(bytes), bytes.size(), &rule, &offset);
     return detail::validated(status, rule, offset);
+}
+
+/* Returns the component, well formed or not, in the text format. Error::no_text: a core module in it has more than
+ * function types and memories. */
+inline Result<std::string> print(BytesView bytes) {
+    return detail::written<std::string>(8 * bytes.size(), [&](auto *at, std::size_t room, std::size_t *len) {
+        return lupinanon_print(detail::data(bytes), bytes.size(), at, room, len);
+    });
 }
 
 /* Returns an input from which generate produces these bytes within the limits, and of which nothing is left. */

@@ -11,7 +11,7 @@ use Rattle.smith_change.specs.declared.error.ChangeError.TheVariants as refusal
 use Rattle.smith_c.specs.Reduces.{IsUnread}
 use Rattle.smith_c.specs.declared.status.Status.{Status}
 use Rattle.smith_c.specs.declared.status.Status.TheVariants.{Answered, Refused, NoRoom, BadFlag, IllFormed, Unread, NoScript, NoSmaller, Invalid}
-use Rattle.smith_c.specs.declared.status.Status.TheVariants.{Bound, Outside, NoChange}
+use Rattle.smith_c.specs.declared.status.Status.TheVariants.{Bound, Outside, NoChange, NoText}
 
 -- This is the component to which the change of that number leads; none if it leads to nothing.
 abbrev pub Changes : List ℕ → ℕ → Option (List ℕ) → Type 0
@@ -60,3 +60,4 @@ LacksChange none bytes Invalid = ⊥
 LacksChange none bytes Bound = ⊥
 LacksChange none bytes Outside = ⊥
 LacksChange none bytes NoChange = none
+LacksChange none bytes NoText = ⊥

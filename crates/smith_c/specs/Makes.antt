@@ -10,7 +10,7 @@ use Rattle.smith_c.specs.Limits.{limits_of}
 use Rattle.smith_c.specs.declared.limits.Limits.{Limits}
 use Rattle.smith_c.specs.declared.status.Status.{Status}
 use Rattle.smith_c.specs.declared.status.Status.TheVariants.{Answered, Refused, NoRoom, BadFlag, IllFormed, Unread, NoScript, NoSmaller, Invalid}
-use Rattle.smith_c.specs.declared.status.Status.TheVariants.{Bound, Outside, NoChange}
+use Rattle.smith_c.specs.declared.status.Status.TheVariants.{Bound, Outside, NoChange, NoText}
 use Rattle.std.specs.Prelude.{ℤ, pos}
 use Rattle.smith_input.specs.declared.error.Error.TheVariants.{InconsistentLimits, MinimumNotMet, ModuleRefused, TooLong, OutOfMemory, PartsDisagree}
 
@@ -41,6 +41,7 @@ Stops limits input Invalid = ⊥
 Stops limits input Bound = ⊥
 Stops limits input Outside = ⊥
 Stops limits input NoChange = ⊥
+Stops limits input NoText = ⊥
 
 -- What a call returns in C.
 
@@ -63,6 +64,7 @@ code_of Invalid = pos 14
 code_of Bound = pos 15
 code_of Outside = pos 16
 code_of NoChange = pos 17
+code_of NoText = pos 18
 
 -- what is written if no offset is known: 2^64 - 1
 abbrev pub no_offset : ℕ

@@ -16,7 +16,7 @@ use Rattle.smith_c.specs.Limits.{limits_of}
 use Rattle.smith_c.specs.declared.limits.Limits.{Limits}
 use Rattle.smith_c.specs.declared.status.Status.{Status}
 use Rattle.smith_c.specs.declared.status.Status.TheVariants.{Answered, Refused, NoRoom, BadFlag, IllFormed, Unread, NoScript, NoSmaller, Invalid}
-use Rattle.smith_c.specs.declared.status.Status.TheVariants.{Bound, Outside, NoChange}
+use Rattle.smith_c.specs.declared.status.Status.TheVariants.{Bound, Outside, NoChange, NoText}
 
 -- This is the k-th of the components that have the property and are smaller by a step than the component of the bytes; none
 -- if there is no k-th.
@@ -84,6 +84,7 @@ LacksWithin none limits bytes Invalid = ⊥
 LacksWithin none limits bytes Bound = ⊥
 LacksWithin none limits bytes Outside = ⊥
 LacksWithin none limits bytes NoChange = ⊥
+LacksWithin none limits bytes NoText = ⊥
 
 -- No smaller component is returned: there is no k-th.
 abbrev pub Unreduced : Limits → List ℕ → ℕ → Status → Type 0
@@ -108,6 +109,7 @@ Lacks none bytes Invalid = ⊥
 Lacks none bytes Bound = ⊥
 Lacks none bytes Outside = ⊥
 Lacks none bytes NoChange = ⊥
+Lacks none bytes NoText = ⊥
 
 -- No joined component is returned: it has no encoding, or the bytes of one are not read, or no memory is left.
 abbrev pub AreUnjoined : List ℕ → List ℕ → Status → Type 0
@@ -128,3 +130,4 @@ AreUnjoined first second Invalid = ⊥
 AreUnjoined first second Bound = ⊥
 AreUnjoined first second Outside = ⊥
 AreUnjoined first second NoChange = ⊥
+AreUnjoined first second NoText = ⊥

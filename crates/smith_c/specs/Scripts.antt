@@ -15,7 +15,7 @@ use Rattle.smith_c.specs.Makes.{no_offset}
 use Rattle.smith_c.specs.declared.limits.Limits.{Limits}
 use Rattle.smith_c.specs.declared.status.Status.{Status}
 use Rattle.smith_c.specs.declared.status.Status.TheVariants.{Answered, Refused, NoRoom, BadFlag, IllFormed, Unread, NoScript, NoSmaller, Invalid}
-use Rattle.smith_c.specs.declared.status.Status.TheVariants.{Bound, Outside, NoChange}
+use Rattle.smith_c.specs.declared.status.Status.TheVariants.{Bound, Outside, NoChange, NoText}
 
 -- This is the script, within the limits, of a component that the bytes spell.
 pub record Scripts (limits : Limits) (bytes script : List ℕ) : Type 0 where
@@ -51,6 +51,7 @@ Withholds limits bytes Invalid offset = ⊥
 Withholds limits bytes Bound offset = ⊥
 Withholds limits bytes Outside offset = ⊥
 Withholds limits bytes NoChange offset = ⊥
+Withholds limits bytes NoText offset = ⊥
 
 -- the status that a refusal of `script` becomes
 abbrev pub status_of : ScriptError → Status

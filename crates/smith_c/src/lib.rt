@@ -4,9 +4,11 @@
 
 pub mod change;
 pub mod check;
+pub mod features;
 pub mod into;
 pub mod limits;
 pub mod make;
+pub mod print;
 mod put;
 pub mod reduce;
 pub mod rules;

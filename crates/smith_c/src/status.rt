@@ -32,14 +32,16 @@ pub enum Status {
     Outside,
     /// The change leads to nothing, or none from that number on leads to something.
     NoChange,
+    /// A core module in the component has more than function types and memories, so that it has no text.
+    NoText,
 }
 
 impl Status {
     /// Its number in C: 0 if the output has it or the bytes are well formed or valid, 1 to 6 for the refusals in the
     /// order of `Error`, 7 if there is no room, 8 for a byte that is not a flag, 10 for a component that is not well
     /// formed, 11 for bytes that are not a component, 12 if there is no script, 13 if there is no smaller component, 14
-    /// to 16 for bytes that are invalid, beyond a bound, or not judged, and 17 if there is no change. The header has 9
-    /// for arguments that no call may have.
+    /// to 16 for bytes that are invalid, beyond a bound, or not judged, 17 if there is no change, and 18 if there is no
+    /// text. The header has 9 for arguments that no call may have.
     pub fn code(&self) -> i32
         ensures { result ≡ code_of self.now }
     {
@@ -61,6 +63,7 @@ impl Status {
             Status::Bound => 15,
             Status::Outside => 16,
             Status::NoChange => 17,
+            Status::NoText => 18,
         }
     }
 }

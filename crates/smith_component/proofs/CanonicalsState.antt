@@ -191,9 +191,9 @@ module _ (scopes : List Contents) (tables : Tables) (c i t : ℕ) (known : IsLow
       lowered_scalar = ap is_scalar lowered_is ∙ known.2
 
       -- How the core function is lifted is read.
-      pub lifts_as : (core : Function) (lowered signature : Signature) (b rest : List ℕ) → lowered ≡ f.value → Flattens lowered core
-          → ReadsLiftedType core b signature rest → ReadsLiftedTypeOf (own_scope scopes) tables c b signature rest
-      lifts_as core lowered signature b rest e flat reads = grind (arith, lowered_is)
+      pub lifts_as : (config : Config) (core : Function) (lowered signature : Signature) (b rest : List ℕ) → lowered ≡ f.value → Flattens lowered core
+          → ReadsLiftedType config.max_name_length core b signature rest → ReadsLiftedTypeOf config (own_scope scopes) tables c b signature rest
+      lifts_as config core lowered signature b rest e flat reads = grind (arith, lowered_is)
 
 -- What is known of a draft.
 module _ (draft : CanonicalDraft) (around : List Tree) (d : IsDraftIn around draft) where
@@ -246,7 +246,7 @@ module _ (draft : CanonicalDraft) (around : List Tree) (d : IsDraftIn around dra
   -- A lift is read by where it leads.
   module _ (config : Config) (n c : ℕ) (signature : Signature) (b mid low rest : List ℕ) (next : Growing)
       (count : n ≡ length tables.core_functions.items) (chosen : Reads n b c mid)
-      (lifts : ReadsLiftedTypeOf (own_scope held) tables c mid signature low) where
+      (lifts : ReadsLiftedTypeOf config (own_scope held) tables c mid signature low) where
     pub lift_reads : LiftsTo config s c signature low rest next → ReadsLift config s b rest next
     lift_reads to = record {
       c = c;
@@ -373,7 +373,7 @@ first_count component funcs none = grind (arith, first_growing, spaces-add)
 -- All turns together.
 pub all_read : (config : Config) (least most : ℕ) (t : Tree) (first next : Growing) (b rest : List ℕ) → first ≡ empty_section t
     → most ≡ config.max_funcs - function_count t
-    → (turns : List CanonItem) × Loop NoCanon (CanonTurn config) least most 0 first b turns rest next → (last : Tree) → last ≡ grown next
+    → (turns : List CanonItem) × Loop NoCanon (CanonTurn config) config.loop_bits least most 0 first b turns rest next → (last : Tree) → last ≡ grown next
     → (turns : List CanonItem) × (next : Growing) × ReadsCanons config least t b turns rest next × (last ≡ grown next)
 all_read config least most t first next b rest e m (turns, l) last is = grind arith
 

@@ -112,7 +112,7 @@ module _ (config : Config) (s : Growing) where
         lowers = lowers;
         of = has;
         flattens = other;
-        reads = lifted_read short core signature (d ++ rest) flat said.0 said.1;
+        reads = lifted_read config short core signature (d ++ rest) flat said.0 said.1;
         lifts = to_equal (among_read nat_eq Decides-eqb ts t found.0 rest (omega (arith, many, length-places (is_of_signature signature) 0 sp.types)) found.1)
             refl;
       } in

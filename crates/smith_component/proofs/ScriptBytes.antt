@@ -79,20 +79,20 @@ small_imports config stack short few s (x ∷ is) f k o =
     let same = imports_scope config stack s in
     let formed : FormedRef (scope_in own) x.to = subst (λ d. FormedRef d x.to) (sym same) f.0.0 in (
       small_join (small_ref config own (totals_of (with_imports stack s)) true false (few_at config stack few s) x.to formed o.0)
-          (small_extern short (length (imports_of stack.inner) + length s) x.name k.0),
+          (small_extern config short (length (imports_of stack.inner) + length s) x.name k.0),
       small_imports config stack short few (s ++ x ∷ []) is f.1 k.1 (subst (OfferedImports is) (sym (imports_marked_more config stack s x)) o.2),
     )
 
 -- Exports.
 
-small_exports : {config : Config} → config.max_name_length < 2 ^ 64 → (t : Tree) (s xs : List ExportEntry) → FormedExports xs (spaces_of (with_exports t s))
+small_exports : (config : Config) → config.max_name_length < 2 ^ 64 → (t : Tree) (s xs : List ExportEntry) → FormedExports xs (spaces_of (with_exports t s))
     → AllByRecursion Kebab (export_names xs) → function_count t + (length (exports_of t) + (length s + length xs)) ≤ 2 ^ 64
     → Along (λ u x. Small (script_export config t u x)) (λ u x. u ++ x ∷ []) s xs
-small_exports short t s [] f k few = tt
-small_exports {config} short t s (x ∷ xs) f k few = (
+small_exports config short t s [] f k few = tt
+small_exports config short t s (x ∷ xs) f k few = (
   small_join (small_pick (length (functions_of (with_exports t s))) x.func (few_functions t s (omega (arith, few))) f.0)
       (small_new config.max_name_length (length (exports_of t) + length s) x.name (omega (arith, short)) k.0),
-  small_exports short t (s ++ x ∷ []) xs (subst (FormedExports xs) (sym (spaces_export t s x)) f.1) k.1
+  small_exports config short t (s ++ x ∷ []) xs (subst (FormedExports xs) (sym (spaces_export t s x)) f.1) k.1
       (omega (arith, few, length-append s (x ∷ []))),
 )
 
@@ -108,7 +108,7 @@ small_canon {config} short s (lift c t) (signature, lowered, f, is, lowers, has,
     let below : c < length s.core_functions = slice_get_within s.core_functions c f lowers in
     let said : Spoken config (function signature) = all_at (Spoken config) s.types t (function signature) spoken is in
     let type : Small (script_lift config s t (Some (function signature))) =
-    small_join (small_lifted short signature said.0.0)
+    small_join (small_lifted config short signature said.0.0)
     (small_place (is_of_signature signature) s.types t (function signature) many is ((same_signature_Decides signature signature).1 refl)) in
     small_join (small_canon_item s (canon_item_of (lift c t))) (small_join (small_pick (length s.core_functions) c (omega (arith, few)) below)
     (subst (λ o. Small (script_lift config s t o)) (sym is) type))
@@ -234,7 +234,7 @@ module _ (config : Config) (consistent : IsConsistent config) (outer : List Tree
       let start : FormedExports es (spaces_of (with_exports before [])) =
       subst (FormedExports es) (sym (spaces-add before (exports []))) said.known.formed.0.0 in
       small_loop (script_export config before) (λ u x. u ++ x ∷ []) 0 (config.max_exports - length (exports_of before)) 0 [] es
-      (small_exports (omega (arith, consistent.names)) before [] es start behind.0 (omega (arith, most, front.functions, consistent.funcs)))
+      (small_exports config (omega (arith, consistent.names)) before [] es start behind.0 (omega (arith, most, front.functions, consistent.funcs)))
 
 -- The text determines the module that it is of.
 small_module : (config : Config) → IsConsistent config → (text : List ℕ) → (s : StandIn) × IsStandIn config s × (stand_in_text s ≡ Some text)

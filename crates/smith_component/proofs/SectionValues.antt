@@ -62,21 +62,21 @@ outer_popped old new x e = ap trees_of e ∙ outer_push new x
 -- What is read of types and core types is read of what they show.
 
 pub types_shown : (config : Config) (outer : List Marked) {min max : ℕ} {own next : Marked} {b rest : List ℕ} {ts : List (Rc DefType Global)}
-    → Loop Never (ReadsTypeValue config outer) min max 0 own b ts rest next → ReadsTypes config outer min max own b (map shown_shared ts) rest next
+    → Loop Never (ReadsTypeValue config outer) config.loop_bits min max 0 own b ts rest next → ReadsTypes config outer min max own b (map shown_shared ts) rest next
 types_shown config outer {own = own} {next = next} {b = b} {rest = rest} {ts = ts} r =
     loop_map shown_shared (λ s c t q u (left, made, e). (record { full = full_type t.value; left = left; made = made; shown = refl }, e)) 0 own b ts rest next r
 
 pub core_types_shown : (config : Config) {max : ℕ} {own next : Marked} {b rest : List ℕ} {ts : List (Rc CoreType Global)}
-    → Loop Never (ReadsCoreTypeValue config) 0 max 0 own b ts rest next → ReadsCoreTypes config max own b (map shown_shared_core ts) rest next
+    → Loop Never (ReadsCoreTypeValue config) config.loop_bits 0 max 0 own b ts rest next → ReadsCoreTypes config max own b (map shown_shared_core ts) rest next
 core_types_shown config {own = own} {next = next} {b = b} {rest = rest} {ts = ts} r =
     loop_map shown_shared_core (λ s c t q u (reads, kept). reads) 0 own b ts rest next r
 
 -- the same entries when the scopes and the room are known by equations
 pub entries_where : {A : Type 0} (R : List Marked → Marked → List ℕ → A → List ℕ → Marked → Type 0) (scopes outer : List Marked) (own : Marked) (max room : ℕ)
-    {min : ℕ} {next : Marked} {b rest : List ℕ} {xs : List A}
-    → scopes ≡ own ∷ outer → max ≡ room → Loop Never (R (drop 1 scopes)) min max 0 (first_marked scopes) b xs rest next
-    → Loop Never (R outer) min room 0 own b xs rest next
-entries_where R scopes outer own max room {min} {next} {b} {rest} {xs} e m r = grind arith
+    {bits min : ℕ} {next : Marked} {b rest : List ℕ} {xs : List A}
+    → scopes ≡ own ∷ outer → max ≡ room → Loop Never (R (drop 1 scopes)) bits min max 0 (first_marked scopes) b xs rest next
+    → Loop Never (R outer) bits min room 0 own b xs rest next
+entries_where R scopes outer own max room {bits} {min} {next} {b} {rest} {xs} e m r = grind arith
 
 -- The names of a component's imports.
 
@@ -123,9 +123,9 @@ module _ (config : Config) (stack : Open) (before : List NamedExtern) (are : nam
       → ReadsImport config stack (map import_shown s) b (import_shown x) rest (map import_shown t)
   import_is_shown s b x rest t i = grind (arith, names_behind, map-append)
 
-  pub imports_shown : {min max : ℕ} (done : ℕ) (s : List Import) (b : List ℕ) (xs : List Import) (rest : List ℕ) (t : List Import)
-      → Loop (NoImportValue config stack) (ReadsImportValue config stack before) min max done s b xs rest t
-      → Loop (NoImport config stack) (ReadsImport config stack) min max done (map import_shown s) b (map import_shown xs) rest (map import_shown t)
+  pub imports_shown : {bits min max : ℕ} (done : ℕ) (s : List Import) (b : List ℕ) (xs : List Import) (rest : List ℕ) (t : List Import)
+      → Loop (NoImportValue config stack) (ReadsImportValue config stack before) bits min max done s b xs rest t
+      → Loop (NoImport config stack) (ReadsImport config stack) bits min max done (map import_shown s) b (map import_shown xs) rest (map import_shown t)
   imports_shown done s b xs rest t (no_more m e) = no_more m (ap (map import_shown) e)
   imports_shown done s b xs rest t (by_itself m e) = by_itself m (e.0, e.1, ap (map import_shown) e.2)
   imports_shown done s b xs rest u (an_item {t = t} {mid = mid} {after = after} {x = x} {xs = ys} m i l) =

@@ -102,8 +102,8 @@ module _ (config : Config) where
       let f : x.f ≡ y.f = cc in
       let l : x.lowered ≡ y.lowered = signature_same (subst (λ z. HasSignature (spaces_at s) z x.lowered) f x.of) y.of in
       let k : x.core ≡ y.core = flattens_same (subst (λ z. Flattens z x.core) l x.flattens) y.flattens in
-      let R : Function → Type 0 = λ z. ReadsLiftedType z x.mid x.signature x.low in
-      let M : List ℕ → Type 0 = λ z. ReadsLiftedType y.core z x.signature x.low in
+      let R : Function → Type 0 = λ z. ReadsLiftedType config.max_name_length z x.mid x.signature x.low in
+      let M : List ℕ → Type 0 = λ z. ReadsLiftedType config.max_name_length y.core z x.signature x.low in
       let g = lifted_same (subst M c.1 (subst R k x.reads)) y.reads in
       let C : ℕ → Type 0 = λ z. LiftsTo config s z x.signature x.low r t in
       let S : Signature → Type 0 = λ z. LiftsTo config s y.c z x.low r t in

@@ -15,4 +15,4 @@ mod words;
 
 pub use error::PrintError;
 pub use parts::print;
-pub use spaces::IndexSpaces;
+pub use spaces::{IndexSpaces, next};

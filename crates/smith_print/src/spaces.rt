@@ -20,7 +20,7 @@ pub struct IndexSpaces {
 
 impl IndexSpaces {
     /// Spaces without entries.
-    pub(crate) fn new() -> IndexSpaces
+    pub fn new() -> IndexSpaces
         ensures { result ≡ nothing }
     {
         IndexSpaces {
@@ -37,7 +37,7 @@ impl IndexSpaces {
 }
 
 /// The index of the next entry of a space, which is then one longer.
-pub(crate) fn next(space: &mut usize) -> Result<usize, AllocError>
+pub fn next(space: &mut usize) -> Result<usize, AllocError>
     ensures index { IfOk result (λ n. n ≡ space.old) }
     ensures longer { IfOk result (λ _. space.new ≡ space.old + 1) }
 {

@@ -75,8 +75,10 @@ pub fn defaults(alloc: Global) -> Result<String, AllocError> {
     let sets_each = table.len() == KEYS.len();
     let are_defaults = limits_of(alloc, &table) == Ok(Config::default());
     let are_fuzz = limits_of_text(alloc, FUZZ_LIMITS) == Ok(fuzz_limits());
-    format!(in alloc; "= sets each limit: {sets_each}, all of them the defaults: {are_defaults}\n\
-        = sets those of the profile: {are_fuzz}\n")
+    format!(in alloc;
+        "= sets each limit: {sets_each}, all of them the defaults: {are_defaults}\n\
+        = sets those of the profile: {are_fuzz}\n"
+    )
 }
 
 /// What is returned for writing a component of one core module that has no bytes, and so no preamble.

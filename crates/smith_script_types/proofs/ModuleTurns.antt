@@ -18,7 +18,7 @@ use Rattle.smith_syntax.specs.ModuleTypes.{adds, after_front, entities_in, entit
 use Rattle.smith_syntax.specs.Scope.{Scope}
 use Rattle.smith_read.specs.Nodes.{shown_module_node}
 use Rattle.smith_read.specs.declared.core_types.ModuleNode.{ModuleNode}
-use Rattle.smith_types.proofs.FrontFound.{fronted, whole_front}
+use Rattle.smith_tree.proofs.FrontFound.{fronted, whole_front}
 use Rattle.smith_tree.specs.ModuleScript.{front_before, in_front, script_asked, script_decl, script_entity, script_item, script_line}
 use Rattle.smith_tree.specs.declared.choices.ModuleItem.TheVariants as item
 use Rattle.smith_tree.specs.CoreTypeOffers.{Declared, undeclared, with_decl, with_front}

@@ -17,6 +17,7 @@ mod module_fronts;
 mod modules;
 mod names;
 mod place;
+mod placing;
 mod positions;
 mod references;
 mod tables;

@@ -1,8 +1,6 @@
 //! Where a type is.
 
-ghost use Rattle.std.specs.Prelude.{◌≡◌, ◌≤◌};
-ghost use Rattle.smith_scopes.specs.NodeScopes.{outer_marked_in, own_in, own_marked_in};
-ghost use Rattle.smith_script_types.specs.Places.{outer_at, own_at, plain_at};
+ghost use Rattle.std.specs.Prelude.{◌≤◌};
 
 use smith_format::Config;
 use smith_scopes::NodeScopes;
@@ -23,20 +21,4 @@ pub struct Place<'s, 'a> {
     pub config: &'s Config,
     pub scopes: &'s NodeScopes<'a>,
     ghost names: { config.now.max_name_length ≤ 100 },
-}
-
-impl<'s> Given<'s> {
-    /// A place in these scopes.
-    pub fn place<'a>(self, scopes: &'s NodeScopes<'a>) -> Place<'s, 'a>
-        ensures config { result.config.now ≡ self.entry.config.now }
-        ensures own { own_at result ≡ own_marked_in scopes.now }
-        ensures outer { outer_at result ≡ outer_marked_in scopes.now }
-        ensures plain { plain_at result ≡ own_in scopes.now }
-    {
-        Place {
-            alloc: self.alloc,
-            config: self.config,
-            scopes,
-        }
-    }
 }

@@ -1,5 +1,7 @@
 //! The counts.
 
+use crate::combination::Combination;
+use crate::combining::combinations;
 use smith_read::{ComponentTree, Steps};
 use std::alloc::{AllocError, Global};
 use std::collections::BTreeMap;
@@ -7,6 +9,15 @@ use std::fmt;
 
 /// How many things there are of each sort.
 type Counts = BTreeMap<&'static str, usize>;
+
+// Where a combination is.
+#[derive(Clone, Copy)]
+struct Reached {
+    // How many files have it.
+    files: usize,
+    // The number of the first one, from 0.
+    first: usize,
+}
 
 /// How much there is in the components of files.
 #[derive(Drop)]
@@ -21,6 +32,7 @@ pub struct Tally {
     pub(crate) types: Counts,
     // The things, by what they are in.
     within: BTreeMap<&'static str, Counts>,
+    reached: BTreeMap<Combination, Reached>,
 }
 
 pub(crate) fn increase(count: &mut usize, by: usize) {
@@ -40,6 +52,7 @@ impl Tally {
             entries: 0,
             types: BTreeMap::new(alloc),
             within: BTreeMap::new(alloc),
+            reached: BTreeMap::new(alloc),
         }
     }
 
@@ -50,9 +63,21 @@ impl Tally {
 
     /// Adds a file of that many bytes, and all that is in its component.
     pub fn add(&mut self, bytes: usize, component: &ComponentTree) -> Result<(), AllocError> {
+        self.add_combinations(component)?;
         increase(&mut self.files, 1);
         increase(&mut self.bytes, bytes);
         self.add_steps(Steps::new(self.alloc, component))
+    }
+
+    // Adds the combinations of the file whose number is that of the files so far.
+    fn add_combinations(&mut self, component: &ComponentTree) -> Result<(), AllocError> {
+        let first = self.files.saturating_add(self.unread);
+        for combination in &combinations(self.alloc, component)? {
+            let none = Reached { files: 0, first };
+            let reached = self.reached.entry(*combination)?.or_insert(none);
+            increase(&mut reached.files, 1);
+        }
+        Ok(())
     }
 
     /// Adds that many things of that sort.
@@ -87,7 +112,7 @@ impl Tally {
     }
 
     // The counts that are not by sort, with their names.
-    fn totals(&self) -> [(&'static str, usize); 7] {
+    fn totals(&self) -> [(&'static str, usize); 8] {
         [
             ("files", self.files),
             ("unread", self.unread),
@@ -96,6 +121,7 @@ impl Tally {
             ("depth", self.depth),
             ("entries", self.entries),
             ("shapes", self.shapes()),
+            ("combinations", self.reached.len()),
         ]
     }
 }
@@ -118,6 +144,38 @@ impl fmt::Display for Tally {
         for (within, counts) in &self.within {
             writeln!(f, "in {within}")?;
             show_counts(f, counts)?;
+        }
+        Ok(())
+    }
+}
+
+/// The combinations, each with the number of files that have it and the name of the first of them.
+#[derive(Clone, Copy)]
+pub struct Listed<'a> {
+    pub tally: &'a Tally,
+    /// The names of the files, in the order in which they were added.
+    pub names: &'a [String],
+}
+
+impl fmt::Display for Listed<'_> {
+    fn fmt<W: fmt::Write>(&self, f: &mut fmt::Formatter<W>) -> fmt::Result {
+        for (combination, reached) in &self.tally.reached {
+            let Combination {
+                within,
+                part,
+                sort,
+                origin,
+                chain,
+            } = *combination;
+            let files = reached.files;
+            let name = self
+                .names
+                .get(reached.first)
+                .map_or("", |name| name.as_str());
+            writeln!(
+                f,
+                "{files:>10}  {within:?} {part:?} {sort:?} {origin:?} {chain:?}  {name}"
+            )?;
         }
         Ok(())
     }

@@ -86,8 +86,8 @@ module _ (config : Config) (s : Declared) (few : length s.own ≤ 2 ^ 64) where
 
 -- Declarations.
 
-small_name : {config : Config} → config.max_name_length < 2 ^ 64 → (names : List (List ℕ)) (name : List ℕ) → IsReadableNewText config names name → Small (script_new_text config.max_name_length (length names) name)
-small_name {config} short names name (u, made) = small_new_text config.max_name_length names name (omega (arith, short)) (utf8_bytes name u) made
+small_name : (config : Config) → config.max_name_length < 2 ^ 64 → (names : List (List ℕ)) (name : List ℕ) → IsReadableNewText config names name → Small (script_new_text config.max_name_length (length names) name)
+small_name config short names name (u, made) = small_new_text config.max_name_length names name (omega (arith, short)) (utf8_bytes name u) made
 
 module _ (config : Config) (around : Scope) where
   small_item : (s : Declared) (i : ModuleItem) → Small (script_item config around s i)
@@ -99,10 +99,10 @@ module _ (config : Config) (around : Scope) where
   small_decl s (imports from name e) h =
       small_join (small_item s item.Import)
       (small_join (small_text config.max_name_length from (let short = h.names in omega (arith, short)) h.text.0.0 h.text.0.1)
-      (small_join (small_name h.names (names_from from s.decls) name h.text.1) (small_entity config s (let few = h.few in omega (arith, few)) e h.formed)))
+      (small_join (small_name config h.names (names_from from s.decls) name h.text.1) (small_entity config s (let few = h.few in omega (arith, few)) e h.formed)))
   small_decl s (exports name e) h =
       small_join (small_item s item.Export)
-      (small_join (small_name h.names (module_export_names s.decls) name h.text) (small_entity config s (let few = h.few in omega (arith, few)) e h.formed))
+      (small_join (small_name config h.names (module_export_names s.decls) name h.text) (small_entity config s (let few = h.few in omega (arith, few)) e h.formed))
   small_decl s (declares f) h = small_join (small_item s item.Type) (small_function config f)
   small_decl s (aliases count i) h =
       let cs : List (ℕ × ℕ) = alias_choices around s in

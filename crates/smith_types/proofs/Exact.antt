@@ -1,6 +1,6 @@
 -- Which types are read: exactly the types that are well formed, of what was offered and within the limits, whose names
 -- can be read, for which there is fuel, and that nest.
-use Rattle.std.proofs.Common.{ℕ, zero, suc, ◌+◌, ◌-◌, ◌≤◌, List, [], ◌∷◌, ◌++◌, length, arith, subst, sym}
+use Rattle.std.proofs.Common.{ℕ, zero, suc, ◌+◌, ◌-◌, ◌≤◌, ◌<◌, ◌^◌, List, [], ◌∷◌, ◌++◌, length, arith, subst, sym}
 use Rattle.std.specs.Prelude.{max, ◌↔◌}
 use Rattle.smith_input.specs.Script.{AreBytes}
 use Rattle.smith_input.proofs.Utf8Bytes.{joined_bytes}

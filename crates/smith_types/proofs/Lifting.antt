@@ -172,7 +172,7 @@ params_same {max} {names = names} {r = r} (a_param {v = v} {vs = vs} {mid = mid}
     let s = new_unique n m in
     let t = among_same (subst (λ z. ReadsAmong (lifted v) z p low) s.1 c) e in
     let M : List (List ℕ) → Type 0 = λ z. ReadsParams max z vs low fs r in
-    let L : List ℕ → Type 0 = λ z. ReadsParams (names ++ d ∷ []) vs z fs r in
+    let L : List ℕ → Type 0 = λ z. ReadsParams max (names ++ d ∷ []) vs z fs r in
     let u = params_same (subst L t.1 (subst M (ap (λ z. names ++ z ∷ []) s.0) more)) rest in
     ((λ i. (s.0 i, Primitive (t.0 i)) ∷ u.0 i), u.1)
 

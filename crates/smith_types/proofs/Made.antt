@@ -61,7 +61,7 @@ maybe_is own b v rest (absent f) = (tt, tt)
 maybe_is own b v rest (present {mid = mid} {v = w} f r) = let p = val_is own mid w rest r in (p.0, (p.1, tt))
 
 -- What holds of a defined type that is made.
-pub record DefinedFits (own : Marked) (b : List ℕ) (fuel : ℕ) (t : DefValType) (rest : List ℕ) (left : ℕ) : Type 0 where
+pub record DefinedFits (config : Config) (own : Marked) (b : List ℕ) (fuel : ℕ) (t : DefValType) (rest : List ℕ) (left : ℕ) : Type 0 where
   pub tail : IsTail rest b
   pub is : IsDefined own t
   pub readable : IsReadableDefined config t
@@ -71,8 +71,8 @@ pub record DefinedFits (own : Marked) (b : List ℕ) (fuel : ℕ) (t : DefValTyp
 module _ {config : Config} {own : Marked} {b : List ℕ} {fuel : ℕ} {t : DefValType} {rest : List ℕ} {left : ℕ} where
   -- a type without members
   plain_fits : (u : DefValType) → t ≡ u → IsTail rest b → IsDefined own u → IsReadableDefined config u → defined_size u ≡ 0 → left ≡ fuel
-      → DefinedFits own b fuel t rest left
-  plain_fits u same tail is readable none l = subst (λ z. DefinedFits own b fuel z rest left) (sym same) (record {
+      → DefinedFits config own b fuel t rest left
+  plain_fits u same tail is readable none l = subst (λ z. DefinedFits config own b fuel z rest left) (sym same) (record {
     tail = tail;
     is = is;
     readable = readable;
@@ -84,17 +84,17 @@ module _ {config : Config} {own : Marked} {b : List ℕ} {fuel : ℕ} {t : DefVa
   members_fit : {A : Type 0} {Member : List A → List ℕ → A → List ℕ → Type 0} {max : ℕ} (of : List A → DefValType)
       → ((xs : List A) → defined_size (of xs) ≡ length xs) → ((so_far : List A) (c : List ℕ) (x : A) (r : List ℕ) → Member so_far c x r → IsTail r c)
       → ((xs : List A) → ReadsMembers config Member 1 max b fuel xs rest left → 1 ≤ length xs → IsDefined own (of xs) × IsReadableDefined config (of xs))
-      → MadeMembers config Member max of b fuel t rest left → DefinedFits own b fuel t rest left
-  members_fit {A} {Member} {max} of size one is (xs, r, same) = subst (λ z. DefinedFits own b fuel z rest left) (sym same) (by xs r)
+      → MadeMembers config Member max of b fuel t rest left → DefinedFits config own b fuel t rest left
+  members_fit {A} {Member} {max} of size one is (xs, r, same) = subst (λ z. DefinedFits config own b fuel z rest left) (sym same) (by xs r)
     where
-      by : (xs : List A) → ReadsMembers config Member 1 max b fuel xs rest left → DefinedFits own b fuel (or_bool of xs) rest left
-      by [] r = record { tail = members_tail r one; is = (tt, tt); readable = tt; within = (members_take r).0; uses = omega arith }
+      by : (xs : List A) → ReadsMembers config Member 1 max b fuel xs rest left → DefinedFits config own b fuel (or_bool of xs) rest left
+      by [] r = record { tail = members_tail config r one; is = (tt, tt); readable = tt; within = (members_take config r).0; uses = omega arith }
       by (x ∷ xs) r =
           let here = is (x ∷ xs) r (omega arith) in
           let long = size (x ∷ xs) in
-          let takes = members_take r in
+          let takes = members_take config r in
           record {
-            tail = members_tail r one;
+            tail = members_tail config r one;
             is = here.0;
             readable = here.1;
             within = omega (arith, long, takes.0);
@@ -103,23 +103,23 @@ module _ {config : Config} {own : Marked} {b : List ℕ} {fuel : ℕ} {t : DefVa
 
   labels_fit : {max : ℕ} (of : List (List ℕ) → DefValType) → ((xs : List (List ℕ)) → defined_size (of xs) ≡ length xs)
       → ((xs : List (List ℕ)) → Named xs × AreReadableNames config xs → 1 ≤ length xs → length xs ≤ max → IsDefined own (of xs) × IsReadableDefined config (of xs))
-      → MadeMembers config (ReadsNew config.max_name_length) max of b fuel t rest left → DefinedFits own b fuel t rest left
-  labels_fit of size is m = members_fit of size (λ so_far c x r h. new_tail h) (λ xs r some. is xs (labels_named r) some (members_few r)) m
+      → MadeMembers config (ReadsNew config.max_name_length) max of b fuel t rest left → DefinedFits config own b fuel t rest left
+  labels_fit of size is m = members_fit of size (λ so_far c x r h. new_tail h) (λ xs r some. is xs (labels_named config r) some (members_few config r)) m
 
-  as_fits : (k : DefinedKind) → MadeAs config own k b fuel t rest left → DefinedFits own b fuel t rest left
+  as_fits : (k : DefinedKind) → MadeAs config own k b fuel t rest left → DefinedFits config own b fuel t rest left
   as_fits kind.Primitive (p, r, i, j) = plain_fits (primitive_type p) i (among_tail r) (tt, tt) tt refl j
   as_fits kind.Record m = members_fit record_type (λ xs. refl) (named_tail (val_tail own)) (λ xs r some.
-      let all = members_all r (λ f. IsValue own f.1) (λ so_far c x d h. val_is own h.mid x.1 d h.after) in
-      let names = members_named r (λ f. f.0) named_name in
-      (((names.0, fields_formed own xs all, some, members_few r), fields_offered own xs all), names.1)) m
+      let all = members_all config r (λ f. IsValue own f.1) (λ so_far c x d h. val_is own h.mid x.1 d h.after) in
+      let names = members_named config r (λ f. f.0) named_name in
+      (((names.0, fields_formed own xs all, some, members_few config r), fields_offered own xs all), names.1)) m
   as_fits kind.Variant m = members_fit variant_type (λ xs. refl) (named_tail (maybe_tail own)) (λ xs r some.
-      let all = members_all r (λ c. IsMaybe own c.1) (λ so_far c x d h. maybe_is own h.mid x.1 d h.after) in
-      let names = members_named r (λ c. c.0) named_name in
-      (((names.0, cases_formed own xs all, some, members_few r), cases_offered own xs all), names.1)) m
+      let all = members_all config r (λ c. IsMaybe own c.1) (λ so_far c x d h. maybe_is own h.mid x.1 d h.after) in
+      let names = members_named config r (λ c. c.0) named_name in
+      (((names.0, cases_formed own xs all, some, members_few config r), cases_offered own xs all), names.1)) m
   as_fits kind.List (v, r, i, j) = let p = val_is own b v rest r in plain_fits (list_type v) i (val_tail own b v rest r) (p.0, (p.1, tt)) tt refl j
   as_fits kind.Tuple m = members_fit tuple_type (λ xs. refl) (λ so_far. val_tail own) (λ xs r some.
-      let all = members_all r (IsValue own) (λ so_far c x d h. val_is own c x d h) in
-      (((values_formed own xs all, some, members_few r), values_offered own xs all), tt)) m
+      let all = members_all config r (IsValue own) (λ so_far c x d h. val_is own c x d h) in
+      (((values_formed own xs all, some, members_few config r), values_offered own xs all), tt)) m
   as_fits kind.Flags m = labels_fit flags_type (λ xs. refl) (λ xs names some few. (((names.0, some, few), tt), names.1)) m
   as_fits kind.Enum m = labels_fit enum_type (λ xs. refl) (λ xs names some few. (((names.0, some, few), tt), names.1)) m
   as_fits kind.Option (v, r, i, j) = let p = val_is own b v rest r in plain_fits (option_type v) i (val_tail own b v rest r) (p.0, (p.1, tt)) tt refl j
@@ -130,13 +130,13 @@ module _ {config : Config} {own : Marked} {b : List ℕ} {fuel : ℕ} {t : DefVa
       ((p.0, q.0), all_both (OfferedValue own) (option_to_list ok) (option_to_list err) p.1 q.1) tt refl j
 
 pub defined_fits : {config : Config} {own : Marked} {b : List ℕ} {fuel : ℕ} {t : DefValType} {rest : List ℕ} {left : ℕ} → MadeDefined config own b fuel t rest left
-    → DefinedFits own b fuel t rest left
+    → DefinedFits config own b fuel t rest left
 defined_fits d =
     let f = as_fits d.kind d.made in
     record { tail = tail_trans f.tail (among_tail d.choice); is = f.is; readable = f.readable; within = f.within; uses = f.uses }
 
 -- What holds of a function type that is made.
-pub record FunctionFits (own : Marked) (b : List ℕ) (fuel : ℕ) (s : Signature) (rest : List ℕ) (left : ℕ) : Type 0 where
+pub record FunctionFits (config : Config) (own : Marked) (b : List ℕ) (fuel : ℕ) (s : Signature) (rest : List ℕ) (left : ℕ) : Type 0 where
   pub tail : IsTail rest b
   pub is : (outer : List Marked) → IsType (function s) own outer
   pub readable : AreReadableNames config (map (λ p. p.0) s.params)
@@ -149,20 +149,20 @@ both_used (suc n) zero fuel held some h k l = omega (arith, h)
 both_used n (suc r) fuel held some h k l = omega (arith, k, l)
 
 pub function_fits : {config : Config} {own : Marked} {b : List ℕ} {fuel : ℕ} {s : Signature} {rest : List ℕ} {left : ℕ} → MadeFunction config own b fuel s rest left
-    → FunctionFits own b fuel s rest left
-function_fits {own} {fuel = fuel} {s = s} f =
-    let params = members_all f.takes (λ p. IsValue own p.1) (λ so_far c x d h. val_is own h.mid x.1 d h.after) in
-    let result = members_all f.gives (IsValue own) (λ so_far c x d h. val_is own c x d h) in
-    let names = members_named f.takes (λ p. p.0) named_name in
-    let first = members_take f.takes in
-    let second = members_take f.gives in
+    → FunctionFits config own b fuel s rest left
+function_fits {config} {own} {fuel = fuel} {s = s} f =
+    let params = members_all config f.takes (λ p. IsValue own p.1) (λ so_far c x d h. val_is own h.mid x.1 d h.after) in
+    let result = members_all config f.gives (IsValue own) (λ so_far c x d h. val_is own c x d h) in
+    let names = members_named config f.takes (λ p. p.0) named_name in
+    let first = members_take config f.takes in
+    let second = members_take config f.gives in
     record {
-      tail = tail_trans (members_tail f.gives (λ so_far. val_tail own)) (members_tail f.takes (named_tail (val_tail own)));
+      tail = tail_trans (members_tail config f.gives (λ so_far. val_tail own)) (members_tail config f.takes (named_tail (val_tail own)));
       is = λ outer. (
         (
           names.0,
           fields_formed own s.params params,
-          members_few f.takes,
+          members_few config f.takes,
           one_formed own s.result (values_formed own (option_to_list s.result) result),
         ),
         all_both (OfferedValue own) (map (λ p. p.1) s.params) (option_to_list s.result) (fields_offered own s.params params)
@@ -205,28 +205,28 @@ maybe_same own b v w r s (present {v = x} f y) (present {mid = m} {v = z} g t) =
     (ap Some u.0, u.1)
 
 -- members of a type, by what each reads
-made_members_same : {config : Config} {A : Type 0} {Member : List A → List ℕ → A → List ℕ → Type 0} {max : ℕ}
+made_members_same : (config : Config) {A : Type 0} {Member : List A → List ℕ → A → List ℕ → Type 0} {max : ℕ}
     (one : (so_far : List A) (b : List ℕ) (x y : A) (r s : List ℕ) → Member so_far b x r → Member so_far b y s → (x ≡ y) × (r ≡ s)) (of : List A → DefValType)
     (b : List ℕ) (fuel : ℕ) (d e : DefValType) (r s : List ℕ) (f g : ℕ)
     → MadeMembers config Member max of b fuel d r f → MadeMembers config Member max of b fuel e s g → Same d e r s f g
-made_members_same one of b fuel d e r s f g (xs, x, i) (ys, y, k) =
-    let u = members_same one x y in
+made_members_same config one of b fuel d e r s f g (xs, x, i) (ys, y, k) =
+    let u = members_same config one x y in
     record { value = i ∙ (ap (or_bool of) u.value ∙ sym k); rest = u.rest; left = u.left }
 
-as_same : {config : Config} → (own : Marked) (k : DefinedKind) (b : List ℕ) (fuel : ℕ) (d e : DefValType) (r s : List ℕ) (f g : ℕ) → MadeAs config own k b fuel d r f
+as_same : (config : Config) → (own : Marked) (k : DefinedKind) (b : List ℕ) (fuel : ℕ) (d e : DefValType) (r s : List ℕ) (f g : ℕ) → MadeAs config own k b fuel d r f
     → MadeAs config own k b fuel e s g → Same d e r s f g
-as_same own kind.Primitive b fuel d e r s f g (p, x, i, j) (q, y, k, l) = let u = among_same x y in
+as_same config own kind.Primitive b fuel d e r s f g (p, x, i, j) (q, y, k, l) = let u = among_same x y in
     record { value = i ∙ (ap primitive_type u.0 ∙ sym k); rest = u.1; left = j ∙ sym l }
-as_same own kind.Record b fuel d e r s f g x y = made_members_same (named_same (val_same own)) record_type b fuel d e r s f g x y
-as_same own kind.Variant b fuel d e r s f g x y = made_members_same (named_same (maybe_same own)) variant_type b fuel d e r s f g x y
-as_same own kind.List b fuel d e r s f g (v, x, i, j) (w, y, k, l) = let u = val_same own b v w r s x y in
+as_same config own kind.Record b fuel d e r s f g x y = made_members_same config (named_same (val_same own)) record_type b fuel d e r s f g x y
+as_same config own kind.Variant b fuel d e r s f g x y = made_members_same config (named_same (maybe_same own)) variant_type b fuel d e r s f g x y
+as_same config own kind.List b fuel d e r s f g (v, x, i, j) (w, y, k, l) = let u = val_same own b v w r s x y in
     record { value = i ∙ (ap list_type u.0 ∙ sym k); rest = u.1; left = j ∙ sym l }
-as_same own kind.Tuple b fuel d e r s f g x y = made_members_same (λ so_far. val_same own) tuple_type b fuel d e r s f g x y
-as_same own kind.Flags b fuel d e r s f g x y = made_members_same (λ so_far c n m p q h i. new_unique h i) flags_type b fuel d e r s f g x y
-as_same own kind.Enum b fuel d e r s f g x y = made_members_same (λ so_far c n m p q h i. new_unique h i) enum_type b fuel d e r s f g x y
-as_same own kind.Option b fuel d e r s f g (v, x, i, j) (w, y, k, l) = let u = val_same own b v w r s x y in
+as_same config own kind.Tuple b fuel d e r s f g x y = made_members_same config (λ so_far. val_same own) tuple_type b fuel d e r s f g x y
+as_same config own kind.Flags b fuel d e r s f g x y = made_members_same config (λ so_far c n m p q h i. new_unique h i) flags_type b fuel d e r s f g x y
+as_same config own kind.Enum b fuel d e r s f g x y = made_members_same config (λ so_far c n m p q h i. new_unique h i) enum_type b fuel d e r s f g x y
+as_same config own kind.Option b fuel d e r s f g (v, x, i, j) (w, y, k, l) = let u = val_same own b v w r s x y in
     record { value = i ∙ (ap option_type u.0 ∙ sym k); rest = u.1; left = j ∙ sym l }
-as_same own kind.Result b fuel d e r s f g (ok, mid, x, err, z, i, j) (ko, low, y, rre, t, k, l) =
+as_same config own kind.Result b fuel d e r s f g (ok, mid, x, err, z, i, j) (ko, low, y, rre, t, k, l) =
     let u = maybe_same own b ok ko mid low x y in
     let P : List ℕ → Type 0 = λ c. ReadsMaybe own c err r in
     let w = maybe_same own low err rre r s (subst P u.1 z) t in
@@ -238,7 +238,7 @@ defined_same {config} {own} {b} {fuel} {t} {u} {r} {s} {f} {g} x y =
     let c = among_same x.choice y.choice in
     let P : DefinedKind → Type 0 = λ z. MadeAs config own z x.mid fuel t r f in
     let Q : List ℕ → Type 0 = λ z. MadeAs config own y.kind z fuel t r f in
-    as_same own y.kind y.mid fuel t u r s f g (subst Q c.1 (subst P c.0 x.made)) y.made
+    as_same config own y.kind y.mid fuel t u r s f g (subst Q c.1 (subst P c.0 x.made)) y.made
 
 one_same : (v w : Option ComponentValType) → option_to_list v ≡ option_to_list w → v ≡ w
 one_same None None e = refl
@@ -249,9 +249,9 @@ one_same (Some x) (Some y) e = let z : x ≡ y = cc in ap Some z
 pub function_same : {config : Config} {own : Marked} {b : List ℕ} {fuel : ℕ} {c d : Signature} {r s : List ℕ} {f g : ℕ} → MadeFunction config own b fuel c r f
     → MadeFunction config own b fuel d s g → Same c d r s f g
 function_same {config} {own} {c = c} {d = d} {r = r} {f = f} x y =
-    let u = members_same (named_same (val_same own)) x.takes y.takes in
+    let u = members_same config (named_same (val_same own)) x.takes y.takes in
     let P : List ℕ → Type 0 = λ z. ReadsResult config own z x.held c.result r f in
     let Q : ℕ → Type 0 = λ z. ReadsResult config own y.mid z c.result r f in
-    let w = members_same (λ so_far. val_same own) (subst Q u.left (subst P u.rest x.gives)) y.gives in
+    let w = members_same config (λ so_far. val_same own) (subst Q u.left (subst P u.rest x.gives)) y.gives in
     let v = one_same c.result d.result w.value in
     record { value = λ i. record { params = u.value i; result = v i }; rest = w.rest; left = w.left }

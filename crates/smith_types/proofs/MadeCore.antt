@@ -32,7 +32,7 @@ use Rattle.smith_types.specs.MadeCore.{with_fuel, ReadsEntityOf, ReadsEntity, Re
 use Rattle.smith_types.specs.MadeCore.{no_export, ReadsLine, not_allowed, declined, taken, MemoryLine, ReadsFront, MadeModule, MadeCore, spent_core}
 use Rattle.smith_types.specs.MadeCore.{of_function, of_module}
 use Rattle.smith_tree.specs.CoreTypeOffers.{Declared, with_decl, indexes, kind_offers, entity_kinds, alias_choices, item_offers, module_items}
-use Rattle.smith_syntax.specs.ModuleTypes.{func_in, aliased, is_tag_type, count_of_kind}
+use Rattle.smith_syntax.specs.ModuleTypes.{after_front, func_in, aliased, is_tag_type, count_of_kind}
 use Rattle.smith_syntax.specs.Scope.{Scope}
 use Rattle.smith_syntax.specs.Places.{is_core_func, places}
 use Rattle.smith_tree.specs.CoreTypeScript.{script_core_type}
@@ -44,7 +44,8 @@ use Rattle.smith_types.proofs.ModuleFronts.{front_is, front_size}
 use Rattle.smith_types.proofs.ModuleTypes.{judged_names, limit_of, EntityFits, Within}
 use Rattle.smith_scope.proofs.Places.{place_stands, get_either, get_mapped}
 use Rattle.smith_tree.specs.CoreTypeNeeds.{core_cost, core_need}
-use Rattle.smith_tree.specs.ReadableCoreTypes.{AreReadableModuleDecls, IsReadableCore}
+use Rattle.smith_tree.proofs.FrontFound.{front_decls}
+use Rattle.smith_tree.specs.ReadableCoreTypes.{AreReadableModuleDecls, IsReadableCore, IsReadableModuleDecl}
 use Rattle.smith_types.proofs.ModuleHolds.{Holds, IsReadAfter, Stands, front_holds, holds_more, holds_none, new_readable, read_more, read_none}
 use Rattle.smith_types.proofs.ModuleHolds.{text_readable}
 use Rattle.smith_types.proofs.ReadableFronts.{behind_readable}
@@ -118,8 +119,8 @@ module _ (config : Config) (s : Declared) where
 
 -- declarations
 
-import_names_tail : {config : Config} → (s : Declared) {b from name rest : List ℕ} → ReadsImportNames config s b from name rest → IsTail rest b
-import_names_tail s (mid, r, n) = tail_trans (new_text_tail n) (text_tail r)
+import_names_tail : (config : Config) → (s : Declared) {b from name rest : List ℕ} → ReadsImportNames config s b from name rest → IsTail rest b
+import_names_tail config s (mid, r, n) = tail_trans (new_text_tail n) (text_tail r)
 
 func_named : (e : CoreEntry) → is_core_func e ≡ true → (f : Function) × (func_in (Some e) ≡ Some f)
 func_named (core_func f) t = (f, refl)
@@ -178,12 +179,12 @@ module _ (config : Config) (around : Scope) where
       → DeclLaws s b d rest
   decl_of s item.Import b d rest room (from, name, mid, (low, t, n), e, r, i) =
       let f = entity_laws config s r in
-      decl_as (imports from name e) i (tail_trans f.tail (import_names_tail s (low, t, n)))
-      (record { formed = f.formed; new = n.unique.is_new; fits = f.fits }) (text_readable t, new_readable n)
+      decl_as (imports from name e) i (tail_trans f.tail (import_names_tail config s (low, t, n)))
+      (record { formed = f.formed; new = n.unique.is_new; fits = f.fits }) (text_readable config t, new_readable config n)
   decl_of s item.Export b d rest room (name, mid, n, e, r, i) =
       let f = entity_laws config s r in
       decl_as (exports name e) i (tail_trans f.tail (new_text_tail n))
-      (record { formed = f.formed; new = n.unique.is_new; fits = f.fits }) (new_readable n)
+      (record { formed = f.formed; new = n.unique.is_new; fits = f.fits }) (new_readable config n)
   decl_of s item.Type b d rest room (f, r, i) =
       decl_as (declares f) i (function_tail r) (record { formed = tt; new = tt; fits = (function_formed r, room) }) tt
   decl_of s item.Alias b d rest room (a, r, i) =
@@ -197,7 +198,7 @@ module _ (config : Config) (around : Scope) where
 
   ends_tail : (s : Declared) (b rest : List ℕ) (t : Declared) → EndsModuleType config around s b rest t → IsTail rest b
   ends_tail s b rest t (no_fuel f e) = tail_same b
-  ends_tail s b rest t (no_import f c n none e) = tail_trans (import_names_tail s n) (among_tail c)
+  ends_tail s b rest t (no_import f c n none e) = tail_trans (import_names_tail config s n) (among_tail c)
   ends_tail s b rest t (no_export f c n none e) = tail_trans (new_text_tail n) (among_tail c)
 
 line_tail : {may : _} {Line : List ℕ → List ModuleDecl → List ℕ → Type 0}
@@ -282,7 +283,7 @@ module _ (config : Config) (around : Scope) where
       → ReadsDecl config around s b d rest t → IsHolding front (with_decl around.core_types s d)
   still_holding front s b d rest t (h, read) i =
       let laws = decl_laws config around s b d rest t i in
-      (holds_more config around.core_types s.own s.decls d h laws.stands, read_more front s.decls d read laws.readable)
+      (holds_more config around.core_types s.own s.decls d h laws.stands, read_more config front s.decls d read laws.readable)
 
   within_limits : (own : List Function) (ds : List ModuleDecl) → Within config own ds → core_size (core_module ds) ≤ 100 → ModuleLimits config ds
   within_limits own ds w most = record {
@@ -318,13 +319,13 @@ module _ (config : Config) (around : Scope) where
       let asked : List ModuleDecl = front_decls front.memory front.reallocs front.frees in
       let holding : IsHolding asked m.whole =
       module_keeps (IsHolding asked) (λ s n h. h) (still_holding asked) m
-      (subst (IsHolding asked) (sym front.state) (front_holds config around.core_types front, read_none asked asked refl)) in
+      (subst (IsHolding asked) (sym front.state) (front_holds config around.core_types front, read_none config asked asked refl)) in
       let holds : Holds config around.core_types m.whole.own ds = subst (Holds config around.core_types m.whole.own) (sym m.decls) holding.0 in
       let read : IsReadAfter config asked ds = subst (IsReadAfter config asked) (sym m.decls) holding.1 in
       record {
         formed = (holds.judged.formed, judged_names around.core_types m.whole.own ds holds.judged);
         limits = within_limits m.whole.own ds holds.within (omega (arith, after, few));
-        readable = behind_readable front.memory front.reallocs front.frees ds read;
+        readable = behind_readable config front.memory front.reallocs front.frees ds read;
         takes = record {
           within = omega (arith, after, grows.fuel, begun, m.fuel_left);
           enough = need_is ds (length m.more) m.front.fuel (fuel + 1) after grows.uses (omega (arith, begun, some)) (omega (arith, begun));

@@ -55,8 +55,8 @@ module _ (config : Config) (s : Declared) where
       let Q : List ℕ → Type 0 = λ z. ReadsEntityOf config s y.kind z d r in
       entity_of_same y.kind y.mid d e r q (subst Q c.1 (subst P c.0 x.is)) y.is
 
-import_names_same : {config : Config} → (s : Declared) (bytes m n a b r q : List ℕ) → ReadsImportNames config s bytes m a r → ReadsImportNames config s bytes n b q → (m ≡ n) × (a ≡ b) × (r ≡ q)
-import_names_same {config} s bytes m n a b r q (mid, t, x) (low, u, y) =
+import_names_same : (config : Config) → (s : Declared) (bytes m n a b r q : List ℕ) → ReadsImportNames config s bytes m a r → ReadsImportNames config s bytes n b q → (m ≡ n) × (a ≡ b) × (r ≡ q)
+import_names_same config s bytes m n a b r q (mid, t, x) (low, u, y) =
     let v = text_unique t u in
     let P : List ℕ → Type 0 = λ z. ReadsNewText config.max_name_length (names_from z s.decls) mid a r in
     let Q : List ℕ → Type 0 = λ z. ReadsNewText config.max_name_length (names_from n s.decls) z a r in
@@ -67,7 +67,7 @@ module _ (config : Config) (around : Scope) where
   decl_of_same : (s : Declared) (k : ModuleItem) (b : List ℕ) (d e : ModuleDecl) (r q : List ℕ) → ReadsDeclOf config around s k b d r
       → ReadsDeclOf config around s k b e q → (d ≡ e) × (r ≡ q)
   decl_of_same s item.Import b d e r q (from, name, mid, n, x, c, i) (fram, nome, low, o, y, a, j) =
-      let u = import_names_same s b from fram name nome mid low n o in
+      let u = import_names_same config s b from fram name nome mid low n o in
       let P : List ℕ → Type 0 = λ z. ReadsEntity config s z x r in
       let v = entity_same config s low x y r q (subst P u.2 c) a in
       (i ∙ (λ l. imports (u.0 l) (u.1 l) (v.0 l)) ∙ sym j, v.1)
@@ -114,7 +114,7 @@ module _ (config : Config) (around : Scope) where
   ends_same s b r q t u (no_import g c n none h) (no_fuel f e) = absurd (omega (arith, f, g))
   ends_same s b r q t u (no_import {mid = mid} {from = m} {name = x} f c n none e) (no_import {mid = low} {from = l} {name = y} g a o some h) =
       let P : List ℕ → Type 0 = λ z. ReadsImportNames config s z m x r in
-      ((import_names_same s low m l x y r q (subst P (among_same c a).1 n) o).2, e ∙ sym h)
+      ((import_names_same config s low m l x y r q (subst P (among_same c a).1 n) o).2, e ∙ sym h)
   ends_same s b r q t u (no_import f c n none e) (no_export g a o some h) = absurd (item_apart s c a)
   ends_same s b r q t u (no_export g c n none h) (no_fuel f e) = absurd (omega (arith, f, g))
   ends_same s b r q t u (no_export f c n none e) (no_import g a o some h) = absurd (item_apart s a c)
@@ -161,7 +161,7 @@ module_same : (config : Config) (around : Scope) (b : List ℕ) (fuel : ℕ) (ds
     → MadeModule config around b fuel ds r f → MadeModule config around b fuel es q g → Same ds es r q f g
 module_same config around b fuel ds es r q f g x y =
     let u = front_same config b fuel x.front y.front x.mid y.mid x.begins y.begins in
-    let P : Declared → List ℕ → Type 0 = λ s c. Loop (EndsModuleType config around) (ReadsDecl config around) 0 100 0 s c x.more r x.whole in
+    let P : Declared → List ℕ → Type 0 = λ s c. Loop (EndsModuleType config around) (ReadsDecl config around) config.loop_bits 0 100 0 s c x.more r x.whole in
     let v = loop_same (ends_same config around) (ends_apart config around) (decl_same config around) 0 y.front y.mid x.more y.more r q x.whole y.whole
     (subst (P y.front) u.1 (subst (λ s. P s x.mid) u.0 x.goes_on)) y.goes_on in
     record { value = x.decls ∙ (ap (λ s. s.decls) v.2 ∙ sym y.decls); rest = v.1; left = x.fuel_left ∙ (ap (λ s. s.fuel) v.2 ∙ sym y.fuel_left) }

@@ -85,7 +85,7 @@ turn_takes n c k m a l held left fuel lasts costs one later = record {
 abbrev pub NewNames : List (List ℕ) → List (List ℕ) → Type 0
 NewNames so_far more = AreNew so_far more × AllByRecursion Kebab more
 
-new_name : {config : Config} {so_far : List (List ℕ)} {b name rest : List ℕ} → ReadsNew config.max_name_length so_far b name rest → NewNames so_far (name ∷ [])
+new_name : {max : ℕ} {so_far : List (List ℕ)} {b name rest : List ℕ} → ReadsNew max so_far b name rest → NewNames so_far (name ∷ [])
 new_name r = ((r.unique.is_new, tt), (new_kebab r, tt))
 
 new_append : (before ns ms : List (List ℕ)) → AreNew before ns → AreNew (before ++ ns) ms → AreNew before (ns ++ ms)
@@ -142,7 +142,7 @@ module _ {config : Config} {own : Marked} {outer : List Marked} {b rest : List �
   fits_as : {e x : FullEntry} → e ≡ x → Fits config own outer b fuel x rest left → Fits config own outer b fuel e rest left
   fits_as same f = subst (λ z. Fits config own outer b fuel z rest left) (sym same) f
 
-  values_fit : {mid : List ℕ} {held : ℕ} {t : DefValType} → IsTail mid b → held ≤ fuel - 1 → DefinedFits own mid held t rest left
+  values_fit : {mid : List ℕ} {held : ℕ} {t : DefValType} → IsTail mid b → held ≤ fuel - 1 → DefinedFits config own mid held t rest left
       → Fits config own outer b fuel (defined t) rest left
   values_fit {held = held} {t = t} before le d = record {
     tail = tail_trans d.tail before;
@@ -153,7 +153,7 @@ module _ {config : Config} {own : Marked} {outer : List Marked} {b rest : List �
     nests = tt;
   }
 
-  function_fit : {mid : List ℕ} {s : Signature} → IsTail mid b → 0 < fuel - 1 → FunctionFits own mid (fuel - 1) s rest left
+  function_fit : {mid : List ℕ} {s : Signature} → IsTail mid b → 0 < fuel - 1 → FunctionFits config own mid (fuel - 1) s rest left
       → Fits config own outer b fuel (function s) rest left
   function_fit {s = s} before lasts f = record {
     tail = tail_trans f.tail before;
@@ -250,7 +250,7 @@ one_fits : {config : Config} {importing : Bool} {outer : List Marked} {done : �
     {ds : FullDecls} → IsTail mid b → done < 100 → 0 < fuel - 1 → DeclFits config importing outer s mid (fuel - 1) d low held
     → DeclsFit config importing outer (done + 1) (after_one outer s d) low held ds rest left
     → DeclsFit config importing outer done s b fuel (then_decls d ds) rest left
-one_fits {outer = outer} {done = done} {s = s} {fuel = fuel} {held = held} {left = left} {d = d} {ds = ds} before lt lasts one later =
+one_fits {config = config} {outer = outer} {done = done} {s = s} {fuel = fuel} {held = held} {left = left} {d = d} {ds = ds} before lt lasts one later =
     let e : Decl = plain_decl d in
     let es : Decls = plain_decls ds in
     let imports = sym (names_behind s.imports (import_of d) (import_of e) (import_plain d)) in

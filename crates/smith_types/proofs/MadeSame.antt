@@ -49,11 +49,11 @@ kind_told {config} {own} {outer} {b} {mid} {fuel} {e} {rest} {left} {k} lasts c 
     told (made_instance {ds = ds} f a d i) = by a (ds, d, i)
 
 -- what is declared, by the choice of it
-abbrev MadeItem : {config : Config} → Config → List Marked → SoFar → DeclarationItem → List ℕ → ℕ → FullDecl → List ℕ → ℕ → Type 0
-MadeItem {config} config outer s item.Export b fuel d rest left = ReadsExportDecl config s.own s.exports b d rest × (left ≡ fuel)
-MadeItem {config} config outer s item.Alias b fuel d rest left = ReadsAlias (s.own ∷ outer) b d rest × (left ≡ fuel)
-MadeItem {config} config outer s item.CoreType b fuel d rest left = MadeCoreTypeDecl config s.own b fuel d rest left
-MadeItem {config} config outer s item.«Type» b fuel d rest left = MadeTypeDecl config s.own outer b fuel d rest left
+abbrev MadeItem : Config → List Marked → SoFar → DeclarationItem → List ℕ → ℕ → FullDecl → List ℕ → ℕ → Type 0
+MadeItem config outer s item.Export b fuel d rest left = ReadsExportDecl config s.own s.exports b d rest × (left ≡ fuel)
+MadeItem config outer s item.Alias b fuel d rest left = ReadsAlias (s.own ∷ outer) b d rest × (left ≡ fuel)
+MadeItem config outer s item.CoreType b fuel d rest left = MadeCoreTypeDecl config s.own b fuel d rest left
+MadeItem config outer s item.«Type» b fuel d rest left = MadeTypeDecl config s.own outer b fuel d rest left
 
 -- A declaration as another of the same bytes is made: an import, or what was chosen.
 

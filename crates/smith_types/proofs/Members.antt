@@ -31,7 +31,7 @@ pub named_tail : {config : Config} {B : Type 0} {After : List ℕ → B → List
     → (so_far : List (List ℕ × B)) (b : List ℕ) (x : List ℕ × B) (rest : List ℕ) → ReadsNamed config After so_far b x rest → IsTail rest b
 named_tail one so_far b x rest r = tail_trans (one r.mid x.1 rest r.after) (new_tail r.name)
 
-module _ {config : Config} {A : Type 0} {Member : List A → List ℕ → A → List ℕ → Type 0} {min max : ℕ} {b : List ℕ} {fuel : ℕ} {xs : List A} {rest : List ℕ} {left : ℕ}
+module _ (config : Config) {A : Type 0} {Member : List A → List ℕ → A → List ℕ → Type 0} {min max : ℕ} {b : List ℕ} {fuel : ℕ} {xs : List A} {rest : List ℕ} {left : ℕ}
     (l : ReadsMembers config Member min max b fuel xs rest left) where
   pub members_tail : ((so_far : List A) (c : List ℕ) (x : A) (r : List ℕ) → Member so_far c x r → IsTail r c) → IsTail rest b
   members_tail one = loop_tail (λ s c r t e. tail_is e.stays) (λ s c x r t i. one s.0 c x r i.member) 0 ([], fuel) b xs rest (xs, left) l
@@ -85,18 +85,18 @@ pub named_name : {config : Config} {B : Type 0} {After : List ℕ → B → List
     → ReadsNamed config After so_far b x rest → (mid : List ℕ) × ReadsNew config.max_name_length (map (λ y. y.0) so_far) b x.0 mid
 named_name so_far b x rest r = (r.mid, r.name)
 
-label_name : {config : Config} (so_far : List (List ℕ)) (b x rest : List ℕ) → ReadsNew config.max_name_length so_far b x rest → (mid : List ℕ) × ReadsNew config.max_name_length (map (λ y. y) so_far) b x mid
-label_name {config} so_far b x rest r = (rest, subst (λ ns. ReadsNew config.max_name_length ns b x rest) (sym (map-id so_far)) r)
+label_name : {max : ℕ} (so_far : List (List ℕ)) (b x rest : List ℕ) → ReadsNew max so_far b x rest → (mid : List ℕ) × ReadsNew max (map (λ y. y) so_far) b x mid
+label_name {max} so_far b x rest r = (rest, subst (λ ns. ReadsNew max ns b x rest) (sym (map-id so_far)) r)
 
-pub labels_named : {config : Config} {min max : ℕ} {b : List ℕ} {fuel : ℕ} {xs : List (List ℕ)} {rest : List ℕ} {left : ℕ}
+pub labels_named : (config : Config) {min max : ℕ} {b : List ℕ} {fuel : ℕ} {xs : List (List ℕ)} {rest : List ℕ} {left : ℕ}
     → ReadsMembers config (ReadsNew config.max_name_length) min max b fuel xs rest left → Named xs × AreReadableNames config xs
-labels_named {config} {xs = xs} l = subst (λ ns. Named ns × AreReadableNames config ns) (map-id xs) (members_named l (λ x. x) label_name)
+labels_named config {xs = xs} l = subst (λ ns. Named ns × AreReadableNames config ns) (map-id xs) (members_named config l (λ x. x) label_name)
 
-pub members_same : {config : Config} {A : Type 0} {Member : List A → List ℕ → A → List ℕ → Type 0} {min max : ℕ} {b : List ℕ} {fuel : ℕ} {xs ys : List A} {r s : List ℕ}
+pub members_same : (config : Config) {A : Type 0} {Member : List A → List ℕ → A → List ℕ → Type 0} {min max : ℕ} {b : List ℕ} {fuel : ℕ} {xs ys : List A} {r s : List ℕ}
     {f g : ℕ}
     → ((so_far : List A) (b : List ℕ) (x y : A) (r s : List ℕ) → Member so_far b x r → Member so_far b y s → (x ≡ y) × (r ≡ s))
     → ReadsMembers config Member min max b fuel xs r f → ReadsMembers config Member min max b fuel ys s g → Same xs ys r s f g
-members_same {A} {Member} {b = b} {fuel = fuel} {xs = xs} {ys = ys} {r = r} {s = s} {f = f} {g = g} one l m =
+members_same config {A} {Member} {b = b} {fuel = fuel} {xs = xs} {ys = ys} {r = r} {s = s} {f = f} {g = g} one l m =
     let d = loop_same (λ w c p q t u e h. (e.stays ∙ sym h.stays, e.state ∙ sym h.state)) apart items 0 ([], fuel) b xs ys r s (xs, f) (ys, g) l m in
     record { value = d.0; rest = d.1; left = ap (λ z. z.1) d.2 }
   where
@@ -149,11 +149,11 @@ module _ {A : Type 0} where
   lasts_along P so_far fuel (x ∷ xs) all lasts = ((all.0, omega arith), lasts_along P (so_far ++ x ∷ []) (fuel - 1) xs all.1 (omega arith))
 
   -- A script of members is read as them.
-  pub members_read : {config : Config} {min max : ℕ} (Member : List A → List ℕ → A → List ℕ → Type 0) (f : ℕ → A → List ℕ) (P : List A → A → Type 0)
+  pub members_read : (config : Config) {min max : ℕ} (Member : List A → List ℕ → A → List ℕ → Type 0) (f : ℕ → A → List ℕ) (P : List A → A → Type 0)
       → ((so_far : List A) (x : A) (rest : List ℕ) → P so_far x → Member so_far (f (length so_far) x ++ rest) x rest)
       → (xs : List A) (fuel : ℕ) (rest : List ℕ) → Ready P [] xs → min ≤ length xs → length xs ≤ max → length xs + 1 ≤ fuel
       → (left : ℕ) × (left + length xs ≡ fuel) × ReadsMembers config Member min max (script_members f min max xs ++ rest) fuel xs rest left
-  members_read {config} {min = min} {max = max} Member f P one xs fuel rest all some few lasts =
+  members_read config {min = min} {max = max} Member f P one xs fuel rest all some few lasts =
       let read =
       loop_read {Ends = IsSpent} {Item = ReadsMember Member} {bits = config.loop_bits} {min = min} {max = max} (λ s x. f (length s.0) x) next_member (λ s x. P s.0 x × (0 < s.1 - 1))
       (λ s x more p. record { lasts = p.1; member = one s.0 x more p.0; state = refl })
@@ -167,7 +167,7 @@ module _ {A : Type 0} where
 abbrev pub IsReady : {A : Type 0} → Config → (A → List ℕ) → (A → Type 0) → List A → A → Type 0
 IsReady config name Q so_far x = Kebab (name x) × IsReachable config.max_name_length (map name so_far) (name x) × Q x
 
-module _ {config : Config} {A : Type 0} (name : A → List ℕ) (Q : A → Type 0) where
+module _ (config : Config) {A : Type 0} (name : A → List ℕ) (Q : A → Type 0) where
   each_ready : (xs so_far : List A) → AllByRecursion Kebab (map name xs) → AreReachable config.max_name_length (map name so_far) (map name xs) → AllByRecursion Q xs
       → Ready (IsReady config name Q) so_far xs
   each_ready [] so_far k r q = tt
@@ -183,9 +183,9 @@ names_of : {B : Type 0} (so_far : List (String Global × B)) → map (λ p. stri
 names_of [] = refl
 names_of (p ∷ ps) = ap (λ ns. string_bytes p.0 ∷ ns) (names_of ps)
 
-pub new_named : {config : Config} {B : Type 0} (so_far : List (String Global × B)) {bytes name mid : List ℕ} → ReadsNew config.max_name_length (map (λ p. string_bytes p.0) so_far) bytes name mid
-    → ReadsNew config.max_name_length (map (λ y. y.0) (map named so_far)) bytes name mid
-new_named {config} so_far {bytes} {name} {mid} r = subst (λ ns. ReadsNew config.max_name_length ns bytes name mid) (names_of so_far) r
+pub new_named : {max : ℕ} {B : Type 0} (so_far : List (String Global × B)) {bytes name mid : List ℕ} → ReadsNew max (map (λ p. string_bytes p.0) so_far) bytes name mid
+    → ReadsNew max (map (λ y. y.0) (map named so_far)) bytes name mid
+new_named {max} so_far {bytes} {name} {mid} r = subst (λ ns. ReadsNew max ns bytes name mid) (names_of so_far) r
 
 pub is_named : {config : Config} {B : Type 0} {After : List ℕ → B → List ℕ → Type 0} (so_far : List (String Global × B)) {bytes name mid rest : List ℕ} {y : B}
     → ReadsNew config.max_name_length (map (λ p. string_bytes p.0) so_far) bytes name mid → After mid y rest → ReadsNamed config After (map named so_far) bytes (name, y) rest
@@ -207,9 +207,9 @@ named_read {config} short After f Q one so_far x rest (k, r, q) =
       after = one x.1 rest q;
     })
 
-pub label_read : {config : Config} (short : config.max_name_length < 2 ^ 64) (so_far : List (List ℕ)) (n rest : List ℕ) → IsReady config (λ y. y) (λ y. Unit {0}) so_far n
+pub label_read : (config : Config) (short : config.max_name_length < 2 ^ 64) (so_far : List (List ℕ)) (n rest : List ℕ) → IsReady config (λ y. y) (λ y. Unit {0}) so_far n
     → ReadsNew config.max_name_length so_far (script_label config (length so_far) n ++ rest) n rest
-label_read {config} short so_far n rest (k, r, _) =
+label_read config short so_far n rest (k, r, _) =
     let P : List (List ℕ) → Type 0 = λ ns. ReadsNew config.max_name_length ns (script_label config (length ns) n ++ rest) n rest in
     subst P (map-id so_far) (new_script_read config.max_name_length (map (λ y. y) so_far) n rest (omega (arith, short)) k r)
 

@@ -1,6 +1,6 @@
 -- What holds of a module type that grows by one declaration after another: it is well formed and within the limits, and its names can be
 -- read.
-use Rattle.std.proofs.Common.{◌≡◌, ℕ, ◌<◌, Bool, true, false, List, [], ◌∷◌, ◌++◌, length, take, refl, sym, ap, subst, arith, append-nil, append_assoc, codes}
+use Rattle.std.proofs.Common.{◌≡◌, ℕ, ◌<◌, Bool, true, false, List, [], ◌∷◌, ◌++◌, length, take, refl, sym, ap, ◌∙◌, subst, arith, append-nil, append_assoc, codes}
 use Rattle.std.proofs.lemmas.Bool.{le-leb}
 use Rattle.std.proofs.lemmas.List.{length-take}
 use Rattle.std.specs.Prelude.{Option, Some, None, IfSome, slice_get}
@@ -25,8 +25,8 @@ use Rattle.smith_types.proofs.ModuleTypes.{DeclFits, HasNewName, Judged, Within,
 
 -- names
 
-pub text_readable : {config : Config} {b text rest : List ℕ} → ReadsText config.max_name_length b text rest → IsReadableText config text
-text_readable {text = text} r = (
+pub text_readable : (config : Config) {b text rest : List ℕ} → ReadsText config.max_name_length b text rest → IsReadableText config text
+text_readable config {text = text} r = (
   r.longest.utf8,
   omega (
     arith,
@@ -37,36 +37,36 @@ text_readable {text = text} r = (
   ),
 )
 
-pub new_readable : {config : Config} {names : List (List ℕ)} {b name rest : List ℕ} → ReadsNewText config.max_name_length names b name rest → IsReadableNewText config names name
-new_readable r = (new_text_utf8 r, new_text_reachable r)
+pub new_readable : (config : Config) {names : List (List ℕ)} {b name rest : List ℕ} → ReadsNewText config.max_name_length names b name rest → IsReadableNewText config names name
+new_readable config r = (new_text_utf8 r, new_text_reachable r)
 
 -- one more declaration
-readable_more : {config : Config} (before ds : List ModuleDecl) (d : ModuleDecl) → AreReadableModuleDecls config before ds
+readable_more : (config : Config) (before ds : List ModuleDecl) (d : ModuleDecl) → AreReadableModuleDecls config before ds
     → IsReadableModuleDecl config (before ++ ds) d → AreReadableModuleDecls config before (ds ++ d ∷ [])
-readable_more {config} before [] d all one = (subst (λ z. IsReadableModuleDecl config z d) (append-nil before) one, tt)
-readable_more {config} before (e ∷ ds) d all one =
-    (all.0, readable_more (before ++ e ∷ []) ds d all.1 (subst (λ z. IsReadableModuleDecl config z d) (sym (append_assoc before (e ∷ []) ds)) one))
+readable_more config before [] d all one = (subst (λ z. IsReadableModuleDecl config z d) (append-nil before) one, tt)
+readable_more config before (e ∷ ds) d all one =
+    (all.0, readable_more config (before ++ e ∷ []) ds d all.1 (subst (λ z. IsReadableModuleDecl config z d) (sym (append_assoc before (e ∷ []) ds)) one))
 
 -- of declarations that can be read those after some can be read after them
-pub readable_back : {config : Config} (before front back : List ModuleDecl) → AreReadableModuleDecls config before (front ++ back)
+pub readable_back : (config : Config) (before front back : List ModuleDecl) → AreReadableModuleDecls config before (front ++ back)
     → AreReadableModuleDecls config (before ++ front) back
-readable_back {config} before [] back h = subst (λ z. AreReadableModuleDecls config z back) (sym (append-nil before)) h
-readable_back {config} before (d ∷ ds) back h =
-    subst (λ z. AreReadableModuleDecls config z back) (append_assoc before (d ∷ []) ds) (readable_back (before ++ d ∷ []) ds back h.1)
+readable_back config before [] back h = subst (λ z. AreReadableModuleDecls config z back) (sym (append-nil before)) h
+readable_back config before (d ∷ ds) back h =
+    subst (λ z. AreReadableModuleDecls config z back) (append_assoc before (d ∷ []) ds) (readable_back config (before ++ d ∷ []) ds back h.1)
 
 -- These declarations begin with those, and the others can be read after them.
 abbrev pub IsReadAfter : Config → List ModuleDecl → List ModuleDecl → Type 0
 IsReadAfter config front ds = (more : List ModuleDecl) × (ds ≡ front ++ more) × AreReadableModuleDecls config front more
 
-pub read_none : {config : Config} (front ds : List ModuleDecl) → ds ≡ front → IsReadAfter config front ds
-read_none front ds e = ([], e ∙ sym (append-nil front), tt)
+pub read_none : (config : Config) (front ds : List ModuleDecl) → ds ≡ front → IsReadAfter config front ds
+read_none config front ds e = ([], e ∙ sym (append-nil front), tt)
 
-pub read_more : {config : Config} (front ds : List ModuleDecl) (d : ModuleDecl) → IsReadAfter config front ds → IsReadableModuleDecl config ds d
+pub read_more : (config : Config) (front ds : List ModuleDecl) (d : ModuleDecl) → IsReadAfter config front ds → IsReadableModuleDecl config ds d
     → IsReadAfter config front (ds ++ d ∷ [])
-read_more {config} front ds d (more, e, all) one = (
+read_more config front ds d (more, e, all) one = (
   more ++ d ∷ [],
   ap (λ z. z ++ d ∷ []) e ∙ append_assoc front more (d ∷ []),
-  readable_more front more d all (subst (λ z. IsReadableModuleDecl config z d) e one),
+  readable_more config front more d all (subst (λ z. IsReadableModuleDecl config z d) e one),
 )
 
 -- A declaration stands after these, which declare these types.

@@ -150,9 +150,9 @@ module _ (config : Config) (s : Declared) (few : length s.own ≤ 2 ^ 64) where
 
 -- texts
 
-new_read : {config : Config} → config.max_name_length < 2 ^ 64 → (names : List (List ℕ)) (name rest : List ℕ) → IsReadableNewText config names name
+new_read : (config : Config) → config.max_name_length < 2 ^ 64 → (names : List (List ℕ)) (name rest : List ℕ) → IsReadableNewText config names name
     → ReadsNewText config.max_name_length names (script_new_text config.max_name_length (length names) name ++ rest) name rest
-new_read {config} short names name rest (u, made) = new_text_read config.max_name_length names name rest (omega (arith, short)) u made
+new_read config short names name rest (u, made) = new_text_read config.max_name_length names name rest (omega (arith, short)) u made
 
 -- outer aliases
 
@@ -200,7 +200,7 @@ module _ (config : Config) (around : Scope) where
       let P : List ℕ → Type 0 = λ z. ReadsDeclOf config around s item.Import z (imports from name e) rest in
       let whole : (a ++ (b ++ c)) ++ rest ≡ a ++ (b ++ (c ++ rest)) = append_assoc a (b ++ c) rest ∙ ap (λ z. a ++ z) (append_assoc b c rest) in
       let module_name = text_read config.max_name_length from (b ++ (c ++ rest)) (let short = h.names in omega (arith, short)) h.text.0.0 h.text.0.1 in
-      let new = new_read h.names (names_from from s.decls) name (c ++ rest) h.text.1 in
+      let new = new_read config h.names (names_from from s.decls) name (c ++ rest) h.text.1 in
       let entity = entity_read config s (omega (arith, h.few)) e rest (h.fits, h.formed) in
       says s (imports from name e) item.Import 0 true (a ++ (b ++ c)) rest h.lasts refl refl
       (subst P (sym whole) (from, name, c ++ rest, (b ++ (c ++ rest), module_name, new), e, entity, refl))
@@ -208,7 +208,7 @@ module _ (config : Config) (around : Scope) where
       let b : List ℕ = script_new_text config.max_name_length (length (module_export_names s.decls)) name in
       let c : List ℕ = script_entity config s e in
       let P : List ℕ → Type 0 = λ z. ReadsDeclOf config around s item.Export z (exports name e) rest in
-      let new = new_read h.names (module_export_names s.decls) name (c ++ rest) h.text in
+      let new = new_read config h.names (module_export_names s.decls) name (c ++ rest) h.text in
       let entity = entity_read config s (omega (arith, h.few)) e rest (h.fits, h.formed) in
       says s (exports name e) item.Export 1 true (b ++ c) rest h.lasts refl refl
       (subst P (sym (append_assoc b c rest)) (name, c ++ rest, new, e, entity, refl))

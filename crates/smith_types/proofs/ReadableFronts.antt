@@ -22,9 +22,9 @@ beginnings (x ∷ xs) more (y ∷ ys) back e few =
     let behind : xs ++ more ≡ ys ++ back = cc in
     let (extra, p, q) = beginnings xs more ys back behind few in (extra, λ i. sym first i ∷ p i, q)
 
-pub behind_readable : {config : Config} (m : Option MemoryType) (r f : Bool) (ds : List ModuleDecl) → IsReadAfter config (front_decls m r f) ds
+pub behind_readable : (config : Config) (m : Option MemoryType) (r f : Bool) (ds : List ModuleDecl) → IsReadAfter config (front_decls m r f) ds
     → AreReadableModuleDecls config (in_front ds (after_front ds)) (after_front ds)
-behind_readable {config} m r f ds (more, e, all) =
+behind_readable config m r f ds (more, e, all) =
     let x = fronted ds in
     let front : List ModuleDecl = front_decls m r f in
     let found : List ModuleDecl = front_decls x.memory x.reallocs x.frees in
@@ -32,4 +32,4 @@ behind_readable {config} m r f ds (more, e, all) =
     let few : length back ≤ length more = subst (λ z. length (after_front z) ≤ length more) (sym e) (front_size m r f more) in
     let (extra, p, q) = beginnings front more found back (sym e ∙ whole_front x) few in
     subst (λ z. AreReadableModuleDecls config z back) (sym p ∙ sym (in_front_is ds found back (whole_front x)))
-    (readable_back front extra back (subst (AreReadableModuleDecls config front) q all))
+    (readable_back config front extra back (subst (AreReadableModuleDecls config front) q all))

@@ -1,5 +1,5 @@
 -- What the script of a type says is made of it, and the script is bytes.
-use Rattle.std.proofs.Common.{◌≡◌, ℕ, ◌+◌, ◌-◌, ◌^◌, ◌≤◌, Bool, true, false, List, [], ◌∷◌, ◌++◌, length, refl, sym, ap, ◌∙◌, subst, arith, append_assoc}
+use Rattle.std.proofs.Common.{◌≡◌, ℕ, ◌+◌, ◌-◌, ◌^◌, ◌<◌, ◌≤◌, Bool, true, false, List, [], ◌∷◌, ◌++◌, length, refl, sym, ap, ◌∙◌, subst, arith, append_assoc}
 use Rattle.std.proofs.Common.{length-append, nat_le, nat_lt, None}
 use Rattle.std.proofs.lemmas.List.{length-map, map-append}
 use Rattle.std.specs.List.{AllByRecursion}
@@ -286,7 +286,7 @@ module _ (config : Config) (short : config.max_name_length < 2 ^ 64) where
             refl,
             made_import refl (import_read s name rest r fit.each.0 said.imports.0 n f.0 f.1 o) left,
             small_join (small_byte 4 0 (omega arith) (omega arith))
-                (small_join (small_ref config s.own uncounted true true fit.each.0 r f.0 o) (small_extern short (length s.imports) name said.imports.0)),
+                (small_join (small_ref config s.own uncounted true true fit.each.0 r f.0 o) (small_extern config short (length s.imports) name said.imports.0)),
           )
       decl_read (import_decl name u r) false outer s fuel rest f o m n l said held fit = absurd (no_import (said.own refl))
         where
@@ -304,7 +304,7 @@ module _ (config : Config) (short : config.max_name_length < 2 ^ 64) where
                 (made_export (no_import_read config s.own importing _) (item_read config outer s.own item.Export 0 _ _ refl (export_there s.own r f o))
                 (export_read s name rest r fit.each.0 said.exports.0 n f o) left),
             small_join (small_declares config importing s.own outer item.Export)
-                (small_join (small_ref config s.own uncounted false true fit.each.0 r f o) (small_extern short (length s.exports) name said.exports.0)),
+                (small_join (small_ref config s.own uncounted false true fit.each.0 r f o) (small_extern config short (length s.exports) name said.exports.0)),
           )
 
       decls_read : (ds : Decls) (importing : Bool) (outer : List Marked) (s : SoFar) (fuel done : ℕ) (rest : List ℕ)

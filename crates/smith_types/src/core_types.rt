@@ -1,6 +1,6 @@
 //! Core types from the input.
 
-ghost use Rattle.std.specs.Prelude.{◌≡◌, ◌+◌, ◌≤◌, ◌^◌, ◌++◌, ℕ, List, length, IfOk};
+ghost use Rattle.std.specs.Prelude.{◌≡◌, ◌+◌, ◌<◌, ◌≤◌, ◌^◌, ◌++◌, ℕ, List, length, IfOk};
 ghost use Rattle.smith_input.specs.Consumes.{Consumes};
 ghost use Rattle.smith_format.specs.Limits.{configured};
 ghost use Rattle.smith_syntax.specs.CoreLimits.{CoreLimits};
@@ -79,7 +79,7 @@ pub fn arbitrary_core_type(
     // The script of a core type whose names can be read and for which the fuel lasts produces that type.
     ensures script { (e : CoreEntry) (rest : List ℕ) → FormedCore e (own_scope scopes.now).core_types
         → CoreLimits config.now e → IsReadableCore config.now e → core_need e ≤ fuel.old
-        → length (own_scope scopes.now).core_types ≤ 2 ^ 63
+        → length (own_scope scopes.now).core_types ≤ 2 ^ 63 → config.now.max_name_length < 2 ^ 64
         → u.old ≡ script_core config.now (own_scope scopes.now) fuel.old e ++ rest
         → IfOk result (λ t. (shown_shared_core t ≡ e) × (u.new ≡ rest)) }
     ensures input { Consumes result u.old u.new }

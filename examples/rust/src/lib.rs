@@ -23,6 +23,7 @@ mod library;
 mod limits;
 mod raw_limits;
 
+use alloc::string::String;
 use alloc::vec::Vec;
 use core::fmt;
 use core::ops::Range;
@@ -121,6 +122,37 @@ impl fmt::Display for OutOfMemory {
 
 impl core::error::Error for OutOfMemory {}
 
+/// Why bytes have no text.
+#[derive(Clone, Copy, Debug, PartialEq, Eq)]
+#[non_exhaustive]
+pub enum NoText {
+    /// They are not a component of the grammar, or are one whose scopes are nested more than 1001 deep. `check` knows
+    /// where.
+    Unread,
+    /// They are a component with a core module that has more than function types and memories.
+    OtherCoreModule,
+    /// Out of memory.
+    OutOfMemory,
+}
+
+impl fmt::Display for NoText {
+    fn fmt(&self, f: &mut fmt::Formatter<'_>) -> fmt::Result {
+        f.write_str(match self {
+            NoText::Unread => "the bytes are no component",
+            NoText::OtherCoreModule => "a core module in it has more than function types and memories",
+            NoText::OutOfMemory => "out of memory",
+        })
+    }
+}
+
+impl core::error::Error for NoText {}
+
+impl From<OutOfMemory> for NoText {
+    fn from(_: OutOfMemory) -> NoText {
+        NoText::OutOfMemory
+    }
+}
+
 /// Why bytes have no script.
 #[derive(Clone, Copy, Debug, PartialEq, Eq)]
 #[non_exhaustive]
@@ -184,6 +216,12 @@ impl fmt::Display for Unreduced {
 
 impl core::error::Error for Unreduced {}
 
+impl From<OutOfMemory> for Unreduced {
+    fn from(_: OutOfMemory) -> Unreduced {
+        Unreduced::OutOfMemory
+    }
+}
+
 /// Returns the limits as overridden by the ones that the first bytes of the input encode, so that one run tries many
 /// limits (swarm testing). Twenty limits take one byte each, in the order and the ranges of `lupinanon.h`, and a byte
 /// after the end counts as 0. The minima and `must_validate` stay as they are.
@@ -231,6 +269,13 @@ pub fn validate(bytes: &[u8]) -> Result<Answer, OutOfMemory> {
     library::validate(bytes)
 }
 
+/// Returns the component that the bytes are, well formed or not, in the text format, with indexes as comments.
+pub fn print(bytes: &[u8]) -> Result<String, NoText> {
+    let room = bytes.len().saturating_mul(8);
+    let text = written(room, |output| library::print_into(bytes, output).map(Some))?;
+    Ok(String::from_utf8(text.expect("a component that is printed has a text")).expect("a text is ASCII"))
+}
+
 /// Returns the script of the component that the bytes are: an input from which `generate` produces these bytes within
 /// the same limits, and of which nothing is left. Each component that can be generated has one.
 ///
@@ -254,14 +299,14 @@ pub fn script(limits: &Limits, bytes: &[u8]) -> Result<Vec<u8>, NoScript> {
 }
 
 // Returns what a call writes to an output of that room, or of as much more as it asks for.
-fn written(
+fn written<E: From<OutOfMemory>>(
     room: usize,
-    mut call: impl FnMut(&mut [u8]) -> Result<Option<usize>, Unreduced>,
-) -> Result<Option<Vec<u8>>, Unreduced> {
+    mut call: impl FnMut(&mut [u8]) -> Result<Option<usize>, E>,
+) -> Result<Option<Vec<u8>>, E> {
     let mut output = Vec::new();
     let mut room = room;
     loop {
-        output.try_reserve_exact(room).map_err(|_| Unreduced::OutOfMemory)?;
+        output.try_reserve_exact(room).map_err(|_| OutOfMemory)?;
         output.resize(room, 0);
         let Some(len) = call(&mut output)? else {
             return Ok(None);
@@ -346,7 +391,7 @@ pub struct Changed {
 /// Nothing is renumbered, so that it is often not valid. Sixteen changes belong to each place, in the order of the bytes.
 pub fn changed(bytes: &[u8], number: usize) -> Result<Option<Changed>, Unreduced> {
     let mut found = None;
-    let written = written(bytes.len(), |output| {
+    let written = written(bytes.len(), |output| -> Result<_, Unreduced> {
         let changed = library::changed_into(bytes, number, output)?;
         found = changed.map(|(_, answer)| answer);
         Ok(changed.map(|(len, _)| len))

@@ -1,7 +1,7 @@
 //! The static library's functions.
 
 use crate::raw_limits::RawLimits;
-use crate::{Answer, Limits, NoScript, OutOfMemory, Refusal, Rule, Unreduced, Verdict};
+use crate::{Answer, Limits, NoScript, NoText, OutOfMemory, Refusal, Rule, Unreduced, Verdict};
 use core::ffi::{c_char, CStr};
 use core::mem::{size_of, MaybeUninit};
 
@@ -32,6 +32,13 @@ extern "C" {
         offset: *mut usize,
     ) -> i32;
     fn lupinanon_rule_text(rule: usize) -> *const c_char;
+    fn lupinanon_print(
+        bytes: *const u8,
+        bytes_len: usize,
+        output: *mut u8,
+        output_len: usize,
+        text_len: *mut usize,
+    ) -> i32;
     fn lupinanon_script_into(
         limits: *const RawLimits,
         bytes: *const u8,
@@ -240,6 +247,22 @@ pub fn rule_text(rule: usize) -> &'static str {
     // SAFETY: the call returns a string of the library's own, which is never given back.
     let text = unsafe { CStr::from_ptr(lupinanon_rule_text(rule)) };
     text.to_str().expect("a rule is ASCII")
+}
+
+/// How long the text of the bytes is. It is written to the front of the output, if there is room.
+pub fn print_into(bytes: &[u8], output: &mut [u8]) -> Result<usize, NoText> {
+    let mut len = 0;
+    // SAFETY: no reference is null, the lengths are the slices', and nothing written overlaps anything.
+    let status = unsafe {
+        lupinanon_print(bytes.as_ptr(), bytes.len(), output.as_mut_ptr(), output.len(), &mut len)
+    };
+    match status {
+        0 | 7 => Ok(len),
+        5 => Err(NoText::OutOfMemory),
+        11 => Err(NoText::Unread),
+        18 => Err(NoText::OtherCoreModule),
+        other => unreachable!("the arguments are good, and {other} is no status of a print"),
+    }
 }
 
 /// How long the script of the bytes is. It is written to the front of the output, if there is room.

@@ -1,6 +1,7 @@
 use lupinanon::{
-    change_count, changed, check, generate, join, library_version, next_changed, next_miswritten, next_smaller, reduce,
-    script, smaller, swarm_limits, validate, without, Answer, Limits, NoScript, Refusal, Unreduced, Verdict,
+    change_count, changed, check, generate, join, library_version, next_changed, next_miswritten, next_smaller, print,
+    reduce, script, smaller, swarm_limits, validate, without, Answer, Limits, NoScript, NoText, Refusal, Unreduced,
+    Verdict,
 };
 
 #[test]
@@ -123,6 +124,26 @@ fn bytes_are_answered() {
         panic!("no bytes are invalid");
     };
     assert_eq!((rule.number(), rule.text(), offset), (102, "a preamble is missing", 0));
+}
+
+#[test]
+fn components_are_printed() {
+    let preamble = b"\x00asm\x0d\x00\x01\x00";
+    assert_eq!(print(preamble).as_deref(), Ok("(component)\n"));
+    let of_itself = [&preamble[..], b"\x07\x04\x02\x7f\x70\x01"].concat();
+    let text = "(component\n  (type (;0;) bool)\n  (type (;1;) (list 1))\n)\n";
+    assert_eq!(print(&of_itself).as_deref(), Ok(text));
+    assert_eq!(print(b""), Err(NoText::Unread));
+    // A core module with a section of functions, which has none.
+    let other_module = [&preamble[..], b"\x01\x0b\x00asm\x01\x00\x00\x00\x03\x01\x00"].concat();
+    assert_eq!(print(&other_module), Err(NoText::OtherCoreModule));
+}
+
+#[test]
+fn a_text_larger_than_the_first_output() {
+    let types = [&b"\x00asm\x0d\x00\x01\x00\x07\x65\x64"[..], &[0x7f; 100]].concat();
+    let lines: String = (0..100).map(|index| format!("  (type (;{index};) bool)\n")).collect();
+    assert_eq!(print(&types), Ok(format!("(component\n{lines})\n")));
 }
 
 #[test]

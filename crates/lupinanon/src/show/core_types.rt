@@ -1,8 +1,9 @@
 //! Core types as a text.
 
-use super::walk::{Walk, next};
+use super::walk::Walk;
 use super::{Member, show_list};
 use smith_core::{EntityType, FuncType, GlobalType, MemoryType, RefType, TableType, ValType};
+use smith_print::next;
 use smith_read::{CoreNode, ModuleNode};
 use smith_stats::core_val_label;
 use std::fmt;
@@ -85,12 +86,12 @@ fn show_decl<W: fmt::Write>(
     walk.pass_entry::<ModuleNode>()?;
     match decl {
         ModuleNode::Func(ty) => {
-            let index = next(&mut walk.spaces.core_types);
+            let index = next(&mut walk.spaces.core_types)?;
             write!(f, "type {index}: ")?;
             show_function(f, ty)
         }
         ModuleNode::OuterAlias { count, index } => {
-            let own = next(&mut walk.spaces.core_types);
+            let own = next(&mut walk.spaces.core_types)?;
             writeln!(
                 f,
                 "type {own}: outer alias of core type {index}, count {count}"
@@ -117,7 +118,7 @@ pub(crate) fn show_core_type<W: fmt::Write>(
     walk: &mut Walk<'_>,
     ty: &CoreNode,
 ) -> fmt::Result {
-    let index = next(&mut walk.spaces.core_types);
+    let index = next(&mut walk.spaces.core_types)?;
     write!(f, "core type {index}: ")?;
     match ty {
         CoreNode::Func(ty) => {

@@ -1,8 +1,9 @@
 //! Types of components as a text.
 
 use super::core_types::show_core_type;
-use super::walk::{Walk, next};
+use super::walk::Walk;
 use super::{Member, show_extern, show_list};
+use smith_print::next;
 use smith_read::{DeclNode, TypeNode};
 use smith_stats::{primitive_label, type_label};
 use smith_syntax::{ComponentValType, DefinedType, put_defined, put_function};
@@ -106,12 +107,12 @@ fn show_decl<W: fmt::Write>(
         DeclNode::Type(_) => Err(fmt::Error),
         DeclNode::TypeAlias { .. } => {
             walk.pass(2);
-            let own = next(&mut walk.spaces.types);
+            let own = next(&mut walk.spaces.types)?;
             show_alias(f, walk, "type", own)
         }
         DeclNode::CoreTypeAlias { .. } => {
             walk.pass(3);
-            let own = next(&mut walk.spaces.core_types);
+            let own = next(&mut walk.spaces.core_types)?;
             show_alias(f, walk, "core type", own)
         }
         DeclNode::Import { name, to } => show_extern(f, walk, "import", name, *to),
@@ -159,7 +160,7 @@ pub(crate) fn show_type<W: fmt::Write>(
     ty: &TypeNode,
     depth: u32,
 ) -> fmt::Result {
-    let index = next(&mut walk.spaces.types);
+    let index = next(&mut walk.spaces.types)?;
     let label = type_label(ty);
     write!(f, "type {index}: {label}")?;
     walk.pass(type_len(walk.alloc, ty)?);

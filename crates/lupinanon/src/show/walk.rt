@@ -1,31 +1,12 @@
 //! The place of a walk over a component's nodes. Nodes have no offsets: their bytes are passed one after another.
 
+use smith_print::{IndexSpaces, next};
 use smith_read::{Readable, count_of};
 use std::alloc::{AllocError, Global};
 use std::fmt;
 
 // Deeper lines are indented as at this level: so a line is at most 64 times as long as its bytes, whatever the depth.
 const MOST_LEVELS: usize = 14;
-
-/// How many sections there are, and how many entries each index space has.
-#[derive(Clone, Copy, Default)]
-pub(crate) struct Spaces {
-    pub(crate) sections: usize,
-    pub(crate) core_types: usize,
-    pub(crate) core_functions: usize,
-    pub(crate) modules: usize,
-    pub(crate) types: usize,
-    pub(crate) functions: usize,
-    pub(crate) components: usize,
-    pub(crate) instances: usize,
-}
-
-/// The index of the next entry of a space, which is then one longer.
-pub(crate) fn next(space: &mut usize) -> usize {
-    let index = *space;
-    *space = index.saturating_add(1);
-    index
-}
 
 /// The place of a walk.
 #[derive(Drop)]
@@ -34,10 +15,12 @@ pub(crate) struct Walk<'a> {
     bytes: &'a [u8],
     // What is next.
     rest: &'a [u8],
+    // How many sections precede it.
+    sections: usize,
     /// The index spaces that precede it.
-    pub(crate) spaces: Spaces,
-    // The index spaces of the components and types around it, outermost first.
-    outer: Vec<Spaces>,
+    pub(crate) spaces: IndexSpaces,
+    // The sections and the index spaces of the components and types around it, outermost first.
+    outer: Vec<(usize, IndexSpaces)>,
 }
 
 impl<'a> Walk<'a> {
@@ -47,21 +30,26 @@ impl<'a> Walk<'a> {
             alloc,
             bytes,
             rest: bytes,
-            spaces: Spaces::default(),
+            sections: 0,
+            spaces: IndexSpaces::new(),
             outer: Vec::new(alloc),
         }
     }
 
     /// Enters what has index spaces of its own.
     pub(crate) fn enter(&mut self) -> Result<(), AllocError> {
-        self.outer.push(self.spaces)?;
-        self.spaces = Spaces::default();
+        self.outer.push((self.sections, self.spaces))?;
+        self.sections = 0;
+        self.spaces = IndexSpaces::new();
         Ok(())
     }
 
     /// Leaves it again.
     pub(crate) fn leave(&mut self) {
-        self.spaces = self.outer.pop().unwrap_or_default();
+        if let Some((sections, spaces)) = self.outer.pop() {
+            self.sections = sections;
+            self.spaces = spaces;
+        }
     }
 
     /// Passes that many bytes.
@@ -103,7 +91,7 @@ impl<'a> Walk<'a> {
         f: &mut fmt::Formatter<W>,
     ) -> Result<usize, fmt::Error> {
         self.begin_line(f, self.outer.len())?;
-        let number = next(&mut self.spaces.sections);
+        let number = next(&mut self.sections)?;
         write!(f, "section {number}: ")?;
         self.pass(1);
         self.pass_number()

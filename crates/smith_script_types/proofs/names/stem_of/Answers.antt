@@ -10,11 +10,11 @@ loop-turn-init g c =
     let name = c.args.name.now in
     let digits = c.decimal_len-digits.result in
     let excess = c.saturating_sub-excess.result in
-    let longest = c.longest.result in
+    let longest = c.longest-longest.result in
     let less : excess / digits ≤ excess = omega arith in
     let times : excess / digits * digits ≤ excess = omega arith in
     let is : excess ≡ length name - (longest + 1) = omega (arith, c.saturating_sub-excess.ensures, c.saturating_sub.ensures) in
-    sym (first_cut can_read digits c.decimal_len-digits.ensures.some longest c.longest.ensures (excess / digits) (length name) name
+    sym (first_cut can_read digits c.decimal_len-digits.ensures.some longest c.longest-longest.ensures (excess / digits) (length name) name
     (omega (arith, less, is)) (omega (arith, times, is)))
 
 pub loop-turn-preserved : goal.loop-turn-preserved
@@ -23,7 +23,7 @@ loop-turn-preserved g c =
     let digits = c.decimal_len-digits.result in
     let less = length c.args.name.now - (c.loop-turn._turn + 1) in
     let text = c.loop-turn.text.now in
-    ap (λ n. first_readable can_read digits less (take n text)) c.saturating_sub.ensures
+    ap (λ n. first_readable can_read digits less (take n text)) c.saturating_sub-2.ensures
     ∙ (sym (first_further can_read digits (length c.args.name.now - c.loop-turn._turn) less text (omega (arith, c.loop-turn-test.true))
     (sym (c.if-reads.ensures {u = tt})))
     ∙ c.loop-turn.invariant)

@@ -17,6 +17,6 @@ pub returns-clause-script : goal.returns-clause-script
 returns-clause-script c config s rest is flat names readable begins =
     let short : config.max_name_length < 2 ^ 64 = omega (arith, is) in
     ok_then _ _ c.lifted_func_type.result
-    (λ f reads. lifted_scripted short (shown_func c.args.core.now) s f _ rest _ flat names readable begins
+    (λ f reads. lifted_scripted config short (shown_func c.args.core.now) s f _ rest _ flat names readable begins
     (subst (λ n. ReadsLiftedType n (shown_func c.args.core.now) c.args.u.now f c.lifted_func_type.new.u) (sym is) reads))
     c.lifted_func_type.ensures.reads

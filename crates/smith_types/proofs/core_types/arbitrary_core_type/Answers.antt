@@ -25,10 +25,10 @@ returns-clause-made c =
     })
 
 pub returns-clause-script : goal.returns-clause-script
-returns-clause-script c e rest formed limits texts need few said =
+returns-clause-script c e rest formed limits texts need few short said =
     let config = c.args.config.now in
     let own = own_of (inward c.args.scopes.now) in
     let fuel = c.args.fuel.now in
     let P : List ℕ → Type 0 = λ bytes. MadeCore config own bytes fuel (shown_core c.in_ok-made.made) c.make_core_type.new.u c.make_core_type.new.fuel in
-    let d = made_core_same (subst P said c.in_ok-made.ensures.made) (core_read config own fuel e rest formed limits texts need few c.ranges.config.max_name_length.fits) in
+    let d = made_core_same (subst P said c.in_ok-made.ensures.made) (core_read config own fuel e rest formed limits texts need few short) in
     (ap shown_core c.in_ok-shared.ensures.ok ∙ d.value, d.rest)

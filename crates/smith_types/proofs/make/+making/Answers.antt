@@ -1,4 +1,4 @@
-use Rattle.std.proofs.Common.{◌≡◌, ◌<◌, refl, sym, ap, ◌∙◌, subst, arith, true, false, append-nil, length, length-drop}
+use Rattle.std.proofs.Common.{◌≡◌, ◌<◌, refl, rules, sym, ap, ◌∙◌, subst, arith, true, false, append-nil, length, length-drop}
 use Rattle.std.proofs.lemmas.Result.{IfOk-weaker}
 use Rattle.smith_input.proofs.Reading.{tail_trans, more_tail}
 use Rattle.smith_syntax.specs.Entries.{FullDecl, function, in_order}
@@ -99,6 +99,12 @@ items::read_type_decl-returns-clause-scopes t c =
           (instance_type_decl c.in_ok-ty.ty) c.in_ok-ty.ensures.mark;
       outer = same_changed adds;
     }
+
+pub scoped::read_declarations-returns-in_err-declare-clause-input : goal.scoped::read_declarations-returns-in_err-declare-clause-input
+scoped::read_declarations-returns-in_err-declare-clause-input t c = record {
+  tail = tail_trans c.declare.ensures.input.tail (tail_trans (more_tail c.more_of.ensures) c.loop-done.invariant.tail);
+  memory = search rules;
+}
 
 pub scoped::read_declarations-returns-then-not-more_of-clause-made : goal.scoped::read_declarations-returns-then-not-more_of-clause-made
 scoped::read_declarations-returns-then-not-more_of-clause-made t c = stops c.loop-done.invariant.progress _ c.more_of.result c.more_of.ensures c.if-not-more_of.true

@@ -103,7 +103,7 @@ module _ (config : Config) (stack : Open) (before : List NamedExtern) (is : List
     entry = import_shown x
 
     import_is_read : (counts : RefTotals) → counts ≡ totals_of (with_imports stack entries) → ReadsRef config own counts true false b x.ty mid
-        → ((so_far : List NamedExtern) → HoldsExterns tables.imports so_far → ReadsNamedExtern so_far mid (extern_of x) rest)
+        → ((so_far : List NamedExtern) → HoldsExterns tables.imports so_far → ReadsNamedExtern config so_far mid (extern_of x) rest)
         → ReadsImportValue config stack before is b x rest (is ++ x ∷ [])
     import_is_read counts e of named = grind arith
 

@@ -22,8 +22,8 @@ unreachable-requires c =
 pub canonical_abi_for-requires : goal.canonical_abi_for-requires
 canonical_abi_for-requires c = grind (arith, lowered_scalar)
 
-pub inverse_scalar_canonical_abi_for-requires : goal.inverse_scalar_canonical_abi_for-requires
-inverse_scalar_canonical_abi_for-requires c = record {
+pub lifted_func_type-requires : goal.lifted_func_type-requires
+lifted_func_type-requires c = record {
   liftable =
       flattens_liftable (subst (λ f. Flattens c.deref-2.result.now (shown_func f)) (sym c.deref-3.ensures) c.in_ok-core.ensures.flattens);
 }
@@ -35,10 +35,10 @@ returns-clause-reads c =
     c.in_ok-core.ensures.flattens in
     let d = c.args.self.now in
     let own = own_scope d.scopes.now in
-    let low = c.inverse_scalar_canonical_abi_for.new.u in
-    IfOk-weaker c.inverse_scalar_canonical_abi_for.result
-    (λ f. ReadsLiftedType core c.args.u.now f low) (λ f. ReadsLiftedTypeOf own d.component.now.tables c.args.core_func_index c.args.u.now f low)
+    let low = c.lifted_func_type.new.u in
+    IfOk-weaker c.lifted_func_type.result
+    (λ f. ReadsLiftedType d.config.now.max_name_length core c.args.u.now f low) (λ f. ReadsLiftedTypeOf d.config.now own d.component.now.tables c.args.core_func_index c.args.u.now f low)
     (λ f reads. lifts_as d.scopes.now d.component.now.tables c.args.core_func_index c.index-func_index.result.now c.index-ty.result.now c.requires.known
-    c.index-func_index.ensures c.index-ty.ensures c.get.result.now.value c.get.ensures.value c.in-Func.func (sym c.deref.ensures ∙ c.in-Func.is) core
+    c.index-func_index.ensures c.index-ty.ensures c.get.result.now.value c.get.ensures.value c.in-Func.func (sym c.deref.ensures ∙ c.in-Func.is) d.config.now core
     c.deref-2.result.now f c.args.u.now low c.deref-2.ensures flat reads)
-    c.inverse_scalar_canonical_abi_for.ensures.reads
+    c.lifted_func_type.ensures.reads
