@@ -1,6 +1,6 @@
 -- What a type section reads: well formed types, as many as there must be, within the limits and their fuel, a tail of the bytes; and
 -- what its script says.
-use Rattle.std.proofs.Common.{◌≡◌, ℕ, suc, ◌+◌, ◌-◌, ◌≤◌, ◌^◌, max, List, [], ◌∷◌, ◌++◌, length, fold, arith, refl, sym, ap, ◌∙◌, subst, length-append}
+use Rattle.std.proofs.Common.{◌≡◌, ℕ, suc, ◌+◌, ◌-◌, ◌<◌, ◌≤◌, ◌^◌, max, List, [], ◌∷◌, ◌++◌, length, fold, arith, refl, sym, ap, ◌∙◌, subst, length-append}
 use Rattle.std.specs.List.{AllByRecursion}
 use Rattle.smith_input.specs.Loops.{Along, after_all}
 use Rattle.smith_input.specs.Reading.{IsTail}

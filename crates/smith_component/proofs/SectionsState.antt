@@ -215,7 +215,7 @@ module _ (config : Config) (outer : List Tree) (t : Tree) (es : List ExportEntry
   pub export_is_read : has_room own false ≡ true → (n : ℕ) (b mid rest : List ℕ) (set : BTreeSet (String Global)) (x : Export)
       → n ≡ length tables.functions.items
       → Reads n b x.func_index mid
-      → set ≡ tables.exports → ReadsUnique (ReadsKebab 100) set mid (shown_export x).name rest
+      → set ≡ tables.exports → ReadsUnique (ReadsKebab config.max_name_length) set mid (shown_export x).name rest
       → ReadsExport config outer t es b (shown_export x) rest (es ++ shown_export x ∷ [])
   export_is_read room n b mid rest set x count reads same (text, read, unique) = grind (arith, names_are, functions_there, new_among)
 

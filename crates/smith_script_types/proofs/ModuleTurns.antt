@@ -83,10 +83,10 @@ module _ (config : Config) (around : Scope) where
   decl_fuel own ds m n (imports from name e) =
       ap
       (λ x. script_item config around (state own ds m) item.Import
-      ++ (script_text 100 from ++ (script_new_text 100 (length (names_from from ds)) name ++ x)))
+      ++ (script_text config.max_name_length from ++ (script_new_text config.max_name_length (length (names_from from ds)) name ++ x)))
       (entity_fuel own ds m n e)
   decl_fuel own ds m n (exports name e) =
-      ap (λ x. script_item config around (state own ds m) item.Export ++ (script_new_text 100 (length (module_export_names ds)) name ++ x))
+      ap (λ x. script_item config around (state own ds m) item.Export ++ (script_new_text config.max_name_length (length (module_export_names ds)) name ++ x))
       (entity_fuel own ds m n e)
   decl_fuel own ds m n (declares f) = refl
   decl_fuel own ds m n (aliases count i) = refl

@@ -23,7 +23,7 @@ loop-turn-preserved g c =
     let digits = c.decimal_len-digits.result in
     let less = length c.args.name.now - (c.loop-turn._turn + 1) in
     let text = c.loop-turn.text.now in
-    ap (λ n. first_readable can_read digits less (take n text)) c.saturating_sub-2.ensures
+    ap (λ n. first_readable can_read digits less (take n text)) c.saturating_sub-in-loop-turn.ensures
     ∙ (sym (first_further can_read digits (length c.args.name.now - c.loop-turn._turn) less text (omega (arith, c.loop-turn-test.true))
     (sym (c.if-reads.ensures {u = tt})))
     ∙ c.loop-turn.invariant)
