@@ -11,13 +11,7 @@ use Rattle.smith_read.specs.declared.search.Search.{Search}
 use Rattle.smith_read.specs.declared.search.Search.TheVariants.{Ahead, Over}
 use Rattle.smith_read.proofs.Seeking.{and_then, past_past, sought_none}
 use Rattle.smith_change.proofs.Seeking.{both, sought_both, sought_here, sought_later}
-
-pub map_drop : {A B : Type 0} (f : A → B) (xs : List A) (i : ℕ) (x : A) → i < length xs → x ≡ get_or xs i x
-    → map f (drop i xs) ≡ f x ∷ map f (drop (i + 1) xs)
-map_drop f xs i x h e = ap (map f) (rest_at xs i x h e)
-
-pub map_dropped : {A B : Type 0} (f : A → B) (xs : List A) (i : ℕ) → length xs ≤ i → map f (drop i xs) ≡ []
-map_dropped f xs i h = ap (map f) (drop_past xs i h)
+use Rattle.smith_input.proofs.Lists.{map_drop, map_dropped}
 
 range_end : {A : Type 0} (xs : List A) (i : ℕ) → slice_range xs i (length xs) ≡ drop i xs
 range_end xs i = take_rest xs i

@@ -78,11 +78,6 @@ moved_both n m s t u None q on more is = absurd cc
 moved_both n m s t u (Some x) None on more is = absurd cc
 moved_both n m s t u (Some x) (Some y) on more is = more refl ∙ ap (past m) (on refl) ∙ past_past m n s
 
--- of what is there, one thing follows from another
-pub ok_then : {A E : Type 0} (P Q : A → Type 0) (r : Result A E) → ((x : A) → P x → Q x) → IfOk r P → IfOk r Q
-ok_then P Q (Ok x) f h = f x h
-ok_then P Q (Err e) f h = h
-
 -- A place of its own, and then the places inside.
 module _ {A : Type 0} (n : ℕ) (own : Option A) (later : ℕ → Option A) (x : A) where
   pub sought_here : (s : Search) → is_here s ≡ true → sought (1 + n) s (first_or own later) x ≡ own

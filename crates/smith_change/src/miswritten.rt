@@ -136,7 +136,8 @@ fn put_number(out: &mut Vec<u8>, number: u32) -> Result<(), AllocError>
 
 // A section behind other bytes.
 fn behind(alloc: Global, front: &[u8], section: Section<'_>) -> Result<Vec<u8>, AllocError>
-    ensures { IfOk result (λ b. with_section front.now section.entry.id section.entry.length (Some section.entry.rest.now)
+    ensures { IfOk result (λ b. with_section front.now section.entry.id section.entry.length
+        (Some section.entry.rest.now)
         ≡ Some b.items) }
 {
     let mut all = Vec::from_slice(alloc, front)?;
@@ -178,7 +179,8 @@ fn with_length(
 
 // The bytes with the greatest count of the section behind them, if it is a list.
 fn with_count(alloc: Global, front: &[u8], section: Section<'_>) -> Changed<Vec<u8>>
-    ensures { IfOk result (λ r. IfSome r (λ b. (n : ℕ) × (rest : List ℕ) × (u n ⊕ Some rest ≡ Some section.entry.rest.now)
+    ensures { IfOk result (λ r. IfSome r (λ b. (n : ℕ) × (rest : List ℕ)
+        × (u n ⊕ Some rest ≡ Some section.entry.rest.now)
         × (with_section front.now section.entry.id section.entry.length (u most_count ⊕ Some rest) ≡ Some b.items))) }
 {
     if !section.is_list() {

@@ -14,8 +14,8 @@ use crate::parts::change_parts;
 use smith_read::{ComponentTree, Search, WriteError, read, write};
 use std::alloc::{AllocError, Global};
 
-/// How many alternatives a place may have: the number of a change is this times that of its place, and the number of the
-/// alternative.
+/// How many alternatives a place may have: the number of a change is this times that of its place, and the number of
+/// the alternative.
 pub const ALTERNATIVES: usize = 16;
 
 /// A change, and the component to which it leads.

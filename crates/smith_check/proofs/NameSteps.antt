@@ -18,12 +18,13 @@ use Rattle.smith_input.proofs.DistinctNames.{distinct_new, new_back, new_distinc
 use Rattle.smith_syntax.specs.WellFormed.{Named}
 use Rattle.smith_input.proofs.Rests.{drop_past}
 use Rattle.smith_input.specs.Kebab.{IsDigit, IsLetter, Kebab, hyphen, word}
-use Rattle.smith_input.proofs.Kebab.{Follows, not_hyphen}
-use Rattle.smith_input.proofs.NameShapes.{Fits, Goes, kebab_goes}
+use Rattle.smith_input.proofs.Kebab.{Follows, not_hyphen, begins_word, in_word, at_hyphen, is_hyphen}
+use Rattle.smith_input.proofs.NameShapes.{Fits, Goes, kebab_goes, goes_kebab as goes_follows}
 use Rattle.smith_check.specs.Taken.{Holds, has_pair}
 use Rattle.smith_check.specs.declared.modules.ModuleNames.{ModuleNames}
 use Rattle.smith_check.specs.Judges.{Decides}
 use Rattle.smith_check.proofs.Judging.{Same, same_by, same_trans}
+use Rattle.smith_input.proofs.NameSets.{cond_or}
 
 -- names that are distinct, and one more
 pub distinct_push : (before : List (List ℕ)) (n : List ℕ) → is_among before n ≡ false → IsDistinct bytes_eq before → IsDistinct bytes_eq (before ++ n ∷ [])
@@ -31,10 +32,6 @@ distinct_push before n new d = new_distinct [] (before ++ n ∷ []) (new_more []
 
 pub distinct_last : (before : List (List ℕ)) (n : List ℕ) → IsDistinct bytes_eq (before ++ n ∷ []) → is_among before n ≡ false
 distinct_last before n d = (new_back [] before (n ∷ []) (distinct_new [] (before ++ n ∷ []) (none_before (before ++ n ∷ [])) d)).0
-
-cond_or : (b x : Bool) → cond b true x ≡ (b || x)
-cond_or true x = refl
-cond_or false x = refl
 
 -- the set with one more name
 pub holds_more : (s n : BTreeSet (Bor (List ℕ))) (k : Bor (List ℕ)) (before : List (List ℕ)) → Holds (record { set = s }) before
@@ -84,31 +81,6 @@ pub none_more : (names : List (List ℕ)) → Named names → Named (names ++ []
 none_more names n = subst Named (sym (append-nil names)) n
 
 -- names in kebab case byte by byte
-
-begins_word : (c : ℕ) (cs : List ℕ) → IsLetter c → Follows false cs → Follows true (c ∷ cs)
-begins_word c cs l (inl w) = word (l, w)
-begins_word c cs l (inr s) = rw s.2 (hyphen (c ∷ s.0) s.1 (l, s.3) s.4)
-
-in_word : (c : ℕ) (cs : List ℕ) → (IsLetter c ⊎ IsDigit c) → Follows false cs → Follows false (c ∷ cs)
-in_word c cs l (inl w) = inl (l, w)
-in_word c cs l (inr s) = inr (c ∷ s.0, s.1, ap (λ k. c ∷ k) s.2, (l, s.3), s.4)
-
-at_hyphen : (cs : List ℕ) → Follows true cs → Follows false (45 ∷ cs)
-at_hyphen cs k = inr ([], cs, refl, tt, k)
-
-is_hyphen : (c : ℕ) → c ≡ 45 → nat_eq c 45 ≡ true
-is_hyphen c h = grind (arith, nat_tests)
-
-goes_follows : (b : Bool) (cs : List ℕ) → Goes b cs → Follows b cs
-goes_follows true [] g = absurd g
-goes_follows false [] g = inl tt
-goes_follows true (c ∷ cs) g = begins_word c cs g.0 (subst (λ b. Follows b cs) (not_hyphen c (inl g.0)) (goes_follows (nat_eq c 45) cs g.1))
-goes_follows false (c ∷ cs) g =
-    let rest : Follows (nat_eq c 45) cs = goes_follows (nat_eq c 45) cs g.1 in
-    ⊎_elim
-    (λ (w : IsLetter c ⊎ IsDigit c). in_word c cs w (subst (λ b. Follows b cs) (not_hyphen c w) rest))
-    (λ (h : c ≡ 45). subst (λ k. Follows false (k ∷ cs)) (sym h) (at_hyphen cs (subst (λ b. Follows b cs) (is_hyphen c h) rest)))
-    g.0
 
 pub kebab_whole : (cs : List ℕ) → Same (Kebab cs) (Goes true cs)
 kebab_whole cs = record { to = λ k. kebab_goes k; from = λ g. goes_follows true cs g }

@@ -86,7 +86,7 @@ module _ {A : Type 0} (text : A → List ℕ) (xs : List A) (i : ℕ) where
 
 -- members with names
 
-names_named : {B : Type 0} (ps : List (String Global × B)) → map (λ p. p.0) (map named ps) ≡ map (λ p. string_bytes p.0) ps
+pub names_named : {B : Type 0} (ps : List (String Global × B)) → map (λ p. p.0) (map named ps) ≡ map (λ p. string_bytes p.0) ps
 names_named [] = refl
 names_named (p ∷ ps) = ap (λ z. string_bytes p.0 ∷ z) (names_named ps)
 

@@ -51,7 +51,8 @@ Spoken config (component_type ds) = Unit {0}
 Spoken config (instance_type ds) = Unit {0}
 
 -- Those of types that can be read can.
-pub types_spoken : (config : Config) (es : List Entry) (own : Scope) (outer : List Scope) → FormedTypes es own outer → AllByRecursion (IsReadableType config) es → AllByRecursion (Spoken config) es
+pub types_spoken : (config : Config) (es : List Entry) (own : Scope) (outer : List Scope) → FormedTypes es own outer
+    → AllByRecursion (IsReadableType config) es → AllByRecursion (Spoken config) es
 types_spoken config [] own outer f r = tt
 types_spoken config (defined t ∷ es) own outer f r = (tt, types_spoken config es (with_type own (defined t)) outer f.1 r.1)
 types_spoken config (function s ∷ es) own outer f r = ((f.0.0, r.0), types_spoken config es (with_type own (function s)) outer f.1 r.1)
@@ -86,7 +87,8 @@ module _ (config : Config) (s : Growing) where
       turn_read Lower said rest (with_canon s (lower f)) (item_read sp 0 _ Lower (said ++ rest) refl (lt-ltb 0 (length fs) (omega (arith, some))))
       (f, among_read nat_eq Decides-eqb fs f found.0 rest (omega (arith, few, length-places (is_scalar_type sp.types) 0 sp.functions)) found.1, refl)
 
-  lift_read : config.max_name_length < 2 ^ 64 → (c t : ℕ) (rest : List ℕ) → FormedCanon (spaces_at s) (lift c t) → AllByRecursion (Spoken config) (spaces_at s).types
+  lift_read : config.max_name_length < 2 ^ 64 → (c t : ℕ) (rest : List ℕ) → FormedCanon (spaces_at s) (lift c t)
+      → AllByRecursion (Spoken config) (spaces_at s).types
       → length (spaces_at s).core_functions ≤ 2 ^ 64 → length (spaces_at s).types ≤ 2 ^ 64
       → CanonTurn config s (script_canon config (spaces_at s) (lift c t) ++ rest) Lift rest (with_canon s (lift c t))
   lift_read short c t rest (signature, lowered, f, is, lowers, has, (core, flat, other)) spoken few many =
@@ -121,16 +123,19 @@ module _ (config : Config) (s : Growing) where
       turn_read Lift (script_canon_rest config sp (lift c t)) rest (with_canon s (lift c t))
       (item_read sp 1 _ Lift _ refl (lt-ltb 0 (length sp.core_functions) (omega (arith, below)))) all
 
-  canon_read : config.max_name_length < 2 ^ 64 → (c : Canon) (rest : List ℕ) → FormedCanon (spaces_at s) c → AllByRecursion (Spoken config) (spaces_at s).types → functions_at (spaces_at s) ≤ 2 ^ 64
+  canon_read : config.max_name_length < 2 ^ 64 → (c : Canon) (rest : List ℕ) → FormedCanon (spaces_at s) c → AllByRecursion (Spoken config) (spaces_at s).types
+      → functions_at (spaces_at s) ≤ 2 ^ 64
       → length (spaces_at s).types ≤ 2 ^ 64
       → CanonTurn config s (script_canon config (spaces_at s) c ++ rest) (canon_item_of c) rest (with_canon s c)
   canon_read short (lift c t) rest h spoken few many = lift_read short c t rest h spoken (omega (arith, few)) many
   canon_read short (lower f) rest h spoken few many = lower_read f rest h (omega (arith, few))
 
 -- canonical functions in a row
-pub canons_from : (cs : List Canon) (config : Config) → config.max_name_length < 2 ^ 64 → (max done : ℕ) (s : Growing) (sp : Spaces) (rest : List ℕ) → spaces_at s ≡ sp → FormedCanons cs sp
+pub canons_from : (cs : List Canon) (config : Config) → config.max_name_length < 2 ^ 64 → (max done : ℕ) (s : Growing) (sp : Spaces) (rest : List ℕ)
+    → spaces_at s ≡ sp → FormedCanons cs sp
     → AllByRecursion (Spoken config) sp.types → length sp.types ≤ 2 ^ 64 → functions_at sp + length cs ≤ 2 ^ 64 → done + length cs ≤ max
-    → Loop NoCanon (CanonTurn config) config.loop_bits 0 max done s (script_loop (script_canon config) after_canon 0 max done sp cs ++ rest) (map canon_item_of cs) rest
+    → Loop NoCanon (CanonTurn config) config.loop_bits 0 max done s (script_loop (script_canon config) after_canon 0 max done sp cs ++ rest)
+    (map canon_item_of cs) rest
     (record { before = s.before; funcs = s.funcs ++ cs })
 canons_from [] config short max done s sp rest e formed spoken many few fits =
     no_more (end_read config.loop_bits 0 max done rest (omega arith) (omega (arith, fits))) (λ i. record { before = s.before; funcs = append-nil s.funcs i })
@@ -151,8 +156,10 @@ canons_from (c ∷ cs) config short max done s sp rest e formed spoken many few 
     (omega (arith, many, ap length keep.types)) (omega (arith, few, functions_after sp c)) (omega (arith, fits)) in
     let whole : ((says ++ said) ++ later) ++ rest ≡ says ++ (said ++ (later ++ rest)) = append_assoc (says ++ said) later rest
     ∙ append_assoc says said (later ++ rest) in
-    let G : List Canon → Type 0 = λ z. Loop NoCanon (CanonTurn config) config.loop_bits 0 max done s (((says ++ said) ++ later) ++ rest) (map canon_item_of (c ∷ cs)) rest
+    let G : List Canon → Type 0 = λ z. Loop NoCanon (CanonTurn config) config.loop_bits 0 max done s (((says ++ said) ++ later) ++ rest)
+    (map canon_item_of (c ∷ cs)) rest
     (record { before = s.before; funcs = z }) in
     let B : List ℕ → Type 0 = λ z. Loop NoCanon (CanonTurn config) config.loop_bits 0 max done s z (map canon_item_of (c ∷ cs)) rest
     (record { before = s.before; funcs = (s.funcs ++ c ∷ []) ++ cs }) in
-    subst G (append_assoc s.funcs (c ∷ []) cs) (subst B (sym whole) (an_item (more_read config.loop_bits 0 max done (said ++ (later ++ rest)) (omega (arith, fits))) one more))
+    subst G (append_assoc s.funcs (c ∷ []) cs)
+    (subst B (sym whole) (an_item (more_read config.loop_bits 0 max done (said ++ (later ++ rest)) (omega (arith, fits))) one more))

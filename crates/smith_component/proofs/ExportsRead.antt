@@ -73,7 +73,8 @@ module _ (config : Config) (outer : List Tree) (t : Tree) where
         next_is = refl;
       })
 
-  all_sayable : config.max_name_length < 2 ^ 64 → (s xs : List ExportEntry) → AreReachable config.max_name_length (names_at s) (export_names xs) → FormedExports xs (spaces_of (with_exports t s))
+  all_sayable : config.max_name_length < 2 ^ 64 → (s xs : List ExportEntry) → AreReachable config.max_name_length (names_at s) (export_names xs)
+      → FormedExports xs (spaces_of (with_exports t s))
       → AllByRecursion Kebab (export_names xs)
       → OfferedExports xs (spaces_of (with_exports t s)) (marked_inner config outer (with_exports t s))
       → function_count t + (length (exports_of t) + (length s + length xs)) ≤ 2 ^ 64 → Along Sayable (λ u x. u ++ x ∷ []) s xs
@@ -107,4 +108,5 @@ module _ (config : Config) (outer : List Tree) (t : Tree) where
       let B : List ℕ = script_exports config t es ++ rest in
       let L : List ExportEntry → Type 0 =
       λ u. Loop (NoExport config outer t) (ReadsExport config outer t) config.loop_bits 0 (config.max_exports - length (exports_of t)) 0 [] B es rest u in
-      subst L (all_of_them [] es) (loop_read (script_export config t) (λ u x. u ++ x ∷ []) Sayable export_read es 0 [] rest all (omega arith) (omega (arith, fits)))
+      subst L (all_of_them [] es) (loop_read (script_export config t) (λ u x. u ++ x ∷ []) Sayable export_read es 0 [] rest all (omega arith)
+      (omega (arith, fits)))

@@ -102,7 +102,8 @@ module _ (config : Config) (stack : Open) (few : length (types_of stack.inner) +
         named = record {
           mid = 0 ∷ rest;
           name = subst (λ z. ReadsNew config.max_name_length z (n ++ (0 ∷ rest)) x.name (0 ∷ rest)) (sym same)
-              (subst (λ c. ReadsNew config.max_name_length (names_at s) (script_new config.max_name_length c x.name ++ (0 ∷ rest)) x.name (0 ∷ rest)) (names_count s)
+              (subst (λ c. ReadsNew config.max_name_length (names_at s) (script_new config.max_name_length c x.name ++ (0 ∷ rest)) x.name (0 ∷ rest))
+              (names_count s)
               (new_script_read config.max_name_length (names_at s) x.name (0 ∷ rest) (let short = h.short in omega (arith, short)) h.kebab h.reachable));
           url = no_url (flips_zero rest);
         };
@@ -133,7 +134,8 @@ module _ (config : Config) (stack : Open) (few : length (types_of stack.inner) +
   one_allowed s x (to.Component i) e f r = below _ _ (omega (arith, r.components, components_more stack s x, ap (λ z. length (component_of z)) e))
   one_allowed s x (to.Instance i) e f r = below _ _ (omega (arith, r.instances, instances_more stack s x, ap (λ z. length (instance_of z)) e))
 
-  all_sayable : config.max_name_length < 2 ^ 64 → (s xs : List ImportEntry) → AreReachable config.max_name_length (names_at s) (import_names xs) → AllByRecursion (FormedImport (scope_of stack.inner)) xs
+  all_sayable : config.max_name_length < 2 ^ 64 → (s xs : List ImportEntry) → AreReachable config.max_name_length (names_at s) (import_names xs)
+      → AllByRecursion (FormedImport (scope_of stack.inner)) xs
       → AllByRecursion Kebab (import_names xs) → OfferedImports xs (marked_at s)
       → Room config (totals_at (s ++ xs)) → Along Sayable (λ t x. t ++ x ∷ []) s xs
   all_sayable short s [] p f k o h = tt
@@ -150,12 +152,14 @@ module _ (config : Config) (stack : Open) (few : length (types_of stack.inner) +
           room = one_allowed s x x.to refl f.0.1 (room_before next xs all);
         },
         all_sayable short next xs
-            (subst (λ z. AreReachable config.max_name_length z (import_names xs)) (sym (names_with_more (λ (i : ImportEntry). i.name) (imports_of stack.inner) s x)) p.1)
+            (subst (λ z. AreReachable config.max_name_length z (import_names xs))
+            (sym (names_with_more (λ (i : ImportEntry). i.name) (imports_of stack.inner) s x)) p.1)
             f.1 k.1 (subst (OfferedImports xs) (sym (imports_marked_more config stack s x)) o.2) all,
       )
 
   -- The script of the imports of a plan is read as them.
-  pub imports_read : config.max_name_length < 2 ^ 64 → (is : List ImportEntry) (rest : List ℕ) → AreReachable config.max_name_length (import_names (imports_of stack.inner)) (import_names is)
+  pub imports_read : config.max_name_length < 2 ^ 64 → (is : List ImportEntry) (rest : List ℕ)
+      → AreReachable config.max_name_length (import_names (imports_of stack.inner)) (import_names is)
       → AllByRecursion (FormedImport (scope_of stack.inner)) is
       → Named (import_names (imports_of stack.inner ++ is)) → OfferedImports is (marked_inner config stack.outer stack.inner) → Room config (totals_at is)
       → length is ≤ config.max_imports - length (imports_of stack.inner) → ReadsImports config 0 stack (script_imports config stack is ++ rest) is rest
@@ -165,7 +169,8 @@ module _ (config : Config) (stack : Open) (few : length (types_of stack.inner) +
       subst (λ z. AreReachable config.max_name_length (import_names z) (import_names is)) (sym (append-nil (imports_of stack.inner))) reachable in
       let all = all_sayable short [] is start formed behind.0 (subst (OfferedImports is) (sym (imports_marked config stack [])) offered) room in
       let B : List ℕ = script_imports config stack is ++ rest in
-      let L : List ImportEntry → Type 0 = λ t. Loop (NoImport config stack) (ReadsImport config stack) config.loop_bits 0 (config.max_imports - length (imports_of stack.inner))
+      let L : List ImportEntry → Type 0 = λ t. Loop (NoImport config stack) (ReadsImport config stack) config.loop_bits 0
+      (config.max_imports - length (imports_of stack.inner))
       0 [] B is rest t in
       subst L (all_of_them [] is) (loop_read (script_import config stack) (λ t x. t ++ x ∷ []) Sayable import_read is 0 [] rest all (omega arith)
       (omega (arith, fits)))

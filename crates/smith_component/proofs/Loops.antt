@@ -6,7 +6,8 @@ use Rattle.smith_input.specs.Reading.{IsTail, More}
 use Rattle.smith_input.proofs.Reading.{more_past, more_tail, more_within, tail_trans}
 
 -- What a turn leaves is a tail of what there was at first.
-pub turn_left : {bits done least most : ℕ} {answer : Bool} {first b mid rest : List ℕ} → IsTail rest mid → More bits done least most b answer mid → IsTail b first
+pub turn_left : {bits done least most : ℕ} {answer : Bool} {first b mid rest : List ℕ} → IsTail rest mid → More bits done least most b answer mid
+    → IsTail b first
     → IsTail rest first
 turn_left turn more before = tail_trans turn (tail_trans (more_tail more) before)
 

@@ -119,7 +119,8 @@ module _ (config : Config) (stack : Open) (rest : List ℕ) where
       let limited : AllByRecursion (CoreLimits config) ts = all_back _ (core_types_of stack.inner) ts fits.within_core_types in (
         ts,
         _,
-        core_types_read config (omega (arith, consistent.names)) ts (config.max_types - length (core_types_of stack.inner)) (marked_inner config stack.outer stack.inner) rest
+        core_types_read config (omega (arith, consistent.names)) ts (config.max_types - length (core_types_of stack.inner))
+            (marked_inner config stack.outer stack.inner) rest
             (formed_core_marked config stack.outer stack.inner ts formed) limited stands readable (omega (arith, few))
             (omega (arith, few, consistent.types, ap length (marked_core_types config stack.outer stack.inner))),
         refl,
@@ -168,8 +169,16 @@ module _ (config : Config) (stack : Open) (rest : List ℕ) where
       let room : Room config (totals_of (with_imports stack is)) =
       record { modules = maxima.modules; funcs = limits.functions; components = maxima.components; instances = maxima.instances } in
       let fits : length (imports_of stack.inner) + length is ≤ config.max_imports =
-      omega (arith, limits.imports, length-own-add imports_in stack.inner (imports is)) in
-      (add stack.inner (imports is), (is, imports_read config stack few (omega (arith, consistent.names)) is rest readable formed.0 formed.1 offered room (omega (arith, fits)), refl), refl)
+      omega (arith, limits.imports, length-own-add imports_in stack.inner (imports is)) in (
+        add stack.inner (imports is),
+        (
+          is,
+          imports_read config stack few (omega (arith, consistent.names)) is rest readable formed.0 formed.1 offered room
+              (omega (arith, fits)),
+          refl,
+        ),
+        refl,
+      )
 
   pub canons_part : IsConsistent config → AllByRecursion (Spoken config) (types_of stack.inner) → (fs : List Canon) → IsRead (canons fs)
   canons_part consistent spoken fs readable stands formed offered limits =
@@ -180,7 +189,8 @@ module _ (config : Config) (stack : Open) (rest : List ℕ) where
       let many : length (types_of inner) ≤ max_u32 = omega (arith, before.types, consistent.types) in
       let spaces = functions_counted inner in
       let read =
-      canons_from fs config (omega (arith, consistent.names)) (config.max_funcs - function_count inner) 0 (empty_section inner) (spaces_of inner) rest (spaces-add inner (canons [])) formed
+      canons_from fs config (omega (arith, consistent.names)) (config.max_funcs - function_count inner) 0 (empty_section inner) (spaces_of inner) rest
+      (spaces-add inner (canons [])) formed
       spoken (omega (arith, many)) (omega (arith, count, spaces.most, before.exports, consistent.funcs)) (omega (arith, count)) in
       (add inner (canons fs), (map canon_item_of fs, record { before = inner; funcs = fs }, read, refl), refl)
 

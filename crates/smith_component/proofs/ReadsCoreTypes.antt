@@ -70,9 +70,11 @@ module _ (config : Config) where
       (_, core_read config (scope_in s) config.max_type_size x rest formed limits readable lasts small short, refl)
 
   -- Their script is read as them.
-  pub core_types_read : config.max_name_length < 2 ^ 64 → (xs : List CoreEntry) (max : ℕ) (own : Marked) (rest : List ℕ) → FormedCores xs (scope_in own) → AllByRecursion (CoreLimits config) xs
+  pub core_types_read : config.max_name_length < 2 ^ 64 → (xs : List CoreEntry) (max : ℕ) (own : Marked) (rest : List ℕ) → FormedCores xs (scope_in own)
+      → AllByRecursion (CoreLimits config) xs
       → SmallCoreTypes config xs → AllByRecursion (IsReadableCore config) xs → length xs ≤ max → length own.core_types + length xs ≤ 2 ^ 63
       → ReadsCoreTypes config max own (script_core_types config max own xs ++ rest) xs rest (after_all with_core_entry own xs)
   core_types_read short xs max own rest f m l r few small =
-      loop_read (λ s x. script_core config (scope_in s) config.max_type_size x) with_core_entry Said (one_read short) xs 0 own rest (all_said xs own f m l r small)
+      loop_read (λ s x. script_core config (scope_in s) config.max_type_size x) with_core_entry Said (one_read short) xs 0 own rest
+      (all_said xs own f m l r small)
       (omega arith) (omega arith)

@@ -70,7 +70,8 @@ use Rattle.smith_component.proofs.ReadsCoreTypes as core_sections
 use Rattle.smith_component.proofs.ReadsTypes as type_sections
 
 -- Imports.
-small_imports : (config : Config) (stack : Open) → config.max_name_length < 2 ^ 64 → length (types_of stack.inner) + length (core_types_of stack.inner) ≤ 2 ^ 64 → (s is : List ImportEntry)
+small_imports : (config : Config) (stack : Open) → config.max_name_length < 2 ^ 64
+    → length (types_of stack.inner) + length (core_types_of stack.inner) ≤ 2 ^ 64 → (s is : List ImportEntry)
     → AllByRecursion (FormedImport (scope_of stack.inner)) is → AllByRecursion Kebab (import_names is) → OfferedImports is (marked_with_imports config stack s)
     → Along (λ u x. Small (script_import config stack u x)) (λ u x. u ++ x ∷ []) s is
 small_imports config stack short few s [] f k o = tt
@@ -101,7 +102,8 @@ small_exports config short t s (x ∷ xs) f k few = (
 small_canon_item : (s : Spaces) (item : CanonItem) → Small (script_among canon_equal.eq (canon_items s) item)
 small_canon_item s item = grind (arith, offers_few, small_few)
 
-small_canon : (config : Config) → config.max_name_length < 2 ^ 64 → (s : Spaces) (c : Canon) → FormedCanon s c → AllByRecursion (Spoken config) s.types → functions_at s ≤ 2 ^ 64 → length s.types ≤ 2 ^ 64
+small_canon : (config : Config) → config.max_name_length < 2 ^ 64 → (s : Spaces) (c : Canon) → FormedCanon s c → AllByRecursion (Spoken config) s.types
+    → functions_at s ≤ 2 ^ 64 → length s.types ≤ 2 ^ 64
     → Small (script_canon config s c)
 small_canon config short s (lower f) (signature, has, scalar) spoken few many = grind (arith, small_join, small_canon_item, small_place)
 small_canon config short s (lift c t) (signature, lowered, f, is, lowers, has, flat) spoken few many =
@@ -113,13 +115,15 @@ small_canon config short s (lift c t) (signature, lowered, f, is, lowers, has, f
     small_join (small_canon_item s (canon_item_of (lift c t))) (small_join (small_pick (length s.core_functions) c (omega (arith, few)) below)
     (subst (λ o. Small (script_lift config s t o)) (sym is) type))
 
-small_canons : (config : Config) → config.max_name_length < 2 ^ 64 → (cs : List Canon) (s : Spaces) → FormedCanons cs s → AllByRecursion (Spoken config) s.types → length s.types ≤ 2 ^ 64
+small_canons : (config : Config) → config.max_name_length < 2 ^ 64 → (cs : List Canon) (s : Spaces) → FormedCanons cs s
+    → AllByRecursion (Spoken config) s.types → length s.types ≤ 2 ^ 64
     → functions_at s + length cs ≤ 2 ^ 64 → Along (λ u c. Small (script_canon config u c)) after_canon s cs
 small_canons config short [] s f spoken many few = tt
 small_canons config short (c ∷ cs) s f spoken many few =
     let keep = canon_keeps s c in (
       small_canon config short s c f.0 spoken (omega (arith, few)) many,
-      small_canons config short cs (after_canon s c) f.1 (subst (AllByRecursion (Spoken config)) (sym keep.types) spoken) (omega (arith, many, ap length keep.types))
+      small_canons config short cs (after_canon s c) f.1 (subst (AllByRecursion (Spoken config)) (sym keep.types) spoken)
+          (omega (arith, many, ap length keep.types))
           (omega (arith, few, functions_after s c)),
     )
 
@@ -211,7 +215,8 @@ module _ (config : Config) (consistent : IsConsistent config) (outer : List Tree
       let stack : Open = record { outer = outer; inner = before } in
       let front = own_limits-front config before (imports is) (limits_with (imports is) t said) in
       small_loop (script_import config stack) (λ s x. s ++ x ∷ []) 0 (config.max_imports - length (imports_of before)) 0 [] is
-      (small_imports config stack (omega (arith, consistent.names)) (omega (arith, front.types, front.core_types, consistent.types)) [] is said.known.formed.0.0 behind.0
+      (small_imports config stack (omega (arith, consistent.names))
+      (omega (arith, front.types, front.core_types, consistent.types)) [] is said.known.formed.0.0 behind.0
       (subst (OfferedImports is) (sym (imports_marked config stack [])) said.known.offered.0))
 
   small_canon_part : (fs : List Canon) (t : Tree) → Said config outer before (first (canons fs) t) → Small (script_part (canons fs) config outer before)
@@ -221,7 +226,8 @@ module _ (config : Config) (consistent : IsConsistent config) (outer : List Tree
       let count : function_count before + length fs ≤ config.max_funcs = omega (arith, limits.functions, function_count-add before (canons fs)) in
       let spaces = functions_counted before in
       small_loop (script_canon config) after_canon 0 (config.max_funcs - function_count before) 0 (spaces_of before) fs
-      (small_canons config (omega (arith, consistent.names)) fs (spaces_of before) said.known.formed.0 said.known.spoken (omega (arith, front.types, consistent.types))
+      (small_canons config (omega (arith, consistent.names)) fs (spaces_of before) said.known.formed.0 said.known.spoken
+      (omega (arith, front.types, consistent.types))
       (omega (arith, count, spaces.most, front.exports, consistent.funcs)))
 
   small_export_part : (es : List ExportEntry) (t : Tree) → Said config outer before (first (exports es) t)

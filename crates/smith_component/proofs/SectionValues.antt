@@ -62,7 +62,8 @@ outer_popped old new x e = ap trees_of e ∙ outer_push new x
 -- What is read of types and core types is read of what they show.
 
 pub types_shown : (config : Config) (outer : List Marked) {min max : ℕ} {own next : Marked} {b rest : List ℕ} {ts : List (Rc DefType Global)}
-    → Loop Never (ReadsTypeValue config outer) config.loop_bits min max 0 own b ts rest next → ReadsTypes config outer min max own b (map shown_shared ts) rest next
+    → Loop Never (ReadsTypeValue config outer) config.loop_bits min max 0 own b ts rest next
+    → ReadsTypes config outer min max own b (map shown_shared ts) rest next
 types_shown config outer {own = own} {next = next} {b = b} {rest = rest} {ts = ts} r =
     loop_map shown_shared (λ s c t q u (left, made, e). (record { full = full_type t.value; left = left; made = made; shown = refl }, e)) 0 own b ts rest next r
 

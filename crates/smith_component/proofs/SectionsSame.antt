@@ -29,7 +29,8 @@ use Rattle.smith_tree.specs.declared.choices.CanonItem.{CanonItem}
 use Rattle.smith_tree.specs.declared.choices.CanonItem.TheVariants.{Lower, Lift}
 
 -- What a URL leaves does not depend on those that were used.
-url_left : {config : Config} {used others : List (List ℕ)} {b r s : List ℕ} {u v : Option (List ℕ)} → ReadsMaybeUrl config used b u r → ReadsMaybeUrl config others b v s → r ≡ s
+url_left : {config : Config} {used others : List (List ℕ)} {b r s : List ℕ} {u v : Option (List ℕ)} → ReadsMaybeUrl config used b u r
+    → ReadsMaybeUrl config others b v s → r ≡ s
 url_left (no_url f) (no_url g) = (flips_unique f g).1
 url_left (no_url f) (a_url g n e) = absurd (let z : false ≡ true = (flips_unique f g).0 in cc)
 url_left (a_url g n e) (no_url f) = absurd (let z : true ≡ false = (flips_unique g f).0 in cc)
@@ -45,8 +46,10 @@ module _ (config : Config) (stack : Open) where
       let ns : List (List ℕ) = import_names (imports_of stack.inner ++ s) in
       let o = ref_same config (marked_with_imports config stack s) (totals_of (with_imports stack s)) true false b x.to y.to i.mid j.mid i.of j.of in
       let A : List ℕ → Type 0 = λ z. ReadsNew config.max_name_length ns z x.name i.named.mid in
-      let read : ReadsNew config.max_name_length ns i.mid x.name i.named.mid = subst (λ z. ReadsNew config.max_name_length z i.mid x.name i.named.mid) i.names_are i.named.name in
-      let other : ReadsNew config.max_name_length ns j.mid y.name j.named.mid = subst (λ z. ReadsNew config.max_name_length z j.mid y.name j.named.mid) j.names_are j.named.name in
+      let read : ReadsNew config.max_name_length ns i.mid x.name i.named.mid =
+      subst (λ z. ReadsNew config.max_name_length z i.mid x.name i.named.mid) i.names_are i.named.name in
+      let other : ReadsNew config.max_name_length ns j.mid y.name j.named.mid =
+      subst (λ z. ReadsNew config.max_name_length z j.mid y.name j.named.mid) j.names_are j.named.name in
       let n = new_unique (subst A o.1 read) other in
       let same : x ≡ y = λ k. record { name = n.0 k; to = o.0 k } in
       let left = url_left (subst (λ z. ReadsMaybeUrl config (url_names i.so_far) z i.url r) n.1 i.named.url) j.named.url in

@@ -79,7 +79,8 @@ pub record AddsTypeSection (config : Config) (min : ℕ) (old : Building) (b : L
   pub section : TypeSection
   pub scope : Marked
   pub added : new.inner ≡ old.inner ++ Types section ∷ []
-  pub reads : Loop Never (ReadsTypeValue config (marked_in config (open_of old).outer)) config.loop_bits min (config.max_types - length (types_of (open_of old).inner)) 0
+  pub reads : Loop Never (ReadsTypeValue config (marked_in config (open_of old).outer)) config.loop_bits min
+      (config.max_types - length (types_of (open_of old).inner)) 0
       (marked_inner config (open_of old).outer (open_of old).inner) b section.types.items rest scope
 
 -- a core type section

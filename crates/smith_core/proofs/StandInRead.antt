@@ -82,14 +82,17 @@ module _ (config : Config) where
       ts rest tt
   types_read most ts rest all few =
       let script : Function → List ℕ = λ f. script_function (configured config) (max_results config) f in
-      let said = loop_read {Ends = Never} {Item = ReadsSubType config} {bits = config.loop_bits} {min = 0} {max = most} (λ (u : Unit {0}) t. script (function_at t)) (λ u t. u)
+      let said = loop_read {Ends = Never} {Item = ReadsSubType config} {bits = config.loop_bits} {min = 0} {max = most}
+      (λ (u : Unit {0}) t. script (function_at t)) (λ u t. u)
       (λ u t. IsReadable t) sub_type_read ts 0 tt rest (along_all IsReadable (λ u t. u) tt ts all) (omega arith) (omega (arith, few)) in
       subst (λ b. Loop Never (ReadsSubType config) config.loop_bits 0 most 0 tt (b ++ rest) ts rest tt) (script_shown script function_at 0 most 0 tt ts) said
 
   memories_read : (least most : ℕ) (ms : List MemoryType) (rest : List ℕ) → AllByRecursion FormedMemory ms → least ≤ length ms → length ms ≤ most
-      → Loop Never ReadsMemoryType config.loop_bits least most 0 tt (script_loop (λ (u : Unit {0}) m. script_memory m) (λ u m. u) least most 0 tt ms ++ rest) ms rest tt
+      → Loop Never ReadsMemoryType config.loop_bits least most 0 tt
+      (script_loop (λ (u : Unit {0}) m. script_memory m) (λ u m. u) least most 0 tt ms ++ rest) ms rest tt
   memories_read least most ms rest all enough few =
-      loop_read {Ends = Never} {Item = ReadsMemoryType} {bits = config.loop_bits} {min = least} {max = most} (λ (u : Unit {0}) m. script_memory m) (λ u m. u) (λ u m. FormedMemory m)
+      loop_read {Ends = Never} {Item = ReadsMemoryType} {bits = config.loop_bits} {min = least} {max = most} (λ (u : Unit {0}) m. script_memory m) (λ u m. u)
+      (λ u m. FormedMemory m)
       (λ u m rest h. memory_read m rest h) ms 0 tt rest (along_all FormedMemory (λ u m. u) tt ms all) (omega (arith, enough)) (omega (arith, few))
 
   pub stand_in_read : (s : StandIn) → IsStandIn config s → length s.memories < 2 ^ 63 → (rest : List ℕ)

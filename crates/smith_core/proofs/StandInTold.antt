@@ -89,7 +89,7 @@ listed_parts f id xs b e =
 abbrev ToldValue : ValType → Type 0
 ToldValue v = (n : ℕ) × (core_val v ≡ byte n) × (value_of n ≡ v)
 
-offered_all : {A : Type 0} (P : A → Type 0) (b : Bool) (xs : List A) → AllByRecursion P xs → AllByRecursion P (offered b xs)
+pub offered_all : {A : Type 0} (P : A → Type 0) (b : Bool) (xs : List A) → AllByRecursion P xs → AllByRecursion P (offered b xs)
 offered_all P true xs all = all
 offered_all P false xs all = tt
 

@@ -13,8 +13,9 @@ use Rattle.smith_edit.specs.Walk.{Walk, skipped}
 use Rattle.smith_edit.specs.declared.walk.Removal.{Removal}
 use Rattle.smith_edit.specs.declared.walk.Scope.{Scope}
 use Rattle.smith_edit.proofs.Seeking.{InRow, prepend, prepend_all, decl_row, part_row}
-use Rattle.smith_edit.proofs.Sublists.{map_drop, map_dropped, map_more}
+use Rattle.smith_edit.proofs.Sublists.{map_more}
 use Rattle.smith_edit.proofs.Past.{past_none, past_past}
+use Rattle.smith_input.proofs.Lists.{map_drop, map_dropped}
 
 -- how a whole is edited item by item: what is left of the next one, and what is known after it
 pub record Editing (X A C : Type 0) : Type 0 where

@@ -32,6 +32,7 @@ use Rattle.smith_edit.proofs.FormedTypes.{ScopesFollow, no_scopes, some_index, t
 use Rattle.smith_edit.proofs.Perhaps.{Perhaps, either, gives, mapped, nothing, whatever}
 use Rattle.smith_edit.proofs.Places.{PlaceFollows, nothing_yet, scope}
 use Rattle.smith_edit.proofs.Sublists.{Sub, keep, named_sub, none, nothing_of, skip, sub_append}
+use Rattle.smith_tree.proofs.Components.{spaces_added}
 
 -- spaces after a section
 
@@ -46,9 +47,6 @@ types_added (e ∷ es) s = types_added es (adds_type s e) ∙ ap (λ xs. record 
 pub parts_added : (t : Tree) (p : Part) → parts_of (add t p) ≡ parts_of t ++ p ∷ []
 parts_added ends p = refl
 parts_added (first q t) p = ap (λ ps. q ∷ ps) (parts_added t p)
-
-pub spaces_added : (t : Tree) (p : Part) → spaces_of (add t p) ≡ spaces_after (spaces_of t) p
-spaces_added t p = ap (fold spaces_after no_spaces) (parts_added t p) ∙ fold-append spaces_after no_spaces (parts_of t) (p ∷ [])
 
 pub own_added : {A : Type 0} (f : Part → List A) (t : Tree) (p : Part) → own f (add t p) ≡ own f t ++ f p
 own_added f t p = ap (flat_map f) (parts_added t p) ∙ flat_map-append f (parts_of t) (p ∷ []) ∙ ap (λ xs. own f t ++ xs) (append-nil (f p))

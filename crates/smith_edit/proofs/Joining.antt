@@ -19,14 +19,16 @@ use Rattle.smith_edit.specs.Walk.{Walk}
 use Rattle.smith_edit.specs.declared.walk.Removal.{Removal}
 use Rattle.smith_edit.specs.declared.walk.Removal.TheVariants.{Nothing}
 use Rattle.smith_edit.proofs.Past.{after_kept, part_removal, part_outer}
-use Rattle.smith_edit.proofs.Sublists.{map_drop, map_dropped, sub_all}
+use Rattle.smith_edit.proofs.Sublists.{sub_all}
 use Rattle.smith_edit.proofs.Alike.{Alike, AlikeCore, Same}
 use Rattle.smith_edit.proofs.Follows.{none_yet}
-use Rattle.smith_edit.proofs.FormedTrees.{BarePart, own_added, part_bare, part_exports, part_imports, parts_added, spaces_added}
+use Rattle.smith_edit.proofs.FormedTrees.{BarePart, own_added, part_bare, part_exports, part_imports, parts_added}
 use Rattle.smith_edit.proofs.FormedTypes.{ScopesFollow, no_scopes}
 use Rattle.smith_edit.proofs.NewNames.{named_none, named_push, new_is_new, new_kebab}
 use Rattle.smith_edit.proofs.Places.{OfFunction, OfType, PlaceFollows}
 use Rattle.smith_tree.specs.Tree as part
+use Rattle.smith_tree.proofs.Components.{spaces_added}
+use Rattle.smith_input.proofs.Lists.{map_drop, map_dropped}
 
 pub parts_same : (ps : List Part) → parts_of (tree_of ps) ≡ ps
 parts_same [] = refl

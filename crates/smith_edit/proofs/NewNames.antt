@@ -25,15 +25,12 @@ use Rattle.smith_edit.specs.Edits.{all_renamed, made_new, new_name}
 use Rattle.smith_edit.specs.Names.{Knows}
 use Rattle.smith_edit.specs.declared.names.Names.{Names}
 use Rattle.smith_edit.specs.ShortNames.{letters, new_from, short_name}
-use Rattle.smith_edit.proofs.Sublists.{map_drop, map_dropped}
+use Rattle.smith_input.proofs.NameSets.{cond_or}
+use Rattle.smith_input.proofs.Lists.{map_drop, map_dropped}
 
 pub knows_more : (old new : Names) (names : List (List ℕ)) (name : List ℕ) → Knows old names
     → ((q : List ℕ) → contains_text new.set q ≡ (bytes_eq name q || contains_text old.set q)) → new.count ≡ old.count + 1 → Knows new (names ++ name ∷ [])
 knows_more old new names name known has count = grind (arith, among_more, length-append)
-
-cond_or : (a b : Bool) → cond a true b ≡ (a || b)
-cond_or true b = refl
-cond_or false b = refl
 
 -- a set into which a key is put
 pub set_gains : (key : String Global) (name : List ℕ) (old new : BTreeSet (String Global)) → string_bytes key ≡ name

@@ -21,6 +21,7 @@ use Rattle.smith_edit.proofs.Alike.{Alike, AlikeCore, Same, ScopeFollows}
 use Rattle.smith_edit.proofs.Follows.{Follows, IsLeft, Stays, entry_there, follows_left, follows_removed, get_other, get_still, none_yet}
 use Rattle.smith_edit.proofs.Perhaps.{Perhaps, gives, nothing}
 use Rattle.smith_edit.proofs.FormedTypes.{more_core, more_core_removed, more_type_removed}
+use Rattle.smith_tree.proofs.Possible.{all_some as scalar_params, one_result as scalar_result}
 
 abbrev pub scope : Spaces → Scope
 scope s = record { types = s.types; core_types = s.core_types }
@@ -162,20 +163,6 @@ kept_entry s old count i x at =
     (kept_fate r.fate r.index (slice_get s.entries i) is)
 
 -- signatures of scalars
-
-scalar_params : (ps : List Field) (vs : List ValType) → map (λ p. flat_value p.1) ps ≡ map Some vs → list_all (λ p. is_some (flat_value p.1)) ps ≡ true
-scalar_params [] vs e = refl
-scalar_params (p ∷ ps) [] e = absurd cc
-scalar_params (p ∷ ps) (v ∷ vs) e =
-    let first : flat_value p.1 ≡ Some v = cc in
-    let rest : map (λ p. flat_value p.1) ps ≡ map Some vs = cc in
-    ap (λ o. is_some o && list_all (λ p. is_some (flat_value p.1)) ps) first ∙ scalar_params ps vs rest
-
-scalar_result : (o : Option ComponentValType) (vs : List ValType) → map flat_value (option_to_list o) ≡ map Some vs → length vs ≡ 1 → is_scalar_result o ≡ true
-scalar_result None [] e n = absurd (omega (arith, n))
-scalar_result None (v ∷ vs) e n = absurd cc
-scalar_result (Some x) [] e n = absurd (omega (arith, n))
-scalar_result (Some x) (v ∷ vs) e n = let first : flat_value x ≡ Some v = cc in ap is_some first
 
 pub flat_scalar : (g : Signature) (f : Function) → Flattens g f → is_scalar g ≡ true
 flat_scalar g f h =

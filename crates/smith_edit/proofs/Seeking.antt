@@ -20,7 +20,7 @@ use Rattle.smith_read.proofs.Seeking.{and_then, past_less, past_more, past_past,
 use Rattle.smith_edit.specs.Items.{decl_items, decls_items, entry_items, part_items, row_items, tree_items}
 use Rattle.smith_edit.specs.Simpler.{decl_simplified, decls_simplified, entry_simplified, itself_or, part_simplified, sections_simplified}
 use Rattle.smith_edit.specs.Simpler.{simpler_decl, simpler_entry, simpler_part, types_simplified}
-use Rattle.smith_edit.proofs.Sublists.{map_drop, map_dropped}
+use Rattle.smith_input.proofs.Lists.{map_drop, map_dropped}
 
 -- the item here or one inside it, or one of the ones after it
 

@@ -12,7 +12,7 @@ use Rattle.std.specs.Str.{IsAscii, IsUtf8, is_utf8}
 use Rattle.smith_input.specs.NewNames.{is_among}
 use Rattle.smith_core.specs.Preamble.{core_preamble}
 use Rattle.smith_format.specs.Piece.{Piece, ◌⊕◌, byte, bytes, each, framed, many, raw, sized, text, u, utf8}
-use Rattle.smith_format.proofs.Piece.{parts_are, utf8_is}
+use Rattle.smith_format.proofs.Piece.{parts_are, utf8_is, raw_whole as raw_is}
 use Rattle.smith_syntax.specs.Entries.{Case, Decl, Decls, DefValType, Entry, Field, Signature, decl_count}
 use Rattle.smith_syntax.specs.Entries.{defined, function, component_type, instance_type}
 use Rattle.smith_syntax.specs.Entries.{primitive_type, record_type, variant_type, list_type, tuple_type, option_type, result_type}
@@ -34,6 +34,7 @@ use Rattle.smith_edit.specs.Simpler.{signature_simplified, simpler_custom, simpl
 use Rattle.smith_edit.specs.Simpler.{types_simplified, value_simplified}
 use Rattle.smith_edit.proofs.Perhaps.{Perhaps, either, first_of, given, gives, itself, mapped, more, nothing}
 use Rattle.smith_edit.proofs.Shorter.{NoLonger, after, before, dropped, glue, same, short_byte, sized_grow, u_grow}
+use Rattle.smith_input.proofs.Kebab.{ascii_one}
 
 -- It has no more bytes and no more items.
 abbrev Less : {A : Type 0} → (A → Piece) → (A → ℕ) → A → A → Type 0
@@ -47,10 +48,6 @@ listed : {A : Type 0} (f : A → Piece) (xs ys : List A) → AsMany f xs ys → 
 listed f xs ys h = glue _ _ _ _ (u_grow (length ys) (length xs) (omega (arith, h.1))) h.0
 
 -- names
-
-ascii_one : (c : ℕ) → c < 128 → IsAscii (c ∷ [])
-ascii_one c h zero = h
-ascii_one c h (suc i) = omega arith
 
 letters_by : (m n : ℕ) (b : Bool) → nat_lt n 26 ≡ b → IsUtf8 (letters m (n / 26 - 1))
     → IsUtf8 (if b then (0x61 + n) ∷ [] else letters m (n / 26 - 1) ++ (0x61 + n % 26) ∷ [])
@@ -210,10 +207,6 @@ pairs_few : (p bs : List ℕ) → pointwise nat_eq p bs ≡ true → length p �
 pairs_few [] bs h = omega arith
 pairs_few (c ∷ p) [] h = absurd cc
 pairs_few (c ∷ p) (b ∷ bs) h = omega (arith, pairs_few p bs (and_parts (nat_eq c b) (pointwise nat_eq p bs) h).1)
-
-raw_is : (bs b : List ℕ) → raw bs ≡ Some b → bs ≡ b
-unfolding raw
-raw_is bs b e = (cond_some (list_all (λ n. nat_lt n 256) bs) bs b e).1
 
 module_by : (x : Bool) (bs b : List ℕ) → starts_with nat_eq bs core_preamble ≡ x → (if x then raw bs else None) ≡ Some b → 8 ≤ length b
 module_by true bs b t e =

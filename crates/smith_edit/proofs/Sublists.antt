@@ -7,6 +7,7 @@ use Rattle.std.proofs.Common.{zero, suc, ◌+◌, ◌<◌, ◌≤◌, Option, No
 use Rattle.std.proofs.Common.{append-nil}
 use Rattle.std.proofs.Common.{refl, ◌∙◌, arith}
 use Rattle.std.specs.Option.{option_map, option_to_list}
+use Rattle.smith_input.proofs.Lists.{map_drop, map_dropped}
 
 -- the first is the second without some of its items
 pub data Sub {A : Type 0} : List A → List A → Type 0 where
@@ -43,13 +44,6 @@ pub named_sub : (ys xs : List (List ℕ)) → Sub ys xs → Named xs → Named y
 named_sub ys xs s h = (sub_all _ ys xs s h.0, sub_distinct bytes_eq ys xs s h.1)
 
 -- Lists, item by item.
-
-pub map_drop : {A B : Type 0} (f : A → B) (xs : List A) (i : ℕ) (x : A) → i < length xs → x ≡ get_or xs i x
-    → map f (drop i xs) ≡ f x ∷ map f (drop (i + 1) xs)
-map_drop f xs i x h e = ap (map f) (rest_at xs i x h e)
-
-pub map_dropped : {A B : Type 0} (f : A → B) (xs : List A) (i : ℕ) → length xs ≤ i → map f (drop i xs) ≡ []
-map_dropped f xs i h = ap (map f) (drop_past xs i h)
 
 -- what items have, gathered one by one after what is known
 module _ {X A N : Type 0} (shown : X → A) (all : List A → List N) (of : A → List N) (more : (x : A) (xs : List A) → all (x ∷ xs) ≡ of x ++ all xs) where

@@ -23,13 +23,9 @@ use Rattle.smith_edit.specs.declared.walk.Scope.{Scope}
 use Rattle.smith_edit.proofs.Follows.{entry_there, get_last}
 use Rattle.smith_edit.proofs.LowIndexes.{entry_or}
 use Rattle.smith_edit.proofs.Perhaps.{Perhaps, given, gives, mapped, nothing, whatever}
+use Rattle.smith_scope.proofs.Places.{get_left as get_before}
 
 -- places in a list
-
-get_before : {A : Type 0} (xs ys : List A) (i : ℕ) → i < length xs → slice_get (xs ++ ys) i ≡ slice_get xs i
-get_before [] ys i h = absurd (omega (arith, h))
-get_before (x ∷ xs) ys zero h = refl
-get_before (x ∷ xs) ys (suc i) h = get_before xs ys i (omega (arith, h))
 
 -- what is told of the entries before stays
 pub told_before : (s : Renumbering) (f : Fate) (i : ℕ) → i < length s.entries → entry_at (with_entry s f) i ≡ entry_at s i

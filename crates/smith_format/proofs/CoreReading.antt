@@ -65,12 +65,15 @@ pub element_formed : {references : Bool} {bytes : List ℕ} {t : RefType} {rest 
 element_formed (only_functions) = inl refl
 element_formed (either {t = t} r) = elim (element_is r.place t r.named) [ inl e ↦ inl e | inr e ↦ inr (refl, e) ]
 
-values_few : {bits : ℕ} {valtypes : List ValType} {max : ℕ} {bytes : List ℕ} {xs : List ValType} {rest : List ℕ} → ReadsValues bits valtypes max bytes xs rest → length xs ≤ max
+values_few : {bits : ℕ} {valtypes : List ValType} {max : ℕ} {bytes : List ℕ} {xs : List ValType} {rest : List ℕ} → ReadsValues bits valtypes max bytes xs rest
+    → length xs ≤ max
 values_few {max = max} {bytes = bytes} {xs = xs} {rest = rest} l = let few : 0 + length xs ≤ max = loop_few 0 tt bytes xs rest tt (omega arith) l in omega arith
 
-values_formed : {bits : ℕ} {valtypes : List ValType} {max : ℕ} {bytes : List ℕ} {xs : List ValType} {rest : List ℕ} → ReadsValues bits valtypes max bytes xs rest
+values_formed : {bits : ℕ} {valtypes : List ValType} {max : ℕ} {bytes : List ℕ} {xs : List ValType} {rest : List ℕ}
+    → ReadsValues bits valtypes max bytes xs rest
     → AllByRecursion (Contains valtypes) xs
-values_formed {bits} {valtypes} {bytes = bytes} {xs = xs} {rest = rest} l = loop_all (Contains valtypes) (λ s b x r t i. among_contains i) 0 tt bytes xs rest tt l
+values_formed {bits} {valtypes} {bytes = bytes} {xs = xs} {rest = rest} l =
+    loop_all (Contains valtypes) (λ s b x r t i. among_contains i) 0 tt bytes xs rest tt l
 
 pub function_formed : {bits : ℕ} {valtypes : List ValType} {max_results : ℕ} {bytes : List ℕ} {f : Function} {rest : List ℕ}
     → ReadsFunction bits valtypes max_results bytes f rest → FormedFunction valtypes max_results f
@@ -125,7 +128,8 @@ pub tag_unique : {candidates bytes : List ℕ} {t o : TagType} {left rest : List
     → (t ≡ o) × (left ≡ rest)
 tag_unique r s = let d = among_same r s in (λ i. record { func_type_idx = d.0 i }, d.1)
 
-values_unique : {bits : ℕ} {valtypes : List ValType} {max : ℕ} {bytes : List ℕ} {xs ys : List ValType} {left rest : List ℕ} → ReadsValues bits valtypes max bytes xs left
+values_unique : {bits : ℕ} {valtypes : List ValType} {max : ℕ} {bytes : List ℕ} {xs ys : List ValType} {left rest : List ℕ}
+    → ReadsValues bits valtypes max bytes xs left
     → ReadsValues bits valtypes max bytes ys rest → (xs ≡ ys) × (left ≡ rest)
 values_unique {bytes = bytes} {xs = xs} {ys = ys} {left = left} {rest = rest} l m =
     let d = loop_same (λ s b r q t u e f. absurd e) (λ s b x r q t u e i. e) (λ s b x y r q t u i j. let c = among_same i j in (c.0, c.1, refl)) 0 tt bytes xs

@@ -59,7 +59,8 @@ function_read {bits} valtypes max_results f rest h many =
     }
 
 -- what is read from a script
-pub function_scripted : {bits : ℕ} (valtypes : List ValType) (max_results : ℕ) (f g : Function) (bytes rest left : List ℕ) → FormedFunction valtypes max_results f
+pub function_scripted : {bits : ℕ} (valtypes : List ValType) (max_results : ℕ) (f g : Function) (bytes rest left : List ℕ)
+    → FormedFunction valtypes max_results f
     → length valtypes ≤ 2 ^ 64 → bytes ≡ script_function valtypes max_results f ++ rest → ReadsFunction bits valtypes max_results bytes g left
     → (g ≡ f) × (left ≡ rest)
 function_scripted {bits} valtypes max_results f g bytes rest left h many e r =

@@ -132,8 +132,9 @@ impl Config {
 
     /// Accepts limits that fit together: no minimum exceeds its maximum, written counts are at most 4,294,967,295,
     /// functions and exports counted together, the nesting depth is at most 1000, names have at most 100 bytes, and
-    /// loops look at 8 bits at most. If components must validate, there are at most 500,000 types, 1,000,000 functions and exports together, 1,000 modules, components and
-    /// instances each, and 100 memories. Others are refused with `InconsistentLimits`.
+    /// loops look at 8 bits at most. If components must validate, there are at most 500,000 types, 1,000,000 functions
+    /// and exports together, 1,000 modules, components and instances each, and 100 memories. Others are refused with
+    /// `InconsistentLimits`.
     pub fn check(&self) -> Result<(), Error>
         ensures accepts { IsOk result ↔ IsConsistent self.now }
         ensures refuses { IfErr result (λ e. e ≡ Error.InconsistentLimits) }

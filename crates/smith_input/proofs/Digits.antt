@@ -1,11 +1,13 @@
 -- The decimal digits of a number, of any size.
-use Rattle.std.proofs.Common.{ℕ, zero, suc, ◌/◌, ◌%◌, ◌<◌, inr, Bool, true, false, if◌then◌else◌, List, [], ◌∷◌, length, arith}
+use Rattle.std.proofs.Common.{ℕ, zero, suc, ◌/◌, ◌%◌, ◌<◌, inr, Bool, true, false, if◌then◌else◌, List, [], ◌∷◌, length, arith, ◌≡◌, ◌+◌, ◌≤◌, ◌^◌, ap, ◌∙◌}
+use Rattle.std.proofs.Common.{length-append}
 use Rattle.std.specs.Prelude.{◌==◌}
 use Rattle.std.specs.Fmt.{decimal, digits, digits_onto, digit_glyph}
 use Rattle.std.specs.List.{AllByRecursion}
 use Rattle.std.specs.Str.{IsAscii}
 use Rattle.std.proofs.lemmas.Bool.Decides.{nat_tests}
 use Rattle.smith_input.specs.Kebab.{IsDigit, AreInWord}
+use Rattle.std.proofs.lemmas.Fmt.{decimal_digit, decimal_step}
 
 abbrev pub AreDigits : List ℕ → Type 0
 AreDigits ds = AllByRecursion IsDigit ds
@@ -44,3 +46,9 @@ digits_ascii (c ∷ cs) d (suc i) = digits_ascii cs d.1 i
 pub digits_in_word : (ds : List ℕ) → AreDigits ds → AreInWord ds
 digits_in_word [] d = tt
 digits_in_word (c ∷ cs) d = (inr d.0, digits_in_word cs d.1)
+
+pub one_digit : (n : ℕ) → n < 10 → length (decimal n) ≡ 1
+one_digit n h = ap length (decimal_digit n h)
+
+pub more_digits : (n : ℕ) → 10 ≤ n → n < 2 ^ 64 → length (decimal n) ≡ length (decimal (n / 10)) + 1
+more_digits n h k = ap length (decimal_step n h k) ∙ length-append (decimal (n / 10)) ((48 + n % 10) ∷ [])

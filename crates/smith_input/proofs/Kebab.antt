@@ -23,21 +23,21 @@ abbrev pub Follows : Bool → List ℕ → Type 0
 Follows true cs = Kebab cs
 Follows false cs = AreInWord cs ⊎ ((ds : List ℕ) × (es : List ℕ) × (cs ≡ ds ++ 45 ∷ es) × AreInWord ds × Kebab es)
 
-begins_word : (c : ℕ) (cs : List ℕ) → IsLetter c → Follows false cs → Follows true (c ∷ cs)
+pub begins_word : (c : ℕ) (cs : List ℕ) → IsLetter c → Follows false cs → Follows true (c ∷ cs)
 begins_word c cs l (inl w) = word (l, w)
 begins_word c cs l (inr s) = rw s.2 (hyphen (c ∷ s.0) s.1 (l, s.3) s.4)
 
-in_word : (c : ℕ) (cs : List ℕ) → (IsLetter c ⊎ IsDigit c) → Follows false cs → Follows false (c ∷ cs)
+pub in_word : (c : ℕ) (cs : List ℕ) → (IsLetter c ⊎ IsDigit c) → Follows false cs → Follows false (c ∷ cs)
 in_word c cs l (inl w) = inl (l, w)
 in_word c cs l (inr s) = inr (c ∷ s.0, s.1, ap (λ k. c ∷ k) s.2, (l, s.3), s.4)
 
-at_hyphen : (cs : List ℕ) → Follows true cs → Follows false (45 ∷ cs)
+pub at_hyphen : (cs : List ℕ) → Follows true cs → Follows false (45 ∷ cs)
 at_hyphen cs k = inr ([], cs, refl, tt, k)
 
 pub not_hyphen : (c : ℕ) → (IsLetter c ⊎ IsDigit c) → nat_eq c 45 ≡ false
 not_hyphen c l = ⊎_elim (λ (a : IsLetter c). grind (arith, nat_tests)) (λ (d : IsDigit c). grind (arith, nat_tests)) l
 
-is_hyphen : (c : ℕ) → c ≡ 45 → nat_eq c 45 ≡ true
+pub is_hyphen : (c : ℕ) → c ≡ 45 → nat_eq c 45 ≡ true
 is_hyphen c h = grind (arith, nat_tests)
 
 -- one character in front
@@ -70,7 +70,7 @@ inside_is k h =
     (cases_lt k 26)
 
 -- an ASCII character after others
-ascii_one : (b : ℕ) → b < 128 → IsAscii (b ∷ [])
+pub ascii_one : (b : ℕ) → b < 128 → IsAscii (b ∷ [])
 ascii_one b h zero = h
 ascii_one b h (suc i) = omega arith
 

@@ -1,5 +1,5 @@
 -- What holds of each item of a list, and how many items there are.
-use Rattle.std.proofs.Common.{◌≡◌, ℕ, zero, suc, ◌≤◌, true, List, [], ◌∷◌, ◌++◌, length, nat_lt, subst, arith}
+use Rattle.std.proofs.Common.{◌≡◌, ℕ, zero, suc, ◌≤◌, true, List, [], ◌∷◌, ◌++◌, length, nat_lt, subst, arith, ◌+◌, ◌<◌, drop, get_or, map, refl, sym}
 use Rattle.std.proofs.lemmas.Bool.{lt-ltb}
 use Rattle.std.proofs.lemmas.Option.{none-some, slice_get_within}
 use Rattle.std.specs.List.{AllByRecursion}
@@ -34,3 +34,15 @@ some_there xs i x e = lt-ltb 0 (length xs) (omega (arith, slice_get_within xs i 
 pub one_at_most : {A : Type 0} (o : Option A) → length (option_to_list o) ≤ 1
 one_at_most None = omega arith
 one_at_most (Some x) = omega arith
+
+pub map_drop : {A B : Type 0} (f : A → B) (xs : List A) (i : ℕ) (x : A) → i < length xs → x ≡ get_or xs i x
+    → map f (drop i xs) ≡ f x ∷ map f (drop (i + 1) xs)
+map_drop f [] i x h e = absurd (omega arith)
+map_drop f (y ∷ xs) zero x h e = let same = sym e in λ j. f (same j) ∷ map f xs
+map_drop f (y ∷ xs) (suc i) x h e = let more : suc i + 1 ≡ suc (i + 1) = omega arith in rw more (map_drop f xs i x (omega arith) e)
+
+pub map_dropped : {A B : Type 0} (f : A → B) (xs : List A) (i : ℕ) → length xs ≤ i → map f (drop i xs) ≡ []
+map_dropped f [] zero h = refl
+map_dropped f [] (suc i) h = refl
+map_dropped f (y ∷ xs) zero h = absurd (omega arith)
+map_dropped f (y ∷ xs) (suc i) h = map_dropped f xs i (omega arith)

@@ -80,7 +80,8 @@ loop_enough never h done s b xs rest u (an_item {t = t} {after = after} {xs = ys
 
 -- the bytes of a script that ask for a turn, and for none
 module _ (bits min max : ℕ) where
-  more_cases : (done : ℕ) (rest : List ℕ) → done < max → (b : Bool) → nat_lt done min ≡ b → More bits done min max ((if b then [] else 1 ∷ []) ++ rest) true rest
+  more_cases : (done : ℕ) (rest : List ℕ) → done < max → (b : Bool) → nat_lt done min ≡ b
+      → More bits done min max ((if b then [] else 1 ∷ []) ++ rest) true rest
   more_cases done rest lt true e = more_first rest lt (let z : done < min = grind (arith, nat_tests) in z)
   more_cases done rest lt false e = more_one rest lt (let z : min ≤ done = grind (arith, nat_tests) in z)
 
@@ -101,15 +102,18 @@ along_all P next s [] all = tt
 along_all P next s (x ∷ xs) all = (all.0, along_all P next (next s x) xs all.1)
 
 -- A script of a loop is read as its items, if each item's script is read as that item in the state before it.
-pub loop_read : {S A : Type 0} {Ends : S → List ℕ → List ℕ → S → Type 0} {Item : S → List ℕ → A → List ℕ → S → Type 0} {bits min max : ℕ} (script : S → A → List ℕ)
+pub loop_read : {S A : Type 0} {Ends : S → List ℕ → List ℕ → S → Type 0} {Item : S → List ℕ → A → List ℕ → S → Type 0} {bits min max : ℕ}
+    (script : S → A → List ℕ)
     (next : S → A → S) (P : S → A → Type 0)
     → ((s : S) (x : A) (rest : List ℕ) → P s x → Item s (script s x ++ rest) x rest (next s x))
     → (xs : List A) (done : ℕ) (s : S) (rest : List ℕ) → Along P next s xs → min ≤ done + length xs → done + length xs ≤ max
     → Loop Ends Item bits min max done s (script_loop script next min max done s xs ++ rest) xs rest (after_all next s xs)
-loop_read {bits = bits} {min = min} {max = max} script next P one [] done s rest all some few = no_more (end_read bits min max done rest (omega arith) (omega arith)) refl
+loop_read {bits = bits} {min = min} {max = max} script next P one [] done s rest all some few =
+    no_more (end_read bits min max done rest (omega arith) (omega arith)) refl
 loop_read {Ends = Ends} {Item = Item} {bits = bits} {min = min} {max = max} script next P one (x ∷ xs) done s rest all some few =
     let later : List ℕ = script_loop script next min max (done + 1) (next s x) xs in
-    let r = loop_read {Ends = Ends} {Item = Item} {bits = bits} {min = min} {max = max} script next P one xs (done + 1) (next s x) rest all.1 (omega arith) (omega arith) in
+    let r = loop_read {Ends = Ends} {Item = Item} {bits = bits} {min = min} {max = max} script next P one xs (done + 1) (next s x) rest all.1 (omega arith)
+    (omega arith) in
     let whole : ((script_more min done ++ script s x) ++ later) ++ rest ≡ script_more min done ++ (script s x ++ (later ++ rest)) =
     append_assoc (script_more min done ++ script s x) later rest ∙ append_assoc (script_more min done) (script s x) (later ++ rest) in
     subst
@@ -118,7 +122,8 @@ loop_read {Ends = Ends} {Item = Item} {bits = bits} {min = min} {max = max} scri
     (an_item (more_read bits min max done (script s x ++ (later ++ rest)) (omega arith)) (one s x (later ++ rest) all.0) r)
 
 -- A loop turn by turn: whatever its rest reads from here, the whole reads that after what was read.
-module _ {S A : Type 0} (Ends : S → List ℕ → List ℕ → S → Type 0) (Item : S → List ℕ → A → List ℕ → S → Type 0) (bits min max : ℕ) (first : S) (start : List ℕ) where
+module _ {S A : Type 0} (Ends : S → List ℕ → List ℕ → S → Type 0) (Item : S → List ℕ → A → List ℕ → S → Type 0) (bits min max : ℕ) (first : S)
+    (start : List ℕ) where
   -- the rest of the loop, from here on
   abbrev pub Onward : List A → ℕ → S → List ℕ → Type 0
   Onward so_far done s b = (xs : List A) (rest : List ℕ) (t : S) → Loop Ends Item bits min max done s b xs rest t
@@ -129,7 +134,8 @@ module _ {S A : Type 0} (Ends : S → List ℕ → List ℕ → S → Type 0) (I
   begins so_far none = λ xs rest t l. subst (λ ys. Loop Ends Item bits min max 0 first start (ys ++ xs) rest t) (sym none) l
 
   -- if the answer is false
-  pub stops : (so_far : List A) (done : ℕ) (s : S) (b rest : List ℕ) (answer : Bool) → answer ≡ false → More bits done min max b answer rest → Onward so_far done s b
+  pub stops : (so_far : List A) (done : ℕ) (s : S) (b rest : List ℕ) (answer : Bool) → answer ≡ false → More bits done min max b answer rest
+      → Onward so_far done s b
       → Loop Ends Item bits min max 0 first start so_far rest s
   stops so_far done s b rest answer e m onward =
       subst (λ xs. Loop Ends Item bits min max 0 first start xs rest s) (append-nil so_far)
@@ -151,17 +157,20 @@ module _ {S A : Type 0} (Ends : S → List ℕ → List ℕ → S → Type 0) (I
       → Item s mid x after t → next ≡ so_far ++ x ∷ [] → Onward so_far done s b → Onward next (done + 1) t after
   goes_on so_far next x done s t b mid after answer e m one more onward = λ xs rest u l.
       let whole : so_far ++ x ∷ xs ≡ next ++ xs = sym (append_assoc so_far (x ∷ []) xs) ∙ ap (λ ys. ys ++ xs) (sym more) in
-      subst (λ ys. Loop Ends Item bits min max 0 first start ys rest u) whole (onward (x ∷ xs) rest u (an_item (subst (λ a. More bits done min max b a mid) e m) one l))
+      subst (λ ys. Loop Ends Item bits min max 0 first start ys rest u) whole
+      (onward (x ∷ xs) rest u (an_item (subst (λ a. More bits done min max b a mid) e m) one l))
 
 -- a loop of at most one turn
-module _ {S A : Type 0} {Ends : S → List ℕ → List ℕ → S → Type 0} {Item : S → List ℕ → A → List ℕ → S → Type 0} {bits : ℕ} {s : S} {b mid : List ℕ} {answer : Bool} where
+module _ {S A : Type 0} {Ends : S → List ℕ → List ℕ → S → Type 0} {Item : S → List ℕ → A → List ℕ → S → Type 0} {bits : ℕ} {s : S} {b mid : List ℕ}
+    {answer : Bool} where
   pub none_more : answer ≡ false → More bits 0 0 1 b answer mid → Loop Ends Item bits 0 1 0 s b [] mid s
   none_more e m = no_more (subst (λ a. More bits 0 0 1 b a mid) e m) refl
 
   pub none_early : {rest : List ℕ} {t : S} → answer ≡ true → More bits 0 0 1 b answer mid → Ends s mid rest t → Loop Ends Item bits 0 1 0 s b [] rest t
   none_early e m end = by_itself (subst (λ a. More bits 0 0 1 b a mid) e m) end
 
-  pub one_more : {x : A} {rest : List ℕ} {t : S} → answer ≡ true → More bits 0 0 1 b answer mid → Item s mid x rest t → Loop Ends Item bits 0 1 0 s b (x ∷ []) rest t
+  pub one_more : {x : A} {rest : List ℕ} {t : S} → answer ≡ true → More bits 0 0 1 b answer mid → Item s mid x rest t
+      → Loop Ends Item bits 0 1 0 s b (x ∷ []) rest t
   one_more {rest = rest} e m one = an_item (subst (λ a. More bits 0 0 1 b a mid) e m) one (no_more (more_full rest (omega arith)) refl)
 
 -- A loop over what its items show.

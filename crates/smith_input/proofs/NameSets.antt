@@ -45,7 +45,7 @@ unique_in_set set text name u =
     subst (λ n. IsMadeUnique (contains_text set) n text name) (length-map set.keys string_bytes)
     (subst (λ has. IsMadeUnique has (length texts) text name) same u)
 
-cond_or : (a b : Bool) → cond a true b ≡ (a || b)
+pub cond_or : (a b : Bool) → cond a true b ≡ (a || b)
 cond_or true b = refl
 cond_or false b = refl
 

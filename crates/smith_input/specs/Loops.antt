@@ -4,8 +4,8 @@ use Rattle.smith_input.specs.Reading.{More}
 
 -- A loop that asks before each turn, after `done` turns. Item s bytes x rest t: in the state s the bytes produce the
 -- item x, and leave rest and the state t. Ends s bytes rest t: the loop ends by itself if the answer is true.
-pub data Loop {S A : Type 0} (Ends : S → List ℕ → List ℕ → S → Type 0) (Item : S → List ℕ → A → List ℕ → S → Type 0) (bits min max : ℕ) : ℕ → S → List ℕ → List A
-    → List ℕ → S → Type 0 where
+pub data Loop {S A : Type 0} (Ends : S → List ℕ → List ℕ → S → Type 0) (Item : S → List ℕ → A → List ℕ → S → Type 0) (bits min max : ℕ)
+    : ℕ → S → List ℕ → List A → List ℕ → S → Type 0 where
   no_more : {done : ℕ} {s t : S} {bytes rest : List ℕ} → More bits done min max bytes false rest → t ≡ s → Loop Ends Item bits min max done s bytes [] rest t
   by_itself : {done : ℕ} {s t : S} {bytes mid rest : List ℕ} → More bits done min max bytes true mid → Ends s mid rest t
       → Loop Ends Item bits min max done s bytes [] rest t

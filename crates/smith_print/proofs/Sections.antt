@@ -1,5 +1,6 @@
 -- Loops that print the sections of a component.
-use Rattle.std.proofs.Common.{◌≡◌, ℕ, ◌+◌, ◌<◌, ◌≤◌, List, [], ◌++◌, length, map, drop, get_or, refl, ap, sym, subst, ◌∙◌, Some, None, Result, Ok, Err, IsErrAnd, IfErr}
+use Rattle.std.proofs.Common.{◌≡◌, ℕ, ◌+◌, ◌<◌, ◌≤◌, List, [], ◌++◌, length, map, drop, get_or, refl, ap, sym, subst, ◌∙◌, Some, None, Result, Ok, Err}
+use Rattle.std.proofs.Common.{IsErrAnd, IfErr}
 use Rattle.smith_input.proofs.Rests.{drop_past, rest_at}
 use Rattle.std.specs.Prelude.{String, string_bytes}
 use Rattle.std.specs.declared.alloc.Global.{Global}
@@ -9,7 +10,8 @@ use Rattle.smith_print.specs.declared.error.PrintError.{PrintError}
 use Rattle.smith_print.specs.declared.error.PrintError.TheVariants.{OtherCoreModule}
 use Rattle.smith_print.specs.declared.spaces.IndexSpaces.{IndexSpaces}
 use Rattle.smith_print.proofs.Listed.{after_all-map, lines-map}
-use Rattle.smith_print.specs.Components.{after_function, after_part, closing, core_module_text, custom_text, export_entry_text, head_text, part_text, parts_text}
+use Rattle.smith_print.specs.Components.{after_function, after_part, closing, core_module_text, custom_text, export_entry_text, head_text, part_text}
+use Rattle.smith_print.specs.Components.{parts_text}
 use Rattle.smith_print.specs.CoreTypes.{after_core_type}
 use Rattle.smith_print.specs.Externs.{canon_text, import_text}
 use Rattle.smith_print.specs.Lines.{after_all, closed, lines}

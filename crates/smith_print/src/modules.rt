@@ -3,8 +3,8 @@
 ghost use Rattle.std.specs.Prelude.{◌≡◌, IfOk, codes};
 ghost use Rattle.smith_format.specs.Shown.{shown_func};
 ghost use Rattle.smith_print.specs.Components.{module_text};
-ghost use Rattle.smith_print.specs.CoreTypes.{after_core_type, after_memory, after_module_decl, alias_text, core_function_line};
-ghost use Rattle.smith_print.specs.CoreTypes.{memory_line, module_decl_line};
+ghost use Rattle.smith_print.specs.CoreTypes.{after_core_type, after_memory, after_module_decl, alias_text};
+ghost use Rattle.smith_print.specs.CoreTypes.{core_function_line, memory_line, module_decl_line};
 ghost use Rattle.smith_print.specs.Lines.{lines};
 ghost use Rattle.smith_print.specs.Printing.{Prints};
 ghost use Rattle.smith_print.specs.Types.{core_entry_text, core_type_text, nested};
@@ -124,7 +124,8 @@ fn print_module_type(
     columns: usize,
     decls: &[ModuleNode],
 ) -> Result<(), AllocError>
-    ensures { Prints result out.old out.new (nested (codes "(module") (λ c. lines (λ d _. module_decl_line (shown_module_node d))
+    ensures { Prints result out.old out.new
+        (nested (codes "(module") (λ c. lines (λ d _. module_decl_line (shown_module_node d))
         (λ d. after_module_decl (shown_module_node d)) c nothing decls.now) columns) }
 {
     let inner = deeper(columns);

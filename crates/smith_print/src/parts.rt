@@ -77,7 +77,8 @@ impl Line for Export {
 }
 
 fn print_custom(out: &mut String, columns: usize, section: &CustomSection) -> Result<(), AllocError>
-    ensures { Prints result out.old out.new (custom_text (string_bytes section.now.name) section.now.bytes.items columns) }
+    ensures { Prints result out.old out.new
+        (custom_text (string_bytes section.now.name) section.now.bytes.items columns) }
 {
     print_line(out, columns)?;
     let name = Quoted(section.name.as_bytes());

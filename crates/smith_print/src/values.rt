@@ -73,7 +73,8 @@ fn print_result(
     err: Option<ComponentValType>,
 ) -> Result<(), AllocError>
     ensures { Prints result out.old out.new
-        (codes "(result" ++ maybe_text (codes " ") ok (codes "") ++ maybe_text (codes " (error ") err (codes ")") ++ codes ")") }
+        (codes "(result" ++ maybe_text (codes " ") ok (codes "") ++ maybe_text (codes " (error ") err (codes ")")
+        ++ codes ")") }
 {
     let ok = Maybe {
         front: " ",

@@ -16,6 +16,7 @@ use Rattle.smith_scope.specs.declared.kinds.Kind.{Kind}
 use Rattle.smith_scope.specs.declared.offers.Offer.{Offer}
 use Rattle.smith_scope.specs.declared.offers.Offer.TheVariants as offer
 use Rattle.smith_scope.proofs.Places.{longer}
+use Rattle.smith_tree.proofs.Unmarked.{and_true}
 
 module _ {T : Type 0} (p : T → Mark → Bool) where
   pub length-marked_places : (i : ℕ) (ts : List T) (ms : List Mark) → length (marked_places p i ts ms) ≤ length ts
@@ -53,10 +54,6 @@ module _ {T : Type 0} where
   every_place_at i (t ∷ ts) zero h = ap Some (let z : i ≡ i + 0 = omega arith in z)
   every_place_at i (t ∷ ts) (suc k) h =
       every_place_at (i + 1) ts k (omega (arith, h)) ∙ ap Some (let z : i + 1 + k ≡ i + suc k = omega arith in z)
-
-and_true : (b : Bool) → (b && true) ≡ b
-and_true true = refl
-and_true false = refl
 
 -- if no marks are kept, the types that may be used for something are exactly the types of its kind
 pub unmarked : (o : Offer) (s : Scope) → IfSome (kind_for o) (λ k. kind_places k s ≡ marked_places (is_offered o) 0 s.types [])

@@ -74,9 +74,6 @@ grown old new ty {m = m} a =
 
 -- A scope is opened, and closed.
 
-pub with_none : (s : Scope) → with_types s [] ≡ s
-with_none s = ap (λ ts. record { types = ts; core_types = s.core_types }) (append-nil s.types)
-
 -- The same with what is kept.
 
 pub inward_marked-snoc : (ss : List Contents) (s : Contents) → inward_marked (ss ++ s ∷ []) ≡ shown_marked s ∷ inward_marked ss

@@ -6,10 +6,7 @@ use Rattle.smith_syntax.specs.declared.deftype.ComponentTypeRef.{ComponentTypeRe
 use Rattle.smith_tree.specs.Marking.{exported_reference, with_exports_entry}
 use Rattle.smith_tree.specs.Tree.{Canon, ExportEntry, lift, lower, Part, core_types, types, canons, imports, exports}
 use Rattle.smith_script.specs.Preceding.{Preceding, after_canon, after_core_type, after_export, after_import, after_section, after_type}
-
-references_keep : (rs : List ComponentTypeRef) (own : Marked) → (with_exports_entry own rs).keeps ≡ own.keeps
-references_keep [] own = refl
-references_keep (r ∷ rs) own = references_keep rs (with_export own r)
+use Rattle.smith_tree.proofs.Marking.{references_keep}
 
 module _ (outer : List Marked) where
   core_types_keep : (ts : List CoreEntry) (s : Preceding) → (fold (after_core_type outer) s ts).scope.keeps ≡ s.scope.keeps

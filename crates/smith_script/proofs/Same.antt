@@ -80,7 +80,8 @@ section_same (types ts) config outer t none known =
     (with_type_entry (marked_in config outer)) (λ xs. marked_inner config outer (add t (types xs))) (λ xs x. ap (λ (s : Preceding). s.scope) (g.step xs x))
     (λ xs x. refl) (config.max_types - length (types_of t)) own ts (ap (λ (s : Preceding). s.scope) g.start)
 section_same (canons fs) config outer t none known =
-    rows_agree (canons_grow config outer t) (canon_row_says config (marked_in config outer)) (script_canon config) canon_behind (λ xs. spaces_of (add t (canons xs)))
+    rows_agree (canons_grow config outer t) (canon_row_says config (marked_in config outer)) (script_canon config) canon_behind
+    (λ xs. spaces_of (add t (canons xs)))
     (λ xs x. sym (spaces_canon t xs x)) (λ xs x. refl) (config.max_funcs - function_count t) (spaces_of t) fs (sym (spaces-add t (canons [])))
 section_same (imports is) config outer t none known =
     rows_agree (imports_grow config outer t) (import_says config (marked_in config outer)) (script_import config (record { outer = outer; inner = t }))
@@ -89,7 +90,8 @@ section_same (imports is) config outer t none known =
     ++ script_extern config n x.name) (length-own-add imports_in t (imports xs)))
     (config.max_imports - length (imports_of t)) [] is refl
 section_same (exports es) config outer t none known =
-    rows_agree (exports_grow config outer t) (export_says config (marked_in config outer)) (script_export config t) (λ z x. z ++ x ∷ []) (λ xs. xs) (λ xs x. refl)
+    rows_agree (exports_grow config outer t) (export_says config (marked_in config outer)) (script_export config t) (λ z x. z ++ x ∷ []) (λ xs. xs)
+    (λ xs x. refl)
     (λ xs x. ap (λ n. pick (length (functions_of (with_exports t xs))) x.func ++ script_label config n x.name) (length-own-add exports_in t (exports xs)))
     (config.max_exports - length (exports_of t)) [] es refl
 

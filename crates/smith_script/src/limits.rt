@@ -47,8 +47,9 @@ pub(crate) fn unkept(given: Given<'_>, tree: &ComponentTree) -> Result<Option<Un
         above("max_globals", config.max_globals, globals),
         above("max_tags", config.max_tags, tags),
         above("max_type_size", size, needs.type_size),
-        above("max_name_length", config.max_name_length, needs.name)
-            .filter(|_| config.max_name_length < MOST_NAME_LEN),
+        above("max_name_length", config.max_name_length, needs.name).filter(
+            |_| config.max_name_length < MOST_NAME_LEN,
+        ),
         off("allow_floats", config.allow_floats, needs.floats),
         off("simd_enabled", config.simd_enabled, needs.simd),
         off("reference_types_enabled", references, needs.references),

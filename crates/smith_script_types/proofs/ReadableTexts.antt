@@ -13,12 +13,6 @@ use Rattle.smith_input.specs.NameScript.{first_readable, last_word_is_a}
 
 -- decimal digits
 
-pub one_digit : (n : ℕ) → n < 10 → length (decimal n) ≡ 1
-one_digit n h = ap length (decimal_digit n h)
-
-pub more_digits : (n : ℕ) → 10 ≤ n → n < 2 ^ 64 → length (decimal n) ≡ length (decimal (n / 10)) + 1
-more_digits n h k = ap length (decimal_step n h k) ∙ length-append (decimal (n / 10)) ((48 + n % 10) ∷ [])
-
 pub few_digits : (n : ℕ) → n < 2 ^ 64 → length (decimal n) ≤ 20
 few_digits n h = length-decimal-le 20 n (omega arith) (omega (arith, h)) h
 

@@ -22,8 +22,10 @@ module _ {A B : Type 0} (f : ℕ → B → List ℕ) (g : A → B) (min max : �
   members_map xs = turns_map 0 0 xs
 
 -- a function type over the program's fields
-pub signature_is : (config : Config) (own : Marked) (v : Signature) (ps : List (String Global × ComponentValType)) (r : Option ComponentValType) → signature ps r ≡ v
-    → script_signature config own v ≡ script_members (λ n p. script_field config own n (named p)) 0 16 ps ++ script_members (λ n v. script_val own v) 0 1 (option_to_list r)
+pub signature_is : (config : Config) (own : Marked) (v : Signature) (ps : List (String Global × ComponentValType)) (r : Option ComponentValType)
+    → signature ps r ≡ v
+    → script_signature config own v ≡ script_members (λ n p. script_field config own n (named p)) 0 16 ps
+    ++ script_members (λ n v. script_val own v) 0 1 (option_to_list r)
 signature_is config own v ps r e =
     ap (script_signature config own) (sym e)
     ∙ ap (λ t. t ++ script_members (λ n v. script_val own v) 0 1 (option_to_list r)) (members_map (script_field config own) named 0 16 ps)

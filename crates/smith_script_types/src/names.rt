@@ -70,7 +70,7 @@ impl Readable for Text {
 }
 
 // How many decimal digits a number has.
-#[tactic(auto, using(crate::proofs::ReadableTexts::one_digit, crate::proofs::ReadableTexts::more_digits))]
+#[tactic(auto, using(smith_input::proofs::Digits::one_digit, smith_input::proofs::Digits::more_digits))]
 fn decimal_len(n: usize) -> usize
     ensures count { result ≡ length (decimal n) }
     ensures some { 0 < result }

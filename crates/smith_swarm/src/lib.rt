@@ -1,5 +1,5 @@
-//! The limits of fuzzers: a profile, and limits from the first bytes of an input, so that one run of a fuzzer tries many
-//! of them (swarm testing).
+//! The limits of fuzzers: a profile, and limits from the first bytes of an input, so that one run of a fuzzer tries
+//! many of them (swarm testing).
 #![tactic(auto)]
 
 mod limits;

@@ -13,13 +13,10 @@ use Rattle.smith_syntax.specs.CoreLimits.{CoreLimits}
 use Rattle.smith_syntax.specs.Entries.{CoreEntry, ModuleDecl, aliases, core_func, core_module, declares, exports, imports}
 use Rattle.smith_syntax.specs.ModuleTypes.{adds, aliased, declared_in, entities_in, func_in, func_of}
 use Rattle.smith_syntax.specs.Sizes.{entity_size, function_size, function_size_at, module_size}
+use Rattle.smith_core.proofs.StandInMade.{few_results}
 
 abbrev pub IsSmallFunction : Function → Type 0
 IsSmallFunction f = function_size f ≤ 42
-
-few_results : (many : Bool) → (if many then 20 else 1) ≤ 20
-few_results true = omega arith
-few_results false = omega arith
 
 small_function : (config : Config) (f : Function) → FormedFunction (configured config) (max_results config) f → IsSmallFunction f
 small_function config f h = omega (arith, h.few_params, h.few_results, few_results config.multi_value_enabled)

@@ -114,7 +114,7 @@ import_entries_keep : (is : List ImportEntry) (own : Marked) → (fold with_impo
 import_entries_keep [] own = refl
 import_entries_keep (i ∷ is) own = import_entries_keep is (with_import_entry own i)
 
-references_keep : (rs : List ComponentTypeRef) (own : Marked) → (with_exports_entry own rs).keeps ≡ own.keeps
+pub references_keep : (rs : List ComponentTypeRef) (own : Marked) → (with_exports_entry own rs).keeps ≡ own.keeps
 references_keep [] own = refl
 references_keep (r ∷ rs) own = references_keep rs (with_export own r)
 

@@ -56,7 +56,7 @@ module _ (around : List Entry) where
       (params_pass s.params h.0) (result_passes s.result h.1) in
       let z : false ≡ true = sym none ∙ n in absurd cc
 
-all_some : (ps : List Field) (vs : List ValType) → map (λ p. flat_value p.1) ps ≡ map Some vs → list_all (λ p. is_some (flat_value p.1)) ps ≡ true
+pub all_some : (ps : List Field) (vs : List ValType) → map (λ p. flat_value p.1) ps ≡ map Some vs → list_all (λ p. is_some (flat_value p.1)) ps ≡ true
 all_some [] vs e = refl
 all_some (p ∷ ps) [] e = absurd (let z : flat_value p.1 ∷ map (λ q. flat_value q.1) ps ≡ [] = e in cc)
 all_some (p ∷ ps) (v ∷ vs) e =
@@ -68,7 +68,7 @@ result_some : (r : Option ComponentValType) (v : ValType) → map flat_value (op
 result_some None v e = absurd (let z : [] ≡ Some v ∷ [] = e in cc)
 result_some (Some w) v e = let first : flat_value w ≡ Some v = ap (λ xs. elim xs [ [] ↦ None | x ∷ ys ↦ x ]) e in rw first refl
 
-one_result : (r : Option ComponentValType) (vs : List ValType) → map flat_value (option_to_list r) ≡ map Some vs → length vs ≡ 1 → is_scalar_result r ≡ true
+pub one_result : (r : Option ComponentValType) (vs : List ValType) → map flat_value (option_to_list r) ≡ map Some vs → length vs ≡ 1 → is_scalar_result r ≡ true
 one_result r [] e o = absurd (let z : 0 ≡ 1 = o in cc)
 one_result r (v ∷ []) e o = result_some r v e
 one_result r (v ∷ w ∷ vs) e o = absurd (omega (arith, o))

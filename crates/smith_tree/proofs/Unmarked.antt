@@ -98,7 +98,7 @@ scope_after outer own (export_decl name n r) = refl
 
 -- what is offered there
 
-and_true : (b : Bool) → (b && true) ≡ b
+pub and_true : (b : Bool) → (b && true) ≡ b
 and_true true = refl
 and_true false = refl
 

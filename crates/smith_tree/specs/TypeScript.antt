@@ -82,7 +82,8 @@ script_defined config own (result_type ok err) = script_kind kind.Result ++ (scr
 
 -- the parameters, and then the result or none
 abbrev pub script_signature : Config → Marked → Signature → List ℕ
-script_signature config own s = script_members (script_field config own) 0 16 s.params ++ script_members (λ count v. script_val own v) 0 1 (option_to_list s.result)
+script_signature config own s = script_members (script_field config own) 0 16 s.params
+    ++ script_members (λ count v. script_val own v) 0 1 (option_to_list s.result)
 
 abbrev pub script_type_kind : TypeKind → List ℕ
 script_type_kind k = script_among types.eq type_kinds k

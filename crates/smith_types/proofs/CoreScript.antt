@@ -74,7 +74,8 @@ module _ (config : Config) (around : Scope) where
       let all : Along (IsSayable config around) (with_decl around.core_types) start more = behind_sayable fuel ds formed limits texts lasts few short in
       let end = after_decls start more in
       let few_turns : 0 + length more ≤ 100 = omega (arith, limits.declarations) in
-      let loop = loop_read {Ends = EndsModuleType config around} {Item = ReadsDecl config around} {bits = config.loop_bits} {min = 0} {max = 100} (script_decl config around)
+      let loop = loop_read {Ends = EndsModuleType config around} {Item = ReadsDecl config around} {bits = config.loop_bits} {min = 0} {max = 100}
+      (script_decl config around)
       (with_decl around.core_types) (IsSayable config around) (decl_read config around) more 0 start rest all (omega arith) few_turns in
       let P : List ℕ → Type 0 = λ z. MadeModule config around z fuel ds rest (fuel - core_size (core_module ds)) in
       subst P (sym said) (record {
@@ -98,7 +99,8 @@ module _ (config : Config) (around : Scope) where
   nothing fuel (d ∷ ds) need none = absurd (omega (arith, need, none))
 
   module_read : (fuel : ℕ) (ds : List ModuleDecl) (rest : List ℕ) → FormedCore (core_module ds) around.core_types → ModuleLimits config ds
-      → IsReadableCore config (core_module ds) → core_need (core_module ds) ≤ fuel → length around.core_types ≤ 2 ^ 63 → config.max_name_length < 2 ^ 64 → (b : Bool) → nat_le 2 fuel ≡ b
+      → IsReadableCore config (core_module ds) → core_need (core_module ds) ≤ fuel → length around.core_types ≤ 2 ^ 63 → config.max_name_length < 2 ^ 64
+      → (b : Bool) → nat_le 2 fuel ≡ b
       → MadeCore config around ((if b then pick 2 1 ++ script_module config around (fuel - 1) ds else []) ++ rest) fuel (core_module ds) rest
       (fuel - core_cost (core_module ds))
   module_read fuel ds rest formed limits texts need few short true e =
@@ -115,7 +117,9 @@ module _ (config : Config) (around : Scope) where
       spent_core (omega (arith, none)) (ap core_module (nothing fuel ds need none)) (omega (arith, none))
 
   -- A core type that is well formed and within the limits, whose names can be read and for which the fuel lasts.
-  pub core_read : (fuel : ℕ) (e : CoreEntry) (rest : List ℕ) → FormedCore e around.core_types → CoreLimits config e → IsReadableCore config e → core_need e ≤ fuel
-      → length around.core_types ≤ 2 ^ 63 → config.max_name_length < 2 ^ 64 → MadeCore config around (script_core config around fuel e ++ rest) fuel e rest (fuel - core_cost e)
+  pub core_read : (fuel : ℕ) (e : CoreEntry) (rest : List ℕ) → FormedCore e around.core_types → CoreLimits config e → IsReadableCore config e
+      → core_need e ≤ fuel
+      → length around.core_types ≤ 2 ^ 63 → config.max_name_length < 2 ^ 64
+      → MadeCore config around (script_core config around fuel e ++ rest) fuel e rest (fuel - core_cost e)
   core_read fuel (core_func f) rest formed limits texts need few short = core_type_read config around fuel f rest need limits
   core_read fuel (core_module ds) rest formed limits texts need few short = module_read fuel ds rest formed limits texts need few short (nat_le 2 fuel) refl

@@ -86,7 +86,8 @@ module _ (config : Config) (s : Declared) (few : length s.own ≤ 2 ^ 64) where
 
 -- Declarations.
 
-small_name : (config : Config) → config.max_name_length < 2 ^ 64 → (names : List (List ℕ)) (name : List ℕ) → IsReadableNewText config names name → Small (script_new_text config.max_name_length (length names) name)
+small_name : (config : Config) → config.max_name_length < 2 ^ 64 → (names : List (List ℕ)) (name : List ℕ) → IsReadableNewText config names name
+    → Small (script_new_text config.max_name_length (length names) name)
 small_name config short names name (u, made) = small_new_text config.max_name_length names name (omega (arith, short)) (utf8_bytes name u) made
 
 module _ (config : Config) (around : Scope) where
@@ -99,10 +100,12 @@ module _ (config : Config) (around : Scope) where
   small_decl s (imports from name e) h =
       small_join (small_item s item.Import)
       (small_join (small_text config.max_name_length from (let short = h.names in omega (arith, short)) h.text.0.0 h.text.0.1)
-      (small_join (small_name config h.names (names_from from s.decls) name h.text.1) (small_entity config s (let few = h.few in omega (arith, few)) e h.formed)))
+      (small_join (small_name config h.names (names_from from s.decls) name h.text.1)
+      (small_entity config s (let few = h.few in omega (arith, few)) e h.formed)))
   small_decl s (exports name e) h =
       small_join (small_item s item.Export)
-      (small_join (small_name config h.names (module_export_names s.decls) name h.text) (small_entity config s (let few = h.few in omega (arith, few)) e h.formed))
+      (small_join (small_name config h.names (module_export_names s.decls) name h.text)
+      (small_entity config s (let few = h.few in omega (arith, few)) e h.formed))
   small_decl s (declares f) h = small_join (small_item s item.Type) (small_function config f)
   small_decl s (aliases count i) h =
       let cs : List (ℕ × ℕ) = alias_choices around s in
@@ -157,7 +160,8 @@ module _ (config : Config) (around : Scope) where
       (behind_sayable config around fuel ds formed limits texts lasts few short)))
 
   small_lasting : (fuel : ℕ) (ds : List ModuleDecl) → FormedCore (core_module ds) around.core_types → ModuleLimits config ds
-      → IsReadableCore config (core_module ds) → core_need (core_module ds) ≤ fuel → length around.core_types ≤ 2 ^ 63 → config.max_name_length < 2 ^ 64 → (b : Bool) → nat_le 2 fuel ≡ b
+      → IsReadableCore config (core_module ds) → core_need (core_module ds) ≤ fuel → length around.core_types ≤ 2 ^ 63 → config.max_name_length < 2 ^ 64
+      → (b : Bool) → nat_le 2 fuel ≡ b
       → Small (if b then pick 2 1 ++ script_module config around (fuel - 1) ds else [])
   small_lasting fuel ds formed limits texts need few short true e =
       let some : 2 ≤ fuel = grind (arith, nat_tests) in

@@ -88,7 +88,8 @@ params_flat : {max : ℕ} {names : List (List ℕ)} {vs : List ValType} {b rest 
 params_flat no_params = refl
 params_flat (a_param n p later) = let first = among_flat p in let more = params_flat later in λ i. first i ∷ more i
 
-params_count : {max : ℕ} {names : List (List ℕ)} {vs : List ValType} {b rest : List ℕ} {fs : List Field} → ReadsParams max names vs b fs rest → length fs ≡ length vs
+params_count : {max : ℕ} {names : List (List ℕ)} {vs : List ValType} {b rest : List ℕ} {fs : List Field} → ReadsParams max names vs b fs rest
+    → length fs ≡ length vs
 params_count no_params = refl
 params_count (a_param n p later) = let more = params_count later in omega (arith, more)
 
@@ -102,7 +103,8 @@ params_offered : {max : ℕ} {names : List (List ℕ)} {vs : List ValType} {b re
 params_offered own no_params = tt
 params_offered own (a_param n p later) = (tt, params_offered own later)
 
-params_new : {max : ℕ} {names : List (List ℕ)} {vs : List ValType} {b rest : List ℕ} {fs : List Field} → ReadsParams max names vs b fs rest → AreNew names (map (λ p. p.0) fs)
+params_new : {max : ℕ} {names : List (List ℕ)} {vs : List ValType} {b rest : List ℕ} {fs : List Field} → ReadsParams max names vs b fs rest
+    → AreNew names (map (λ p. p.0) fs)
 params_new no_params = tt
 params_new (a_param n p later) = (n.unique.is_new, params_new later)
 
@@ -164,7 +166,8 @@ module _ {max : ℕ} {f : Function} {b : List ℕ} {s : Signature} {rest : List 
 
 -- The bytes decide a signature, and what it leaves.
 
-params_same : {max : ℕ} {names : List (List ℕ)} {vs : List ValType} {b r q : List ℕ} {fs gs : List Field} → ReadsParams max names vs b fs r → ReadsParams max names vs b gs q
+params_same : {max : ℕ} {names : List (List ℕ)} {vs : List ValType} {b r q : List ℕ} {fs gs : List Field} → ReadsParams max names vs b fs r
+    → ReadsParams max names vs b gs q
     → (fs ≡ gs) × (r ≡ q)
 params_same no_params no_params = (refl, refl)
 params_same {max} {names = names} {r = r} (a_param {v = v} {vs = vs} {mid = mid} {low = low} {name = a} {p = p} {fs = fs} n c more)
@@ -198,7 +201,8 @@ abbrev pub Onward : ℕ → List ValType → List ℕ → ℕ → List ℕ → L
 Onward max core start i b so_far =
     (fs : List Field) (rest : List ℕ) → ReadsParams max (map (λ p. p.0) so_far) (drop i core) b fs rest → ReadsParams max [] core start (so_far ++ fs) rest
 
-pub one_more : {max : ℕ} (core : List ValType) (start : List ℕ) (i : ℕ) (b mid low name : List ℕ) (v other : ValType) (p : PrimitiveValType) (so_far next : List Field)
+pub one_more : {max : ℕ} (core : List ValType) (start : List ℕ) (i : ℕ) (b mid low name : List ℕ) (v other : ValType) (p : PrimitiveValType)
+    (so_far next : List Field)
     → i < length core → v ≡ get_or core i other
     → ReadsNew max (map (λ q. q.0) so_far) b name mid → ReadsAmong (lifted v) mid p low → next ≡ so_far ++ (name, Primitive p) ∷ []
     → Onward max core start i b so_far → Onward max core start (i + 1) low next
@@ -227,7 +231,8 @@ one_item (y ∷ []) x n e = λ i. sym e i ∷ []
 one_item (y ∷ z ∷ zs) x n e = absurd (omega (arith, n))
 
 -- The result is read after the parameters.
-pub all_lifted : {max : ℕ} (f : Function) (vs : List ValType) (v : ValType) (b mid rest : List ℕ) (fs : List Field) (p : PrimitiveValType) → vs ≡ f.0 → length f.1 ≡ 1
+pub all_lifted : {max : ℕ} (f : Function) (vs : List ValType) (v : ValType) (b mid rest : List ℕ) (fs : List Field) (p : PrimitiveValType) → vs ≡ f.0
+    → length f.1 ≡ 1
     → v ≡ get_or f.1 0 v → ReadsParams max [] vs b fs mid → ReadsAmong (lifted v) mid p rest
     → ReadsLiftedType max f b (record { params = fs; result = Some (Primitive p) }) rest
 all_lifted {max} f vs v b mid rest fs p same one first params result = record {

@@ -1,6 +1,7 @@
 -- The script of the signature of a lift is read as it.
 use Rattle.smith_format.specs.declared.config.Config.{Config}
-use Rattle.std.proofs.Common.{◌≡◌, ℕ, ◌+◌, ◌≤◌, ◌<◌, ◌^◌, List, [], ◌∷◌, ◌++◌, map, length, arith, refl, sym, ap, ◌∙◌, subst, append_assoc, length-append, Option, None}
+use Rattle.std.proofs.Common.{◌≡◌, ℕ, ◌+◌, ◌≤◌, ◌<◌, ◌^◌, List, [], ◌∷◌, ◌++◌, map, length, arith, refl, sym, ap, ◌∙◌, subst, append_assoc, length-append}
+use Rattle.std.proofs.Common.{Option, None}
 use Rattle.std.proofs.Common.{Some, lit≤}
 use Rattle.std.specs.List.{AllByRecursion}
 use Rattle.std.specs.Option.{option_to_list}
@@ -61,7 +62,8 @@ scalar_read prim.F32 v rest e = scalar_in F32 prim.F32 0 v rest refl e
 scalar_read prim.F64 v rest e = scalar_in F64 prim.F64 0 v rest refl e
 scalar_read prim.String v rest e = absurd (cc)
 
-params_read : (config : Config) → config.max_name_length < 2 ^ 64 → (ns : List (List ℕ)) (vs : List ValType) (fs : List Field) (rest : List ℕ) → map (λ p. flat_value p.1) fs ≡ map Some vs
+params_read : (config : Config) → config.max_name_length < 2 ^ 64 → (ns : List (List ℕ)) (vs : List ValType) (fs : List Field) (rest : List ℕ)
+    → map (λ p. flat_value p.1) fs ≡ map Some vs
     → AllByRecursion Kebab (map (λ p. p.0) fs) → AreReachable config.max_name_length ns (map (λ p. p.0) fs)
     → ReadsParams config.max_name_length ns vs (script_params config (length ns) fs ++ rest) fs rest
 params_read config short ns [] [] rest e k r = no_params
@@ -98,11 +100,13 @@ result_read (Some (Primitive p)) (v ∷ []) rest e one =
     let first : flat_primitive p ≡ Some v = cc in
     record { value = v; primitive = p; only = refl; reads = scalar_read p v rest first; is = refl }
 
-pub lifted_read : (config : Config) → config.max_name_length < 2 ^ 64 → (core : Function) (s : Signature) (rest : List ℕ) → Flattens s core → Named (map (λ p. p.0) s.params)
+pub lifted_read : (config : Config) → config.max_name_length < 2 ^ 64 → (core : Function) (s : Signature) (rest : List ℕ) → Flattens s core
+    → Named (map (λ p. p.0) s.params)
     → AreReadableNames config (map (λ p. p.0) s.params) → ReadsLiftedType config.max_name_length core (script_lifted config s ++ rest) s rest
 lifted_read config short core s rest flat named readable =
     let r = result_read s.result core.1 rest flat.result flat.one in
-    subst (λ z. ReadsLiftedType config.max_name_length core z s rest) (sym (append_assoc (script_params config 0 s.params) (script_result s.result) rest)) (record {
+    subst (λ z. ReadsLiftedType config.max_name_length core z s rest) (sym (append_assoc (script_params config 0 s.params) (script_result s.result) rest))
+    (record {
       mid = script_result s.result ++ rest;
       core_result = r.value;
       primitive = r.primitive;
@@ -113,7 +117,9 @@ lifted_read config short core s rest flat named readable =
     })
 
 -- What a script says is read as it, and as nothing else.
-pub lifted_scripted : (config : Config) → config.max_name_length < 2 ^ 64 → (core : Function) (s t : Signature) (bytes rest left : List ℕ) → Flattens s core → Named (map (λ p. p.0) s.params)
-    → AreReadableNames config (map (λ p. p.0) s.params) → bytes ≡ script_lifted config s ++ rest → ReadsLiftedType config.max_name_length core bytes t left → (t ≡ s) × (left ≡ rest)
+pub lifted_scripted : (config : Config) → config.max_name_length < 2 ^ 64 → (core : Function) (s t : Signature) (bytes rest left : List ℕ) → Flattens s core
+    → Named (map (λ p. p.0) s.params)
+    → AreReadableNames config (map (λ p. p.0) s.params) → bytes ≡ script_lifted config s ++ rest → ReadsLiftedType config.max_name_length core bytes t left
+    → (t ≡ s) × (left ≡ rest)
 lifted_scripted config short core s t bytes rest left flat named readable begins reads =
     lifted_same (subst (λ z. ReadsLiftedType config.max_name_length core z t left) begins reads) (lifted_read config short core s rest flat named readable)

@@ -102,7 +102,8 @@ module _ {config : Config} {own : Marked} {b : List ℕ} {fuel : ℕ} {t : DefVa
           }
 
   labels_fit : {max : ℕ} (of : List (List ℕ) → DefValType) → ((xs : List (List ℕ)) → defined_size (of xs) ≡ length xs)
-      → ((xs : List (List ℕ)) → Named xs × AreReadableNames config xs → 1 ≤ length xs → length xs ≤ max → IsDefined own (of xs) × IsReadableDefined config (of xs))
+      → ((xs : List (List ℕ)) → Named xs × AreReadableNames config xs → 1 ≤ length xs → length xs ≤ max
+      → IsDefined own (of xs) × IsReadableDefined config (of xs))
       → MadeMembers config (ReadsNew config.max_name_length) max of b fuel t rest left → DefinedFits config own b fuel t rest left
   labels_fit of size is m = members_fit of size (λ so_far c x r h. new_tail h) (λ xs r some. is xs (labels_named config r) some (members_few config r)) m
 
@@ -129,7 +130,8 @@ module _ {config : Config} {own : Marked} {b : List ℕ} {fuel : ℕ} {t : DefVa
       plain_fits (result_type ok err) i (tail_trans (maybe_tail own mid err rest s) (maybe_tail own b ok mid r))
       ((p.0, q.0), all_both (OfferedValue own) (option_to_list ok) (option_to_list err) p.1 q.1) tt refl j
 
-pub defined_fits : {config : Config} {own : Marked} {b : List ℕ} {fuel : ℕ} {t : DefValType} {rest : List ℕ} {left : ℕ} → MadeDefined config own b fuel t rest left
+pub defined_fits : {config : Config} {own : Marked} {b : List ℕ} {fuel : ℕ} {t : DefValType} {rest : List ℕ} {left : ℕ}
+    → MadeDefined config own b fuel t rest left
     → DefinedFits config own b fuel t rest left
 defined_fits d =
     let f = as_fits d.kind d.made in
@@ -148,7 +150,8 @@ both_used zero zero fuel held some h k l = omega arith
 both_used (suc n) zero fuel held some h k l = omega (arith, h)
 both_used n (suc r) fuel held some h k l = omega (arith, k, l)
 
-pub function_fits : {config : Config} {own : Marked} {b : List ℕ} {fuel : ℕ} {s : Signature} {rest : List ℕ} {left : ℕ} → MadeFunction config own b fuel s rest left
+pub function_fits : {config : Config} {own : Marked} {b : List ℕ} {fuel : ℕ} {s : Signature} {rest : List ℕ} {left : ℕ}
+    → MadeFunction config own b fuel s rest left
     → FunctionFits config own b fuel s rest left
 function_fits {config} {own} {fuel = fuel} {s = s} f =
     let params = members_all config f.takes (λ p. IsValue own p.1) (λ so_far c x d h. val_is own h.mid x.1 d h.after) in
@@ -213,7 +216,8 @@ made_members_same config one of b fuel d e r s f g (xs, x, i) (ys, y, k) =
     let u = members_same config one x y in
     record { value = i ∙ (ap (or_bool of) u.value ∙ sym k); rest = u.rest; left = u.left }
 
-as_same : (config : Config) → (own : Marked) (k : DefinedKind) (b : List ℕ) (fuel : ℕ) (d e : DefValType) (r s : List ℕ) (f g : ℕ) → MadeAs config own k b fuel d r f
+as_same : (config : Config) → (own : Marked) (k : DefinedKind) (b : List ℕ) (fuel : ℕ) (d e : DefValType) (r s : List ℕ) (f g : ℕ)
+    → MadeAs config own k b fuel d r f
     → MadeAs config own k b fuel e s g → Same d e r s f g
 as_same config own kind.Primitive b fuel d e r s f g (p, x, i, j) (q, y, k, l) = let u = among_same x y in
     record { value = i ∙ (ap primitive_type u.0 ∙ sym k); rest = u.1; left = j ∙ sym l }

@@ -55,7 +55,8 @@ module _ (config : Config) (s : Declared) where
       let Q : List ℕ → Type 0 = λ z. ReadsEntityOf config s y.kind z d r in
       entity_of_same y.kind y.mid d e r q (subst Q c.1 (subst P c.0 x.is)) y.is
 
-import_names_same : (config : Config) → (s : Declared) (bytes m n a b r q : List ℕ) → ReadsImportNames config s bytes m a r → ReadsImportNames config s bytes n b q → (m ≡ n) × (a ≡ b) × (r ≡ q)
+import_names_same : (config : Config) → (s : Declared) (bytes m n a b r q : List ℕ) → ReadsImportNames config s bytes m a r
+    → ReadsImportNames config s bytes n b q → (m ≡ n) × (a ≡ b) × (r ≡ q)
 import_names_same config s bytes m n a b r q (mid, t, x) (low, u, y) =
     let v = text_unique t u in
     let P : List ℕ → Type 0 = λ z. ReadsNewText config.max_name_length (names_from z s.decls) mid a r in

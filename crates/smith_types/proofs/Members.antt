@@ -31,7 +31,8 @@ pub named_tail : {config : Config} {B : Type 0} {After : List ℕ → B → List
     → (so_far : List (List ℕ × B)) (b : List ℕ) (x : List ℕ × B) (rest : List ℕ) → ReadsNamed config After so_far b x rest → IsTail rest b
 named_tail one so_far b x rest r = tail_trans (one r.mid x.1 rest r.after) (new_tail r.name)
 
-module _ (config : Config) {A : Type 0} {Member : List A → List ℕ → A → List ℕ → Type 0} {min max : ℕ} {b : List ℕ} {fuel : ℕ} {xs : List A} {rest : List ℕ} {left : ℕ}
+module _ (config : Config) {A : Type 0} {Member : List A → List ℕ → A → List ℕ → Type 0} {min max : ℕ} {b : List ℕ} {fuel : ℕ} {xs : List A} {rest : List ℕ}
+    {left : ℕ}
     (l : ReadsMembers config Member min max b fuel xs rest left) where
   pub members_tail : ((so_far : List A) (c : List ℕ) (x : A) (r : List ℕ) → Member so_far c x r → IsTail r c) → IsTail rest b
   members_tail one = loop_tail (λ s c r t e. tail_is e.stays) (λ s c x r t i. one s.0 c x r i.member) 0 ([], fuel) b xs rest (xs, left) l
@@ -65,9 +66,11 @@ module _ (config : Config) {A : Type 0} {Member : List A → List ℕ → A → 
 
   -- members with names, none of which is the name of a member before it: all can be read
   module _ (name : A → List ℕ)
-      (one : (so_far : List A) (c : List ℕ) (x : A) (r : List ℕ) → Member so_far c x r → (mid : List ℕ) × ReadsNew config.max_name_length (map name so_far) c (name x) mid) where
+      (one : (so_far : List A) (c : List ℕ) (x : A) (r : List ℕ) → Member so_far c x r
+      → (mid : List ℕ) × ReadsNew config.max_name_length (map name so_far) c (name x) mid) where
     abbrev Names : List A → List A → Type 0
-    Names so_far ys = AreNew (map name so_far) (map name ys) × AllByRecursion Kebab (map name ys) × AreReachable config.max_name_length (map name so_far) (map name ys)
+    Names so_far ys = AreNew (map name so_far) (map name ys) × AllByRecursion Kebab (map name ys)
+        × AreReachable config.max_name_length (map name so_far) (map name ys)
 
     names_one : (s t u : List A × ℕ) (c : List ℕ) (x : A) (r : List ℕ) (ys : List A) → ReadsMember Member s c x r t → Names t.0 ys → Names s.0 (x ∷ ys)
     names_one s t u c x r ys i later =
@@ -81,7 +84,8 @@ module _ (config : Config) {A : Type 0} {Member : List A → List ℕ → A → 
         let all : Names [] xs = gives (λ s ys t. Names s.0 ys) (λ s. (tt, tt, tt)) (λ s t none. (tt, tt, tt)) names_one in
         ((all.1, new_distinct [] (map name xs) all.0), all.2)
 
-pub named_name : {config : Config} {B : Type 0} {After : List ℕ → B → List ℕ → Type 0} → (so_far : List (List ℕ × B)) (b : List ℕ) (x : List ℕ × B) (rest : List ℕ)
+pub named_name : {config : Config} {B : Type 0} {After : List ℕ → B → List ℕ → Type 0}
+    → (so_far : List (List ℕ × B)) (b : List ℕ) (x : List ℕ × B) (rest : List ℕ)
     → ReadsNamed config After so_far b x rest → (mid : List ℕ) × ReadsNew config.max_name_length (map (λ y. y.0) so_far) b x.0 mid
 named_name so_far b x rest r = (r.mid, r.name)
 
@@ -92,7 +96,8 @@ pub labels_named : (config : Config) {min max : ℕ} {b : List ℕ} {fuel : ℕ}
     → ReadsMembers config (ReadsNew config.max_name_length) min max b fuel xs rest left → Named xs × AreReadableNames config xs
 labels_named config {xs = xs} l = subst (λ ns. Named ns × AreReadableNames config ns) (map-id xs) (members_named config l (λ x. x) label_name)
 
-pub members_same : (config : Config) {A : Type 0} {Member : List A → List ℕ → A → List ℕ → Type 0} {min max : ℕ} {b : List ℕ} {fuel : ℕ} {xs ys : List A} {r s : List ℕ}
+pub members_same : (config : Config) {A : Type 0} {Member : List A → List ℕ → A → List ℕ → Type 0} {min max : ℕ} {b : List ℕ} {fuel : ℕ} {xs ys : List A}
+    {r s : List ℕ}
     {f g : ℕ}
     → ((so_far : List A) (b : List ℕ) (x y : A) (r s : List ℕ) → Member so_far b x r → Member so_far b y s → (x ≡ y) × (r ≡ s))
     → ReadsMembers config Member min max b fuel xs r f → ReadsMembers config Member min max b fuel ys s g → Same xs ys r s f g
@@ -109,7 +114,8 @@ members_same config {A} {Member} {b = b} {fuel = fuel} {xs = xs} {ys = ys} {r = 
         let v = one w.0 c x y p q i.member j.member in
         (v.0, v.1, i.state ∙ (ap (λ z. (w.0 ++ z ∷ [], w.1 - 1)) v.0 ∙ sym j.state))
 
-pub named_same : {config : Config} {B : Type 0} {After : List ℕ → B → List ℕ → Type 0} → ((b : List ℕ) (x y : B) (r s : List ℕ) → After b x r → After b y s → (x ≡ y) × (r ≡ s))
+pub named_same : {config : Config} {B : Type 0} {After : List ℕ → B → List ℕ → Type 0}
+    → ((b : List ℕ) (x y : B) (r s : List ℕ) → After b x r → After b y s → (x ≡ y) × (r ≡ s))
     → (so_far : List (List ℕ × B)) (b : List ℕ) (x y : List ℕ × B) (r s : List ℕ) → ReadsNamed config After so_far b x r → ReadsNamed config After so_far b y s
     → (x ≡ y) × (r ≡ s)
 named_same {After = After} one so_far b x y r s p q =
@@ -155,12 +161,15 @@ module _ {A : Type 0} where
       → (left : ℕ) × (left + length xs ≡ fuel) × ReadsMembers config Member min max (script_members f min max xs ++ rest) fuel xs rest left
   members_read config {min = min} {max = max} Member f P one xs fuel rest all some few lasts =
       let read =
-      loop_read {Ends = IsSpent} {Item = ReadsMember Member} {bits = config.loop_bits} {min = min} {max = max} (λ s x. f (length s.0) x) next_member (λ s x. P s.0 x × (0 < s.1 - 1))
+      loop_read {Ends = IsSpent} {Item = ReadsMember Member} {bits = config.loop_bits} {min = min} {max = max} (λ s x. f (length s.0) x) next_member
+      (λ s x. P s.0 x × (0 < s.1 - 1))
       (λ s x more p. record { lasts = p.1; member = one s.0 x more p.0; state = refl })
       xs 0 ([], fuel) rest (lasts_along P [] fuel xs all lasts) (omega (arith, some)) (omega (arith, few))
       in
-      let B : List ℕ → Type 0 = λ said. Loop IsSpent (ReadsMember Member) config.loop_bits min max 0 ([], fuel) (said ++ rest) xs rest (after_all next_member ([], fuel) xs) in
-      let T : List A × ℕ → Type 0 = λ t. Loop IsSpent (ReadsMember Member) config.loop_bits min max 0 ([], fuel) (script_members f min max xs ++ rest) xs rest t in
+      let B : List ℕ → Type 0 = λ said. Loop IsSpent (ReadsMember Member) config.loop_bits min max 0 ([], fuel) (said ++ rest) xs rest
+      (after_all next_member ([], fuel) xs) in
+      let T : List A × ℕ → Type 0 = λ t. Loop IsSpent (ReadsMember Member) config.loop_bits min max 0 ([], fuel)
+      (script_members f min max xs ++ rest) xs rest t in
       (fuel - length xs, omega arith, subst T (after_members [] fuel xs) (subst B (sym (counted f min max 0 ([], fuel) xs)) read))
 
 -- A member has a name in kebab case that can be read, and what follows that is as it should be.
@@ -168,7 +177,8 @@ abbrev pub IsReady : {A : Type 0} → Config → (A → List ℕ) → (A → Typ
 IsReady config name Q so_far x = Kebab (name x) × IsReachable config.max_name_length (map name so_far) (name x) × Q x
 
 module _ (config : Config) {A : Type 0} (name : A → List ℕ) (Q : A → Type 0) where
-  each_ready : (xs so_far : List A) → AllByRecursion Kebab (map name xs) → AreReachable config.max_name_length (map name so_far) (map name xs) → AllByRecursion Q xs
+  each_ready : (xs so_far : List A) → AllByRecursion Kebab (map name xs) → AreReachable config.max_name_length (map name so_far) (map name xs)
+      → AllByRecursion Q xs
       → Ready (IsReady config name Q) so_far xs
   each_ready [] so_far k r q = tt
   each_ready (x ∷ xs) so_far k r q =
@@ -183,16 +193,19 @@ names_of : {B : Type 0} (so_far : List (String Global × B)) → map (λ p. stri
 names_of [] = refl
 names_of (p ∷ ps) = ap (λ ns. string_bytes p.0 ∷ ns) (names_of ps)
 
-pub new_named : {max : ℕ} {B : Type 0} (so_far : List (String Global × B)) {bytes name mid : List ℕ} → ReadsNew max (map (λ p. string_bytes p.0) so_far) bytes name mid
+pub new_named : {max : ℕ} {B : Type 0} (so_far : List (String Global × B)) {bytes name mid : List ℕ}
+    → ReadsNew max (map (λ p. string_bytes p.0) so_far) bytes name mid
     → ReadsNew max (map (λ y. y.0) (map named so_far)) bytes name mid
 new_named {max} so_far {bytes} {name} {mid} r = subst (λ ns. ReadsNew max ns bytes name mid) (names_of so_far) r
 
 pub is_named : {config : Config} {B : Type 0} {After : List ℕ → B → List ℕ → Type 0} (so_far : List (String Global × B)) {bytes name mid rest : List ℕ} {y : B}
-    → ReadsNew config.max_name_length (map (λ p. string_bytes p.0) so_far) bytes name mid → After mid y rest → ReadsNamed config After (map named so_far) bytes (name, y) rest
+    → ReadsNew config.max_name_length (map (λ p. string_bytes p.0) so_far) bytes name mid → After mid y rest
+    → ReadsNamed config After (map named so_far) bytes (name, y) rest
 is_named so_far {mid = mid} r a = record { mid = mid; name = new_named so_far r; after = a }
 
 -- a name, and what follows it
-pub named_read : {config : Config} (short : config.max_name_length < 2 ^ 64) {B : Type 0} (After : List ℕ → B → List ℕ → Type 0) (f : B → List ℕ) (Q : B → Type 0)
+pub named_read : {config : Config} (short : config.max_name_length < 2 ^ 64) {B : Type 0} (After : List ℕ → B → List ℕ → Type 0) (f : B → List ℕ)
+    (Q : B → Type 0)
     → ((x : B) (rest : List ℕ) → Q x → After (f x ++ rest) x rest)
     → (so_far : List (List ℕ × B)) (x : List ℕ × B) (rest : List ℕ) → IsReady config (λ y. y.0) (λ y. Q y.1) so_far x
     → ReadsNamed config After so_far ((script_label config (length so_far) x.0 ++ f x.1) ++ rest) x rest
@@ -207,7 +220,8 @@ named_read {config} short After f Q one so_far x rest (k, r, q) =
       after = one x.1 rest q;
     })
 
-pub label_read : (config : Config) (short : config.max_name_length < 2 ^ 64) (so_far : List (List ℕ)) (n rest : List ℕ) → IsReady config (λ y. y) (λ y. Unit {0}) so_far n
+pub label_read : (config : Config) (short : config.max_name_length < 2 ^ 64) (so_far : List (List ℕ)) (n rest : List ℕ)
+    → IsReady config (λ y. y) (λ y. Unit {0}) so_far n
     → ReadsNew config.max_name_length so_far (script_label config (length so_far) n ++ rest) n rest
 label_read config short so_far n rest (k, r, _) =
     let P : List (List ℕ) → Type 0 = λ ns. ReadsNew config.max_name_length ns (script_label config (length ns) n ++ rest) n rest in
@@ -226,7 +240,8 @@ spends {so_far = so_far} held left burnt none = record { spent = omega arith; st
 module _ {A : Type 0} {Member : List A → List ℕ → A → List ℕ → Type 0} where
   -- nothing was read
   pub starts : {bits min max : ℕ} {b : List ℕ} (fuel : ℕ) (so_far : List A) → so_far ≡ [] → (xs : List A) (rest : List ℕ) (t : List A × ℕ)
-      → Loop IsSpent (ReadsMember Member) bits min max 0 (so_far, fuel) b xs rest t → Loop IsSpent (ReadsMember Member) bits min max 0 ([], fuel) b (so_far ++ xs) rest t
+      → Loop IsSpent (ReadsMember Member) bits min max 0 (so_far, fuel) b xs rest t
+      → Loop IsSpent (ReadsMember Member) bits min max 0 ([], fuel) b (so_far ++ xs) rest t
   starts {bits = bits} {min = min} {max = max} {b = b} fuel so_far none xs rest t l =
       let P : List A → Type 0 = λ ys. Loop IsSpent (ReadsMember Member) bits min max 0 ([], fuel) b (ys ++ xs) rest t in
       let Q : List A → Type 0 = λ ys. Loop IsSpent (ReadsMember Member) bits min max 0 (ys, fuel) b xs rest t in

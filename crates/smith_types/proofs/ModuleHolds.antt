@@ -1,6 +1,7 @@
 -- What holds of a module type that grows by one declaration after another: it is well formed and within the limits, and its names can be
 -- read.
-use Rattle.std.proofs.Common.{◌≡◌, ℕ, ◌<◌, Bool, true, false, List, [], ◌∷◌, ◌++◌, length, take, refl, sym, ap, ◌∙◌, subst, arith, append-nil, append_assoc, codes}
+use Rattle.std.proofs.Common.{◌≡◌, ℕ, ◌<◌, Bool, true, false, List, [], ◌∷◌, ◌++◌, length, take, refl, sym, ap, ◌∙◌, subst, arith, append-nil, append_assoc}
+use Rattle.std.proofs.Common.{codes}
 use Rattle.std.proofs.lemmas.Bool.{le-leb}
 use Rattle.std.proofs.lemmas.List.{length-take}
 use Rattle.std.specs.Prelude.{Option, Some, None, IfSome, slice_get}
@@ -37,7 +38,8 @@ text_readable config {text = text} r = (
   ),
 )
 
-pub new_readable : (config : Config) {names : List (List ℕ)} {b name rest : List ℕ} → ReadsNewText config.max_name_length names b name rest → IsReadableNewText config names name
+pub new_readable : (config : Config) {names : List (List ℕ)} {b name rest : List ℕ} → ReadsNewText config.max_name_length names b name rest
+    → IsReadableNewText config names name
 new_readable config r = (new_text_utf8 r, new_text_reachable r)
 
 -- one more declaration

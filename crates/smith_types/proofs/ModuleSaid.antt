@@ -103,7 +103,8 @@ module _ (config : Config) (around : Scope) (whole : List ModuleDecl) (limits : 
       omega (arith, types_both before (d ∷ []), counted, adds_counted own d formed, length-append own (adds around.core_types own d))
 
   -- What follows a part of the declarations can be said after it.
-  pub decls_sayable : length whole + length around.core_types ≤ 2 ^ 64 → config.max_name_length < 2 ^ 64 → (s : Declared) (ds : List ModuleDecl) → whole ≡ s.decls ++ ds
+  pub decls_sayable : length whole + length around.core_types ≤ 2 ^ 64 → config.max_name_length < 2 ^ 64 → (s : Declared) (ds : List ModuleDecl)
+      → whole ≡ s.decls ++ ds
       → type_count s.decls ≡ length s.own → FormedDecls around.core_types s.own ds → AreReadableModuleDecls config s.decls ds → length ds < s.fuel
       → Along (IsSayable config around) (with_decl around.core_types) s ds
   decls_sayable few short s [] split counted formed texts lasts = tt

@@ -87,7 +87,8 @@ module _ {config : Config} {importing : Bool} {outer : List Marked} {start : Lis
     pub is_full : 100 ≤ done → Whole bytes fuel
     is_full h = stops bytes false (more_full bytes h) refl
 
-    pub goes_on : (mid low : List ℕ) (answer : Bool) (held left : ℕ) (next : List Contents) (declared2 : TypeBody) → More config.loop_bits done 0 100 bytes answer mid
+    pub goes_on : (mid low : List ℕ) (answer : Bool) (held left : ℕ) (next : List Contents) (declared2 : TypeBody)
+        → More config.loop_bits done 0 100 bytes answer mid
         → answer ≡ true → held ≡ fuel - 1 → 0 < held → AddsDeclaration config scopes next p.so_far declared declared2 mid held low left
         → Progress config importing outer start first_fuel (done + 1) next declared2 low left
     goes_on mid low answer held left next declared2 m e burnt lasts a = record {

@@ -36,11 +36,13 @@ pub ref_tail : (config : Config) (own : Marked) (totals : RefTotals) (for_import
     → ReadsRef config own totals for_import for_type_def b r rest → IsTail rest b
 ref_tail config own totals for_import for_type_def b r rest h = tail_trans (among_tail h.names) (among_tail h.choice)
 
-maybe_url_tail : {config : Config} → (used : List (List ℕ)) (b : List ℕ) (u : Option (List ℕ)) (rest : List ℕ) → ReadsMaybeUrl config used b u rest → IsTail rest b
+maybe_url_tail : {config : Config} → (used : List (List ℕ)) (b : List ℕ) (u : Option (List ℕ)) (rest : List ℕ) → ReadsMaybeUrl config used b u rest
+    → IsTail rest b
 maybe_url_tail used b u rest (no_url f) = (1, f.left)
 maybe_url_tail used b u rest (a_url f n e) = tail_trans (new_tail n) (1, f.left)
 
-pub extern_tail : {config : Config} → (so_far : List NamedExtern) (b : List ℕ) (x : NamedExtern) (rest : List ℕ) → ReadsNamedExtern config so_far b x rest → IsTail rest b
+pub extern_tail : {config : Config} → (so_far : List NamedExtern) (b : List ℕ) (x : NamedExtern) (rest : List ℕ) → ReadsNamedExtern config so_far b x rest
+    → IsTail rest b
 extern_tail so_far b x rest r = tail_trans (maybe_url_tail (url_names so_far) r.mid x.1 rest r.url) (new_tail r.name)
 
 pub alias_tail : (scopes : List Marked) (b : List ℕ) (d : FullDecl) (rest : List ℕ) → ReadsAlias scopes b d rest → IsTail rest b
@@ -165,7 +167,8 @@ ref_same config own totals for_import for_type_def b x y r s p q =
     let v = among_same (subst Q u.1 (subst P u.0 p.names)) q.names in
     (p.is ∙ (λ i. ref_to (u.0 i) (v.0 i)) ∙ sym q.is, v.1)
 
-url_same : {config : Config} → (used : List (List ℕ)) (b : List ℕ) (u v : Option (List ℕ)) (r s : List ℕ) → ReadsMaybeUrl config used b u r → ReadsMaybeUrl config used b v s → (u ≡ v) × (r ≡ s)
+url_same : {config : Config} → (used : List (List ℕ)) (b : List ℕ) (u v : Option (List ℕ)) (r s : List ℕ) → ReadsMaybeUrl config used b u r
+    → ReadsMaybeUrl config used b v s → (u ≡ v) × (r ≡ s)
 url_same used b u v r s (no_url f) (no_url g) = (refl, (flips_unique f g).1)
 url_same used b u v r s (no_url f) (a_url g n e) = absurd (let z : false ≡ true = (flips_unique f g).0 in cc)
 url_same used b u v r s (a_url g n e) (no_url f) = absurd (let z : true ≡ false = (flips_unique g f).0 in cc)
@@ -174,7 +177,8 @@ url_same {config} used b u v r s (a_url {name = a} f n e) (a_url {name = c} g m 
     let w = new_unique (subst P (flips_unique f g).1 n) m in
     (e ∙ ap (λ t. Some (codes "https://example.com/" ++ t)) w.0 ∙ sym h, w.1)
 
-pub extern_same : {config : Config} → (so_far : List NamedExtern) (b : List ℕ) (x y : NamedExtern) (r s : List ℕ) → ReadsNamedExtern config so_far b x r → ReadsNamedExtern config so_far b y s
+pub extern_same : {config : Config} → (so_far : List NamedExtern) (b : List ℕ) (x y : NamedExtern) (r s : List ℕ) → ReadsNamedExtern config so_far b x r
+    → ReadsNamedExtern config so_far b y s
     → (x ≡ y) × (r ≡ s)
 extern_same {config} so_far b x y r s p q =
     let n = new_unique p.name q.name in

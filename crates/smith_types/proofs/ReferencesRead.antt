@@ -214,13 +214,15 @@ function_chosen config own totals i modules components instances formed offered 
 
 -- names
 
-pub extern_read : {config : Config} (short : config.max_name_length < 2 ^ 64) (so_far : List NamedExtern) (name rest : List ℕ) → Kebab name → IsReachable config.max_name_length (names so_far) name
+pub extern_read : {config : Config} (short : config.max_name_length < 2 ^ 64) (so_far : List NamedExtern) (name rest : List ℕ) → Kebab name
+    → IsReachable config.max_name_length (names so_far) name
     → ReadsNamedExtern config so_far (script_extern config (length so_far) name ++ rest) (name, None) rest
 extern_read {config} short so_far name rest k made =
     let P : List ℕ → Type 0 = λ z. ReadsNamedExtern config so_far z (name, None) rest in
     let C : ℕ → Type 0 = λ count. ReadsNew config.max_name_length (names so_far) (script_label config count name ++ 0 ∷ rest) name (0 ∷ rest) in
     let said = subst C (length-map so_far (λ x. x.0)) (new_script_read config.max_name_length (names so_far) name (0 ∷ rest) (omega (arith, short)) k made) in
-    subst P (sym (append_assoc (script_label config (length so_far) name) (0 ∷ []) rest)) (record { mid = 0 ∷ rest; name = said; url = no_url (flips_zero rest) })
+    subst P (sym (append_assoc (script_label config (length so_far) name) (0 ∷ []) rest))
+    (record { mid = 0 ∷ rest; name = said; url = no_url (flips_zero rest) })
 
 -- no import
 

@@ -139,7 +139,8 @@ module _ (config : Config) (short : config.max_name_length < 2 ^ 64) where
 
   import_read : (s : SoFar) (name rest : List ℕ) (r : ComponentTypeRef) → Holding (2 ^ 64) s.own
       → Kebab name → IsReachable config.max_name_length (names s.imports) name → FormedRef (scope_in s.own) r → is_type_eq r ≡ false → OfferedRef s.own true r
-      → ReadsImportDecl config s.own s.imports ((pick 4 0 ++ (script_ref config s.own uncounted true true r ++ script_extern config (length s.imports) name)) ++ rest)
+      → ReadsImportDecl config s.own s.imports ((pick 4 0 ++ (script_ref config s.own uncounted true true r ++ script_extern config (length s.imports) name))
+      ++ rest)
       (import_decl name None r) rest
   import_read s name rest r few k made formed other offered =
       let of : List ℕ = script_ref config s.own uncounted true true r in
@@ -234,7 +235,8 @@ module _ (config : Config) (short : config.max_name_length < 2 ^ 64) where
             declares_read importing outer s.own item.CoreType (script_core config (scope_in s.own) fuel t) rest P
                 (made_core_type (no_import_read config s.own importing _) (item_read config outer s.own item.CoreType 2 true _ refl refl)
                 (core_read config (scope_in s.own) fuel t rest f m n l (omega (arith, held)) short) refl),
-            small_join (small_declares config importing s.own outer item.CoreType) (small_core config (scope_in s.own) fuel t f m n l (omega (arith, held)) short),
+            small_join (small_declares config importing s.own outer item.CoreType)
+                (small_core config (scope_in s.own) fuel t f m n l (omega (arith, held)) short),
           )
       decl_read (type_decl e) importing outer s fuel rest f o m n l said held fit =
           let room : nat_lt (length (s.own ∷ outer)) config.max_nesting_depth ≡ true = lt-ltb (length (s.own ∷ outer)) config.max_nesting_depth l.0 in
@@ -300,7 +302,8 @@ module _ (config : Config) (short : config.max_name_length < 2 ^ 64) where
             refl,
             refl,
             refl,
-            declares_read importing outer s.own item.Export (script_ref config s.own uncounted false true r ++ script_extern config (length s.exports) name) rest P
+            declares_read importing outer s.own item.Export
+                (script_ref config s.own uncounted false true r ++ script_extern config (length s.exports) name) rest P
                 (made_export (no_import_read config s.own importing _) (item_read config outer s.own item.Export 0 _ _ refl (export_there s.own r f o))
                 (export_read s name rest r fit.each.0 said.exports.0 n f o) left),
             small_join (small_declares config importing s.own outer item.Export)
@@ -340,7 +343,8 @@ module _ (config : Config) (short : config.max_name_length < 2 ^ 64) where
           let same : place ≡ next.own = ap (λ z. marked_after z outer s.own) one.1 ∙ after_plain outer s.own one.0 in
           let imports : names s.imports ++ names (import_of d) ≡ names next.imports = names_behind s.imports (import_of one.0) (import_of d) one.2 in
           let exports : names s.exports ++ names (export_of d) ≡ names next.exports = names_behind s.exports (export_of one.0) (export_of d) one.3 in
-          let readable : AreReadableDecls config ds (names next.imports) (names next.exports) = subst (λ z. AreReadableDecls config ds (names next.imports) z) exports
+          let readable : AreReadableDecls config ds (names next.imports) (names next.exports) =
+          subst (λ z. AreReadableDecls config ds (names next.imports) z) exports
           (subst (λ z. AreReadableDecls config ds z (names s.exports ++ names (export_of d))) imports n.1) in
           let counts : taken ≡ taken_by next = λ i. record {
             imports = count_behind s.imports (import_of one.0) (import_of d) one.2 i;

@@ -86,7 +86,8 @@ kind_place kind.Option = (7, refl)
 kind_place kind.Result = (8, refl)
 
 -- the kind that a script says
-kind_read : {config : Config} (own : Marked) (k : DefinedKind) (said rest : List ℕ) (fuel : ℕ) (t : DefValType) (left : ℕ) → MadeAs config own k (said ++ rest) fuel t rest left
+kind_read : {config : Config} (own : Marked) (k : DefinedKind) (said rest : List ℕ) (fuel : ℕ) (t : DefValType) (left : ℕ)
+    → MadeAs config own k (said ++ rest) fuel t rest left
     → MadeDefined config own ((script_kind k ++ said) ++ rest) fuel t rest left
 kind_read {config} own k said rest fuel t left made =
     let P : List ℕ → Type 0 = λ b. MadeDefined config own b fuel t rest left in
@@ -161,23 +162,27 @@ module _ (config : Config) (short : config.max_name_length < 2 ^ 64) (own : Mark
       let r = members_read config Member f P one xs fuel rest ready some few lasts in
       (r.0, r.1, (xs, r.2, some_members of xs some))
 
-  labels_made : (max : ℕ) (of : List (List ℕ) → DefValType) (ns : List (List ℕ)) (fuel : ℕ) (rest : List ℕ) → Named ns → AreReadableNames config ns → 1 ≤ length ns
+  labels_made : (max : ℕ) (of : List (List ℕ) → DefValType) (ns : List (List ℕ)) (fuel : ℕ) (rest : List ℕ) → Named ns → AreReadableNames config ns
+      → 1 ≤ length ns
       → length ns ≤ max → length ns + 1 ≤ fuel → (left : ℕ) × (left + length ns ≡ fuel)
       × MadeMembers config (ReadsNew config.max_name_length) max of (script_members (script_label config) 1 max ns ++ rest) fuel (of ns) rest left
   labels_made max of ns fuel rest n r some most lasts =
       let same = sym (map-id ns) in
-      made_members (ReadsNew config.max_name_length) (script_label config) (IsReady config (λ y. y) (λ y. Unit {0})) max of (label_read config short) ns fuel rest
+      made_members (ReadsNew config.max_name_length) (script_label config) (IsReady config (λ y. y) (λ y. Unit {0})) max of
+      (label_read config short) ns fuel rest
       (named_ready config (λ y. y) (λ y. Unit {0}) ns (subst Named same n) (subst (AreReadableNames config) same r) (all_unit ns)) some most lasts
 
   defined_read : (fuel : ℕ) (t : DefValType) (rest : List ℕ) → IsDefined own t → IsReadableDefined config t → LastsDefined (fuel + 1) t
       → (left : ℕ) × (left + defined_size t ≡ fuel) × MadeDefined config own (script_defined config own t ++ rest) fuel t rest left
   defined_read fuel (primitive_type p) rest f n l = (fuel, omega arith, kind_read own kind.Primitive _ rest fuel _ fuel (p, primitive_read p rest, refl, refl))
   defined_read fuel (record_type fs) rest f n l =
-      let r = made_members (ReadsNamed config (ReadsVal own)) (script_field config own) (IsReady config (λ y. y.0) (λ y. IsValue own y.1)) 100 record_type field_read fs fuel rest
+      let r = made_members (ReadsNamed config (ReadsVal own)) (script_field config own)
+      (IsReady config (λ y. y.0) (λ y. IsValue own y.1)) 100 record_type field_read fs fuel rest
       (named_ready config (λ y. y.0) (λ y. IsValue own y.1) fs f.0.0 n (fields_are own fs f.0.1 f.1)) f.0.2 f.0.3 (omega (arith, l)) in
       (r.0, r.1, kind_read own kind.Record _ rest fuel _ r.0 r.2)
   defined_read fuel (variant_type cs) rest f n l =
-      let r = made_members (ReadsNamed config (ReadsMaybe own)) (script_case config own) (IsReady config (λ y. y.0) (λ y. IsMaybe own y.1)) 100 variant_type case_read cs fuel
+      let r = made_members (ReadsNamed config (ReadsMaybe own)) (script_case config own)
+      (IsReady config (λ y. y.0) (λ y. IsMaybe own y.1)) 100 variant_type case_read cs fuel
       rest (named_ready config (λ y. y.0) (λ y. IsMaybe own y.1) cs f.0.0 n (cases_are own cs f.0.1 f.1)) f.0.2 f.0.3 (omega (arith, l)) in
       (r.0, r.1, kind_read own kind.Variant _ rest fuel _ r.0 r.2)
   defined_read fuel (list_type v) rest f n l = (fuel, omega arith, kind_read own kind.List _ rest fuel _ fuel (v, val_read v rest (f.0, f.1.0), refl, refl))
@@ -212,7 +217,8 @@ module _ (config : Config) (short : config.max_name_length < 2 ^ 64) (own : Mark
       let result = one_are own s.result (f.0.3, all_back (OfferedValue own) (map (λ p. p.1) s.params) (option_to_list s.result) f.1) in
       let said : List ℕ = script_members (script_field config own) 0 16 s.params in
       let gives : List ℕ = script_members (λ count v. script_val own v) 0 1 (option_to_list s.result) in
-      let p = members_read config {min = 0} {max = 16} (ReadsNamed config (ReadsVal own)) (script_field config own) (IsReady config (λ y. y.0) (λ y. IsValue own y.1)) field_read s.params
+      let p = members_read config {min = 0} {max = 16} (ReadsNamed config (ReadsVal own)) (script_field config own)
+      (IsReady config (λ y. y.0) (λ y. IsValue own y.1)) field_read s.params
       fuel (gives ++ rest) (named_ready config (λ y. y.0) (λ y. IsValue own y.1) s.params f.0.0 n params) (omega arith) f.0.2 (omega (arith, l)) in
       let g = members_read config {min = 0} {max = 1} (λ so_far. ReadsVal own) (λ count v. script_val own v) (λ so_far. IsValue own)
       (λ so_far v more h. val_read v more h)
@@ -227,7 +233,8 @@ module _ (config : Config) (short : config.max_name_length < 2 ^ 64) (own : Mark
   pub values_read : (outer : List Marked) (fuel : ℕ) (t : DefValType) (rest : List ℕ) → IsDefined own t → IsReadableDefined config t
       → LastsDefined fuel t → (b : Bool)
       → nat_le 2 fuel ≡ b
-      → Made config own outer ((if b then script_type_kind Defined else []) ++ (script_defined config own t ++ rest)) fuel (defined t) rest (fuel - cost (defined t))
+      → Made config own outer ((if b then script_type_kind Defined else []) ++ (script_defined config own t ++ rest)) fuel (defined t) rest
+      (fuel - cost (defined t))
   values_read outer fuel t rest f n l true h =
       let two : 2 ≤ fuel = grind (arith, nat_tests) in
       let same : fuel ≡ fuel - 1 + 1 = omega arith in

@@ -62,7 +62,8 @@ small_members {A} f P one min max xs all =
     small_said f next (λ count. P) one min max 0 0 xs (along_all P next 0 xs all)
 
 -- what follows names
-small_named : (config : Config) (short : config.max_name_length < 2 ^ 64) {B : Type 0} (f : B → List ℕ) (P : B → Type 0) → ((x : B) → P x → Small (f x)) → (min max : ℕ) (xs : List (List ℕ × B))
+small_named : (config : Config) (short : config.max_name_length < 2 ^ 64) {B : Type 0} (f : B → List ℕ) (P : B → Type 0) → ((x : B) → P x → Small (f x))
+    → (min max : ℕ) (xs : List (List ℕ × B))
     → AllByRecursion Kebab (map (λ x. x.0) xs) → AllByRecursion (λ x. P x.1) xs
     → Small (script_members (λ count x. script_label config count x.0 ++ f x.1) min max xs)
 small_named config short {B} f P one min max xs kebab formed =
@@ -118,7 +119,8 @@ module _ (config : Config) (short : config.max_name_length < 2 ^ 64) (own : Mark
   small_signature outer s f =
       let params = fields_are own s.params f.0.1 (all_front (OfferedValue own) (map (λ p. p.1) s.params) (option_to_list s.result) f.1) in
       let result = one_are own s.result (f.0.3, all_back (OfferedValue own) (map (λ p. p.1) s.params) (option_to_list s.result) f.1) in
-      small_join (small_named config short (script_val own) (IsValue own) small_val 0 16 s.params f.0.0.0 params) (small_vals 0 1 (option_to_list s.result) result)
+      small_join (small_named config short (script_val own) (IsValue own) small_val 0 16 s.params f.0.0.0 params)
+      (small_vals 0 1 (option_to_list s.result) result)
 
 -- The signature of a lift.
 
@@ -130,15 +132,18 @@ small_scalar (Primitive p) = by_flat (flat_primitive p)
     by_flat (Some v) = let few : length (lifted v) ≤ 8 = lifted_few v in small_few prims.eq (lifted v) p (omega (arith, few))
 small_scalar (Indexed i) = small_none
 
-small_params : (config : Config) (short : config.max_name_length < 2 ^ 64) (count : ℕ) (fs : List Field) → AllByRecursion Kebab (map (λ p. p.0) fs) → Small (script_params config count fs)
+small_params : (config : Config) (short : config.max_name_length < 2 ^ 64) (count : ℕ) (fs : List Field) → AllByRecursion Kebab (map (λ p. p.0) fs)
+    → Small (script_params config count fs)
 small_params config short count [] kebab = small_none
-small_params config short count (f ∷ fs) kebab = small_join (small_label config short count f.0 kebab.0) (small_join (small_scalar f.1) (small_params config short (count + 1) fs kebab.1))
+small_params config short count (f ∷ fs) kebab =
+    small_join (small_label config short count f.0 kebab.0) (small_join (small_scalar f.1) (small_params config short (count + 1) fs kebab.1))
 
 small_result : (o : Option ComponentValType) → Small (script_result o)
 small_result None = small_none
 small_result (Some v) = small_scalar v
 
-pub small_lifted : (config : Config) (short : config.max_name_length < 2 ^ 64) (s : Signature) → AllByRecursion Kebab (map (λ p. p.0) s.params) → Small (script_lifted config s)
+pub small_lifted : (config : Config) (short : config.max_name_length < 2 ^ 64) (s : Signature) → AllByRecursion Kebab (map (λ p. p.0) s.params)
+    → Small (script_lifted config s)
 small_lifted config short s kebab = small_join (small_params config short 0 s.params kebab) (small_result s.result)
 
 -- References, names and outer aliases.
@@ -152,7 +157,8 @@ small_ref config own totals for_import for_type_def few r formed offered =
     small_join (small_few refs.eq (ref_kinds config own totals for_import for_type_def) (kind_in r) (omega (arith, count)))
     (small_found nat_eq Decides-eqb (ref_places own for_import (kind_in r)) at.0 (index_in r) (omega (arith, few, places_few own for_import (kind_in r))) at.1)
 
-pub small_extern : (config : Config) (short : config.max_name_length < 2 ^ 64) (count : ℕ) (name : List ℕ) → Kebab name → Small (script_extern config count name)
+pub small_extern : (config : Config) (short : config.max_name_length < 2 ^ 64) (count : ℕ) (name : List ℕ) → Kebab name
+    → Small (script_extern config count name)
 small_extern config short count name kebab = small_join (small_label config short count name kebab) (small_more 0 (omega arith) small_none)
 
 -- what an outer alias names, by where it is among what the scope holds

@@ -148,9 +148,11 @@ mutual
   -- At most 100 declarations, `done` of which were made before. Each turn takes one from the fuel, and the loop ends if
   -- none is left then. It is a loop like those over members, written out since it nests types.
   pub data MadeDeclarations (config : Config) : Bool → List Marked → ℕ → SoFar → List ℕ → ℕ → FullDecls → List ℕ → ℕ → Type 0 where
-    no_more_decls : {importing : Bool} {outer : List Marked} {done : ℕ} {s : SoFar} {bytes rest : List ℕ} {fuel left : ℕ} → More config.loop_bits done 0 100 bytes false rest
+    no_more_decls : {importing : Bool} {outer : List Marked} {done : ℕ} {s : SoFar} {bytes rest : List ℕ} {fuel left : ℕ}
+        → More config.loop_bits done 0 100 bytes false rest
         → left ≡ fuel → MadeDeclarations config importing outer done s bytes fuel no_decls rest left
-    spent_decls : {importing : Bool} {outer : List Marked} {done : ℕ} {s : SoFar} {bytes rest : List ℕ} {fuel left : ℕ} → More config.loop_bits done 0 100 bytes true rest
+    spent_decls : {importing : Bool} {outer : List Marked} {done : ℕ} {s : SoFar} {bytes rest : List ℕ} {fuel left : ℕ}
+        → More config.loop_bits done 0 100 bytes true rest
         → fuel - 1 ≡ 0 → left ≡ 0 → MadeDeclarations config importing outer done s bytes fuel no_decls rest left
     one_decl : {importing : Bool} {outer : List Marked} {done : ℕ} {s : SoFar} {bytes mid low rest : List ℕ} {fuel held left : ℕ} {d : FullDecl}
         {ds : FullDecls}

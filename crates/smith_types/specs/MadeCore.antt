@@ -54,7 +54,8 @@ ReadsDeclOf config around s item.Import b d rest =
     (from name mid : List ℕ) × ReadsImportNames config s b from name mid × (e : EntityType) × ReadsEntity config s mid e rest × (d ≡ imports from name e)
 ReadsDeclOf config around s item.Export b d rest =
     (name mid : List ℕ) × ReadsExportName config s b name mid × (e : EntityType) × ReadsEntity config s mid e rest × (d ≡ exports name e)
-ReadsDeclOf config around s item.Type b d rest = (f : Function) × ReadsFunction config.loop_bits (configured config) (max_results config) b f rest × (d ≡ declares f)
+ReadsDeclOf config around s item.Type b d rest = (f : Function) × ReadsFunction config.loop_bits (configured config) (max_results config) b f rest
+    × (d ≡ declares f)
 ReadsDeclOf config around s item.Alias b d rest = (a : ℕ × ℕ) × ReadsAmong (alias_choices around s) b a rest × (d ≡ aliases a.0 a.1)
 
 -- A turn of the loop takes one from the fuel, and then reads a declaration.

@@ -1,6 +1,7 @@
 //! Laws of how types are read. Each function does nothing: its contract is the law.
 
-ghost use Rattle.std.specs.Prelude.{◌≡◌, ◌<◌, ◌≤◌, ◌↔◌, ◌∷◌, ◌+◌, ◌-◌, ◌^◌, ℕ, List, [], length, max, true, false, nat_eq};
+ghost use Rattle.std.specs.Prelude.{◌≡◌, ◌<◌, ◌≤◌, ◌↔◌, ◌∷◌, ◌+◌, ◌-◌, ◌^◌, ℕ, List, [], length, max, true, false};
+ghost use Rattle.std.specs.Prelude.{nat_eq};
 ghost use Rattle.smith_format.specs.declared.config.Config.{Config};
 ghost use Rattle.smith_input.specs.Reading.{IsDecided, IsReadAs};
 ghost use Rattle.smith_input.specs.Script.{AreBytes, script_among};
@@ -123,7 +124,8 @@ pub fn made_core_types_are_readable()
 pub fn core_scripts_are_bytes()
     ensures { (config : Config) (around : Scope) (fuel : ℕ) (e : CoreEntry)
         → FormedCore e around.core_types → CoreLimits config e → IsReadableCore config e → core_need e ≤ fuel
-        → length around.core_types ≤ 2 ^ 63 → config.max_name_length < 2 ^ 64 → AreBytes (script_core config around fuel e) }
+        → length around.core_types ≤ 2 ^ 63 → config.max_name_length < 2 ^ 64
+        → AreBytes (script_core config around fuel e) }
 {}
 
 /// A core type is read, on some input, exactly if it is well formed in its scope and within the limits, its names can

@@ -29,6 +29,7 @@ use Rattle.smith_validate.proofs.Names.{Sub, among_cases, sub_left, sub_right}
 use Rattle.smith_validate.proofs.Opened.{live_known}
 use Rattle.smith_validate.proofs.Zips.{all_by}
 use Rattle.smith_validate.proofs.Tables.{externs_more, externs_one_more, place_more}
+use Rattle.smith_scope.proofs.Places.{get_left as slice_left}
 
 -- an id that was added to the scope within a place
 pub open_child : (inner : ℕ) (place id : Id) → IsOpen (inner ∷ place) id → length id ≡ length place + 1 → IsChild place id
@@ -125,11 +126,6 @@ exact_less all table more n h =
     let around = place_of (table ++ more) n in
     exact_by all all (table ++ more) table n (sym (place_more table more n h)) (sym (externs_more table more n h)) refl
     (λ ps f. let g = fit_less table more n around (omega (arith, h)) ps f in (g, externs_fit table more n around (omega (arith, h)) ps g))
-
-slice_left : {A : Type 0} (xs ys : List A) (n : ℕ) → n < length xs → slice_get (xs ++ ys) n ≡ slice_get xs n
-slice_left [] ys n h = absurd (omega (arith, h))
-slice_left (x ∷ xs) ys zero h = refl
-slice_left (x ∷ xs) ys (suc n) h = slice_left xs ys n (omega (arith, h))
 
 slice_seam : {A : Type 0} (xs : List A) (y : A) (ys : List A) → slice_get (xs ++ y ∷ ys) (length xs) ≡ Some y
 slice_seam [] y ys = refl

@@ -29,11 +29,12 @@ use Rattle.smith_validate.proofs.Attaining.{Names}
 use Rattle.smith_validate.proofs.Closing.{scope_long}
 use Rattle.smith_validate.proofs.Ids.{Moves, added_open, closed_before, moves_next, moves_same, not_under, open_before, under_same}
 use Rattle.smith_validate.proofs.Knowing.{grown_same, kept_moves, known_as, known_named, known_push, next_at, next_is, added_moves}
-use Rattle.smith_validate.proofs.Names.{Sub, among_cases, among_one, names_append, sub_left, sub_right}
+use Rattle.smith_validate.proofs.Names.{Sub, among_cases, among_one, sub_left, sub_right}
 use Rattle.smith_validate.proofs.Piecing.{names_of_one}
 use Rattle.smith_validate.proofs.BodySteps.{exports_move}
 use Rattle.smith_validate.proofs.Typing.{equal_exact}
 use Rattle.smith_validate.proofs.Zips.{beside, none_beside}
+use Rattle.smith_tree.proofs.Named.{names_of_both as names_append}
 
 module _ (table : List Surface) (place : Id) (named : List Id) where
   -- an instance names what its type does

@@ -24,9 +24,10 @@ use Rattle.smith_validate.specs.declared.instances.Exposed.{Exposed}
 use Rattle.smith_validate.specs.declared.instances.InstanceType.{InstanceType}
 use Rattle.smith_validate.specs.declared.instances.Use.{Use}
 use Rattle.smith_validate.specs.declared.instances.Use.TheVariants.{Instance, Equal}
-use Rattle.smith_validate.proofs.Names.{Sub, names_append, refers_append, refers_of_append, refers_within, sub_left, sub_same, sub_within, within_append}
+use Rattle.smith_validate.proofs.Names.{Sub, refers_of_append, refers_within, sub_left, sub_same, sub_within, within_append}
 use Rattle.smith_validate.proofs.Names.{or_cases, or_left, or_right, within_refers}
 use Rattle.smith_validate.proofs.Tables.{follow_sub, rest_sub}
+use Rattle.smith_tree.proofs.Named.{refers_both as refers_append, names_of_both as names_append}
 
 pub drop_at : {A : Type 0} (xs : List A) (i : ℕ) (x : A) → slice_get xs i ≡ Some x → drop i xs ≡ x ∷ drop (i + 1) xs
 drop_at xs i x h = rest_at xs i x (slice_get_within xs i x h) (sym (get_or_from_slice_get xs i x x h))

@@ -65,11 +65,6 @@ pub refers_sub : (a b : List Id) (xs : List Extern) → Sub a b → RefersTo a x
 refers_sub a b [] f r = tt
 refers_sub a b (x ∷ xs) f r = (within_sub a b x.refers f r.0, refers_sub (a ++ x.names) (b ++ x.names) xs (sub_more a b x.names f) r.1)
 
-pub refers_append : (a : List Id) (xs ys : List Extern) → RefersTo a xs → RefersTo (a ++ names_of xs) ys → RefersTo a (xs ++ ys)
-refers_append a [] ys r s = subst (λ n. RefersTo n ys) (append-nil a) s
-refers_append a (x ∷ xs) ys r s =
-    (r.0, refers_append (a ++ x.names) xs ys r.1 (subst (λ n. RefersTo n ys) (sym (append_assoc a x.names (names_of xs))) s))
-
 pub refers_within : (a : List Id) (xs : List Extern) → RefersTo a xs → Within (a ++ names_of xs) (refers_of xs)
 refers_within a [] r = tt
 refers_within a (x ∷ xs) r =
@@ -83,9 +78,6 @@ within_refers a (x ∷ xs) w = (
   within_first a x.refers (refers_of xs) w,
   within_refers (a ++ x.names) xs (within_sub a (a ++ x.names) (refers_of xs) (sub_left a x.names) (within_last a x.refers (refers_of xs) w)),
 )
-
-pub names_append : (xs ys : List Extern) → names_of (xs ++ ys) ≡ names_of xs ++ names_of ys
-names_append xs ys = flat_map-append (λ x. x.names) xs ys
 
 pub refers_of_append : (xs ys : List Extern) → refers_of (xs ++ ys) ≡ refers_of xs ++ refers_of ys
 refers_of_append xs ys = flat_map-append (λ x. x.refers) xs ys

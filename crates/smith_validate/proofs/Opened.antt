@@ -19,8 +19,9 @@ use Rattle.smith_validate.specs.declared.instances.Use.{Use}
 use Rattle.smith_validate.specs.declared.instances.Use.TheVariants.{Instance, Equal}
 use Rattle.smith_validate.proofs.Exposed.{drop_at, drop_none}
 use Rattle.smith_validate.proofs.Ids.{child_of, under_then}
-use Rattle.smith_validate.proofs.Names.{Sub, among_cases, names_append, or_left, refers_of_append, sub_left, sub_right, sub_within}
+use Rattle.smith_validate.proofs.Names.{Sub, among_cases, or_left, refers_of_append, sub_left, sub_right, sub_within}
 use Rattle.smith_validate.proofs.Names.{within_first, within_last, within_sub}
+use Rattle.smith_tree.proofs.Named.{names_of_both as names_append}
 
 -- what holds of two in a row holds of each
 pub refers_first : (a : List Id) (xs ys : List Extern) → RefersTo a (xs ++ ys) → RefersTo a xs

@@ -26,8 +26,9 @@ use Rattle.smith_validate.specs.declared.instances.Use.{Use}
 use Rattle.smith_validate.specs.declared.instances.Use.TheVariants.{Instance, Equal}
 use Rattle.smith_validate.specs.declared.known.Known.{Known}
 use Rattle.smith_validate.proofs.Covering.{above_left, above_right, covers_both, covers_closed, covers_unnamed, split}
-use Rattle.smith_validate.proofs.Names.{Sub, names_append, sub_both, sub_left, sub_right, sub_same, sub_then, within_sub}
+use Rattle.smith_validate.proofs.Names.{Sub, sub_both, sub_left, sub_right, sub_same, sub_then, within_sub}
 use Rattle.smith_validate.proofs.Tables.{externs_in_more, follow_more, follow_sub, rest_more, rest_sub, settled_more, table_push}
+use Rattle.smith_tree.proofs.Named.{names_of_both as names_append}
 
 -- what is kept is only of what is imported and exported
 pub role_of : (table : List Surface) (names : List (List Id)) (asks : Bool) (r : Role) (b c : Body) → b.imports ≡ c.imports → b.exports ≡ c.exports

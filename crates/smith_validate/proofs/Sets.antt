@@ -15,9 +15,10 @@ use Rattle.smith_validate.specs.declared.body.Sets.{Sets}
 use Rattle.smith_validate.specs.declared.instances.Exposed.{Exposed}
 use Rattle.smith_validate.specs.declared.instances.Use.{Use}
 use Rattle.smith_validate.proofs.Covering.{covers_nothing, covers_within}
-use Rattle.smith_validate.proofs.Names.{Sub, names_append, sub_both, sub_left, sub_right, sub_same, sub_then, within_sub}
+use Rattle.smith_validate.proofs.Names.{Sub, sub_both, sub_left, sub_right, sub_same, sub_then, within_sub}
 use Rattle.smith_validate.proofs.Roles.{UseOf, single_met, use_of}
 use Rattle.smith_validate.proofs.Tables.{settled_sub}
+use Rattle.smith_tree.proofs.Named.{names_of_both as names_append}
 
 module _ (b : Body) (xs : List Extern) where
   pub imports_grow : Sub (imported b ++ names_of xs) (imported (with_imports b xs))

@@ -19,10 +19,11 @@ use Rattle.smith_validate.specs.declared.facts.Outermost.TheVariants.{Unnamed, S
 use Rattle.smith_validate.specs.declared.instances.Exposed.{Exposed}
 use Rattle.smith_validate.specs.declared.instances.Use.{Use}
 use Rattle.smith_validate.proofs.Attaining.{not_both}
-use Rattle.smith_validate.proofs.Names.{Sub, among_cases, names_append, refers_sub, sub_left, sub_right}
+use Rattle.smith_validate.proofs.Names.{Sub, among_cases, refers_sub, sub_left, sub_right}
 use Rattle.smith_validate.proofs.Opened.{exposed_sub}
 use Rattle.smith_validate.proofs.Piecing.{AttainedBy, not_closed, not_referred, piece_met, single_exposed, used_exposed}
 use Rattle.smith_validate.proofs.Sets.{imports_export}
+use Rattle.smith_tree.proofs.Named.{names_of_both as names_append}
 
 module _ (table : List Surface) (s : Exposed) (b : Body) (xs : List Extern) where
   -- for imports

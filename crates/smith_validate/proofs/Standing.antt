@@ -31,6 +31,7 @@ use Rattle.smith_validate.proofs.Judging.{on_all, on_by}
 use Rattle.smith_validate.proofs.PartsExactly.{begun_both, body_after_component, entered_begun, exactly_counted, open_begin}
 use Rattle.smith_validate.proofs.PartsExactly.{recounted, start_known, with_counts}
 use Rattle.smith_validate.proofs.Roles.{role_more, role_of}
+use Rattle.smith_validate.proofs.Exposed.{reverse_push as reversed}
 
 -- ---- as many open components as scopes
 
@@ -134,9 +135,6 @@ abbrev counted_in : Open → Counts → Open
 counted_in o m = record o { body = with_counts o.body m }
 
 -- ---- a component that begins
-
-reversed : {A : Type 0} (xs ys : List A) (x : A) → ys ≡ xs ++ x ∷ [] → reverse ys ≡ x ∷ reverse xs
-reversed xs ys x e = ap reverse e ∙ reverse-append xs (x ∷ [])
 
 pub root_stands : (c : Check) → own_in c.known ≡ empty_scope → c.known.scopes.own.types.items ≡ [] → c.known.scopes.outer.items ≡ []
     → c.known.instances.items ≡ [] → IsNew c.opens.own → c.opens.outer.items ≡ [] → StandsExactly c root

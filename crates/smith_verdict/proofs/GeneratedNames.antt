@@ -11,16 +11,10 @@ use Rattle.std.specs.Fmt.{decimal}
 use Rattle.std.specs.List.{AllByRecursion}
 use Rattle.smith_input.specs.NameScript.{AreReachable, IsReachable, IsReachableText, last_word_is_a}
 use Rattle.smith_input.specs.NewNames.{IsMadeNew, appended, is_among}
-use Rattle.smith_input.proofs.Digits.{some_digits}
+use Rattle.smith_input.proofs.Digits.{some_digits, one_digit, more_digits as digit_more}
 use Rattle.smith_input.proofs.Lists.{all_both}
 
 -- A greater number has no fewer digits.
-
-one_digit : (n : ℕ) → n < 10 → length (decimal n) ≡ 1
-one_digit n h = ap length (decimal_digit n h)
-
-digit_more : (n : ℕ) → 10 ≤ n → n < 2 ^ 64 → length (decimal n) ≡ length (decimal (n / 10)) + 1
-digit_more n h k = ap length (decimal_step n h k) ∙ length-append (decimal (n / 10)) ((48 + n % 10) ∷ [])
 
 digits_rise_by : (fuel j k : ℕ) → k ≤ fuel → j ≤ k → k < 2 ^ 64 → length (decimal j) ≤ length (decimal k)
 digits_rise_by zero j k enough h small = omega (arith, one_digit j (omega (arith, h, enough)), one_digit k (omega (arith, enough)))

@@ -74,7 +74,8 @@ module _ (config : Config) (fits : IsConsistent config) where
       → AllByRecursion (λ name. length name ≤ 1000) (import_names is) × AreMade (i + length is) (import_names (imports_of before) ++ import_names is)
   imports_made i e is t before l ns read =
       let count : length (import_names is) ≡ length is = length-map is (λ x. x.name) in
-      let made = all_made config.max_name_length fits.names i (import_names (imports_of before)) (import_names is) (omega (arith, l.imports, count, length-append is (imports_of t))) ns.imported
+      let made = all_made config.max_name_length fits.names i (import_names (imports_of before)) (import_names is)
+      (omega (arith, l.imports, count, length-append is (imports_of t))) ns.imported
       read in
       (made.0, made_among (omega (arith, count)) made.1)
 
@@ -83,7 +84,8 @@ module _ (config : Config) (fits : IsConsistent config) where
       → AllByRecursion (λ name. length name ≤ 1000) (export_names es) × AreMade (e + length es) (export_names (exports_of before) ++ export_names es)
   exports_made i e es t before l ns read =
       let count : length (export_names es) ≡ length es = length-map es (λ x. x.name) in
-      let made = all_made config.max_name_length fits.names e (export_names (exports_of before)) (export_names es) (omega (arith, l.exports, count, length-append es (exports_of t))) ns.exported
+      let made = all_made config.max_name_length fits.names e (export_names (exports_of before)) (export_names es)
+      (omega (arith, l.exports, count, length-append es (exports_of t))) ns.exported
       read.1 in
       (made.0, made_among (omega (arith, count)) made.1)
 

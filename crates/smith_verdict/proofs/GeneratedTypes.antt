@@ -204,9 +204,11 @@ module _ (config : Config) (few_bytes : config.max_name_length ≤ 100) (P : Con
   of_core : (e : CoreEntry) (around : List CoreEntry) → FormedCore e around → CoreLimits config e → IsReadableCore config e → OfCore P e
   of_core (core_func f) around formed limits read = holds.functions f limits
   of_core (core_module_type ds) around formed limits read =
-      let few : length ds ≤ 105 = omega (arith, front_length ds, limits.declarations) in
-      (holds.module_types ds few, of_module_decls around [] 0 [] ds (omega (arith, few)) no_module_names formed.0 limits.functions limits.entities
-      (all_short config few_bytes ds read))
+      let few : length ds ≤ 105 = omega (arith, front_length ds, limits.declarations) in (
+        holds.module_types ds few,
+        of_module_decls around [] 0 [] ds (omega (arith, few)) no_module_names formed.0 limits.functions limits.entities
+            (all_short config few_bytes ds read),
+      )
 
   pub of_cores : (es : List CoreEntry) (own : Scope) → FormedCores es own → AllByRecursion (CoreLimits config) es → AllByRecursion (IsReadableCore config) es
       → AllByRecursion (OfCore P) es
@@ -270,7 +272,8 @@ module _ (config : Config) (few_bytes : config.max_name_length ≤ 100) (P : Con
         (holds.names name made.0, record { imports = none_more imported (omega arith) ns.imports; exports = made.1 })
 
     of_decls : (ds : Decls) (own : Scope) (outer : List Scope) (most : ℕ) (imported exported : List (List ℕ)) → most + decl_count ds ≤ 100
-        → DeclNames most imported exported → FormedDeclarations ds own outer → DeclsLimits config ds → AreReadableDecls config ds imported exported → OfDecls P ds
+        → DeclNames most imported exported → FormedDeclarations ds own outer → DeclsLimits config ds → AreReadableDecls config ds imported exported
+        → OfDecls P ds
     of_decls no_decls own outer most imported exported few ns formed limits read = tt
     of_decls (then_decls d ds) own outer most imported exported few ns formed limits read =
         let one = of_decl d own outer most imported exported (omega (arith, few)) ns formed.0 limits.0 read.0 in (

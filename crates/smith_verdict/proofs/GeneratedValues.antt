@@ -12,10 +12,7 @@ use Rattle.smith_format.specs.declared.types.ValType.{ValType}
 use Rattle.smith_format.specs.declared.types.ValType.TheVariants.{I32, I64, F32, F64, V128, Ref}
 use Rattle.smith_core.proofs.Segments.{all_read}
 use Rattle.smith_core.proofs.StandInMade.{few_results}
-
-offered_all : {A : Type 0} (P : A → Type 0) (b : Bool) (xs : List A) → AllByRecursion P xs → AllByRecursion P (offered b xs)
-offered_all P true xs all = all
-offered_all P false xs all = tt
+use Rattle.smith_core.proofs.StandInTold.{offered_all}
 
 -- It holds of all value types but references to types.
 pub record OfValues (P : ValType → Type 0) : Type 0 where

@@ -6,10 +6,7 @@ use Rattle.smith_syntax.specs.Signature.{named}
 use Rattle.smith_verdict.specs.Contained.{Content, OfNames}
 use Rattle.smith_verdict.specs.Shows.{Shows}
 use Rattle.smith_verdict.specs.declared.contained.Found.{Found}
-
-names_named : {B : Type 0} (ps : List (String Global × B)) → map (λ p. p.0) (map named ps) ≡ map (λ p. string_bytes p.0) ps
-names_named [] = refl
-names_named (p ∷ ps) = ap (λ z. string_bytes p.0 ∷ z) (names_named ps)
+use Rattle.smith_check.proofs.TypeSteps.{names_named}
 
 pub members_named : {A B : Type 0} (asked : Found) (P : Content → Type 0) (r : Result A Found) (ps : List (String Global × B))
     → Shows asked r (OfNames P (map (λ p. string_bytes p.0) ps)) → Shows asked r (OfNames P (map (λ p. p.0) (map named ps)))

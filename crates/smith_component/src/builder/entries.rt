@@ -53,7 +53,8 @@ impl Progress {
         requires ordered { min ≤ max }
         requires room { E.count (own_marked self.old.scopes) + max ≤ max_u32 }
         ensures entries { IfOk result (λ v. Loop Never (E.reads self.old.config (outer_marked self.old.scopes))
-            self.old.config.loop_bits min max 0 (own_marked self.old.scopes) u.old v.items u.new (own_marked self.new.scopes)) }
+            self.old.config.loop_bits min max 0
+            (own_marked self.old.scopes) u.old v.items u.new (own_marked self.new.scopes)) }
         ensures scopes { OnOk result (GrowsScope self.old self.new) }
         ensures input { Consumes result u.old u.new }
     {

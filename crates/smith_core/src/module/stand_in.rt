@@ -98,7 +98,8 @@ fn function_types(
     most: usize,
 ) -> Result<Vec<FuncType>, Error>
     requires { valtypes.now ≡ configured config.now }
-    ensures reads { IfOk result (λ v. Loop Never (ReadsFunctionType config.now) config.now.loop_bits 0 most 0 tt u.old v.items u.new tt) }
+    ensures reads { IfOk result (λ v. Loop Never
+        (ReadsFunctionType config.now) config.now.loop_bits 0 most 0 tt u.old v.items u.new tt) }
     ensures memory { IfErr result (λ e. e ≡ Error.OutOfMemory) }
     ensures tail { IsTail u.new u.old }
 {
@@ -117,8 +118,8 @@ fn function_types(
 // As many memories as the limits allow.
 fn memories(alloc: Global, u: &mut Unstructured, config: &Config) -> Result<Vec<MemoryType>, Error>
     requires { config.now.min_memories ≤ config.now.max_memories }
-    ensures reads { IfOk result (λ v. Loop Never ReadsMemoryType config.now.loop_bits config.now.min_memories config.now.max_memories 0 tt
-        u.old v.items u.new tt) }
+    ensures reads { IfOk result (λ v. Loop Never ReadsMemoryType
+        config.now.loop_bits config.now.min_memories config.now.max_memories 0 tt u.old v.items u.new tt) }
     ensures memory { IfErr result (λ e. e ≡ Error.OutOfMemory) }
     ensures tail { IsTail u.new u.old }
 {

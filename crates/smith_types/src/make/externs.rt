@@ -68,8 +68,8 @@ fn read_url(
 }
 
 /// A name in kebab case that is new among those so far, a boolean, and if it is true a URL, which has a name that no
-/// URL has so far: names as long as the limits allow. Both are then among the names so far. It fails only when out of memory, and the names so far, and
-/// those in URLs, are then as before.
+/// URL has so far: names as long as the limits allow. Both are then among the names so far. It fails only when out of
+/// memory, and the names so far, and those in URLs, are then as before.
 pub fn named_extern(
     alloc: Global,
     config: &Config,

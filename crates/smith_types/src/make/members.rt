@@ -34,7 +34,8 @@ pub(super) trait Member: Drop {
         so_far: &[Self],
     ) -> Result<Self, Error>
         ensures read { IfOk result
-            (λ m. reads_member making.now.config.now (own_marked scopes.now) (map shown so_far.now) u.old (shown m) u.new) }
+            (λ m. reads_member making.now.config.now (own_marked scopes.now) (map shown so_far.now)
+            u.old (shown m) u.new) }
         ensures input { Consumes result u.old u.new };
 }
 

@@ -2,9 +2,9 @@ use Rattle.std.proofs.Common.{◌≡◌, ◌+◌, ap, drop, map, sym, ◌∙◌}
 use Rattle.smith_syntax.specs.Entries.{in_order}
 use Rattle.smith_read.specs.TypeNodes.{shown_decl_node}
 use Rattle.smith_change.specs.Types.{decl_places, decls_places}
-use Rattle.smith_change.proofs.InRow.{map_drop}
 use Rattle.smith_change.proofs.KindFound.{here_step, inside_step, later_step}
 use Rattle.smith_change.proofs.kinds.+kinds.Goals as goal
+use Rattle.smith_input.proofs.Lists.{map_drop}
 
 pub kind_in_declarations-returns-then-step-clause-found : goal.kind_in_declarations-returns-then-step-clause-found
 kind_in_declarations-returns-then-step-clause-found t c =

@@ -2,9 +2,9 @@ use Rattle.std.proofs.Common.{◌≡◌, ◌+◌, ap, drop, map, sym, ◌∙◌}
 use Rattle.smith_tree.specs.Tree.{tree_of}
 use Rattle.smith_read.specs.PartNodes.{shown_part_node}
 use Rattle.smith_change.specs.Parts.{part_places, places}
-use Rattle.smith_change.proofs.InRow.{map_drop}
 use Rattle.smith_change.proofs.KindFound.{here_step, inside_step, later_step}
 use Rattle.smith_change.proofs.kinds.+kinds_of_parts.Goals as goal
+use Rattle.smith_input.proofs.Lists.{map_drop}
 
 pub kind_in_parts-returns-then-step-clause-found : goal.kind_in_parts-returns-then-step-clause-found
 kind_in_parts-returns-then-step-clause-found t c =

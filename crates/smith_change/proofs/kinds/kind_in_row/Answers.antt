@@ -1,8 +1,8 @@
 use Rattle.std.proofs.Common.{◌≡◌, ◌+◌, ap, drop, map, sym, ◌∙◌}
 use Rattle.smith_change.specs.Rows.{row_places}
-use Rattle.smith_change.proofs.InRow.{map_drop}
 use Rattle.smith_change.proofs.KindFound.{here_step, inside_step, later_step}
 use Rattle.smith_change.proofs.kinds.kind_in_row.Goals as goal
+use Rattle.smith_input.proofs.Lists.{map_drop}
 
 pub returns-then-step-clause-found : goal.returns-then-step-clause-found
 returns-then-step-clause-found g c =

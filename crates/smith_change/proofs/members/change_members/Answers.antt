@@ -1,7 +1,8 @@
 use Rattle.std.proofs.Common.{map, sym, ◌∙◌}
 use Rattle.smith_change.specs.Rows.{members_alternative, row_changed, row_places}
-use Rattle.smith_change.proofs.Seeking.{ok_then, sought_here}
+use Rattle.smith_change.proofs.Seeking.{sought_here}
 use Rattle.smith_change.proofs.members.change_members.Goals as goal
+use Rattle.smith_format.proofs.Results.{ok_then}
 
 pub returns-then-step-clause-entries : goal.returns-then-step-clause-entries
 returns-then-step-clause-entries g c = λ new are.

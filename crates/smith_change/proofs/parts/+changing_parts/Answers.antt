@@ -3,8 +3,8 @@ use Rattle.std.specs.Option.{IsSome, option_map}
 use Rattle.smith_read.specs.PartNodes.{shown_part_node}
 use Rattle.smith_change.proofs.InRow.{moved_step, seek_end, seek_here, seek_step}
 use Rattle.smith_change.proofs.RowsOf.{part_row}
-use Rattle.smith_change.proofs.Seeking.{ok_then}
 use Rattle.smith_change.proofs.parts.+changing_parts.Goals as goal
+use Rattle.smith_format.proofs.Results.{ok_then}
 
 pub change_parts-returns-then-step-clause-parts : goal.change_parts-returns-then-step-clause-parts
 change_parts-returns-then-step-clause-parts t c =

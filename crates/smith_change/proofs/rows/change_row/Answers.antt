@@ -2,8 +2,8 @@ use Rattle.std.proofs.Common.{ap, map, refl, subst, sym, ◌∙◌}
 use Rattle.std.specs.Option.{IsSome, option_map}
 use Rattle.smith_change.proofs.InRow.{moved_step, seek_end, seek_here, seek_step}
 use Rattle.smith_change.proofs.RowsOf.{list_row}
-use Rattle.smith_change.proofs.Seeking.{ok_then}
 use Rattle.smith_change.proofs.rows.change_row.Goals as goal
+use Rattle.smith_format.proofs.Results.{ok_then}
 
 pub returns-then-step-clause-entries : goal.returns-then-step-clause-entries
 returns-then-step-clause-entries g c =

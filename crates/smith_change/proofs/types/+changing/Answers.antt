@@ -4,8 +4,8 @@ use Rattle.smith_read.specs.TypeNodes.{shown_decl_node}
 use Rattle.smith_change.specs.Owners.{may_import}
 use Rattle.smith_change.proofs.InRow.{moved_step, seek_end, seek_here, seek_step}
 use Rattle.smith_change.proofs.RowsOf.{decl_row}
-use Rattle.smith_change.proofs.Seeking.{ok_then}
 use Rattle.smith_change.proofs.types.+changing.Goals as goal
+use Rattle.smith_format.proofs.Results.{ok_then}
 
 pub change_declarations-returns-then-step-clause-declarations : goal.change_declarations-returns-then-step-clause-declarations
 change_declarations-returns-then-step-clause-declarations t c =

@@ -17,6 +17,7 @@ returns c =
     let first = rw (c.deeper.ensures, c.new-types.ensures, c.deref.ensures.value) at (c.in_ok-print_lines.ensures {u = tt}).printed in
     let next = rw (c.deeper-2.ensures, c.new-memories.ensures, c.deref-2.ensures.value) at (c.in_ok-print_lines-2.ensures {u = tt}).printed in
     prints_same c.print_end.result c.args.out.now c.print_end.new.out
-    (ap (λ q. closed c.args.columns (q ++ memories)) (sym (lines-map (λ f _. core_function_line f) (λ f. after_core_type) shown_func n nothing c.args.sections.now.types.items)))
+    (ap (λ q. closed c.args.columns (q ++ memories))
+    (sym (lines-map (λ f _. core_function_line f) (λ f. after_core_type) shown_func n nothing c.args.sections.now.types.items)))
     (c.print_end.ensures c.args.out.now (types ++ memories) c.len-start.ensures
     (next ∙ ap (λ q. q ++ memories) first ∙ append_assoc (string_bytes c.args.out.now) types memories))

@@ -65,7 +65,8 @@ pub print_part-returns-in_ok-print_head-in-Component-clause-printed : goal.print
 print_part-returns-in_ok-print_head-in-Component-clause-printed t c =
     rw (c.in-Component.is, text_component c.in-Component.nodes c.args.columns c.args.spaces.now)
     (prints_behind c.print_component.result c.args.out.now c.print_head.new.out c.print_component.new.out (bytes (head_text c.args.columns c.args.spaces.now))
-    (closing c.args.columns (sections c.in-Component.nodes.items (deeper c.args.columns) nothing)) (adds_text ((c.in_ok-print_head-in-Component.ensures {u = tt}).printed))
+    (closing c.args.columns (sections c.in-Component.nodes.items (deeper c.args.columns) nothing))
+    (adds_text ((c.in_ok-print_head-in-Component.ensures {u = tt}).printed))
     (rw c.deref-in-Component.ensures.value at c.print_component.ensures))
 
 pub print_component-loop-node-preserved : goal.print_component-loop-node-preserved
@@ -79,7 +80,8 @@ print_component-returns-in_err-print_part t c =
     let refused = going_refused c.args.nodes.now (deeper c.args.columns) c.loop-node.node-index c.node-item.result _ c.args.out.now c.loop-node.out
     c.new-spaces.result c.loop-node.spaces c.loop-node.invariant c.loop-node-test.true c.node-item.is
     (rw c.deeper.ensures at (c.in_err-print_part.ensures {u = tt}).printed) in
-    exits c.from_residual.result _ c.args.out.now c.print_part.new.out c.from_residual.ensures.1 (closing_refused c.args.columns (rw c.new-spaces.ensures at refused))
+    exits c.from_residual.result _ c.args.out.now c.print_part.new.out c.from_residual.ensures.1
+    (closing_refused c.args.columns (rw c.new-spaces.ensures at refused))
 
 pub print_component-returns : goal.print_component-returns
 print_component-returns t c =

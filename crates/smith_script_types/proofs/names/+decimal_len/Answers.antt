@@ -1,6 +1,7 @@
 use Rattle.std.proofs.Common.{arith}
-use Rattle.smith_script_types.proofs.ReadableTexts.{few_digits, more_digits}
+use Rattle.smith_script_types.proofs.ReadableTexts.{few_digits}
 use Rattle.smith_script_types.proofs.names.+decimal_len.Goals as goal
+use Rattle.smith_input.proofs.Digits.{more_digits}
 
 pub returns-clause-few : goal.returns-clause-few
 returns-clause-few t c =

@@ -122,4 +122,5 @@ say_decl-returns-in_ok-add_export-in-Export-clause-said t c =
     (c.in_ok-say_declares-in-Export.ensures {u = tt}))
     (adds_then
     (subst (Adds _ _) (λ j. script_ref (q.config j) (q.own j) uncounted false true c.in-Export.to) (c.in_ok-say_reference-in-Export.ensures {u = tt}))
-    (subst (Adds _ _) (ap (script_extern c.args.given.config.now c.args.here.exports) c.deref-in-Export.ensures) (c.in_ok-say_extern-in-Export.ensures {u = tt}))))
+    (subst (Adds _ _) (ap (script_extern c.args.given.config.now c.args.here.exports) c.deref-in-Export.ensures)
+    (c.in_ok-say_extern-in-Export.ensures {u = tt}))))

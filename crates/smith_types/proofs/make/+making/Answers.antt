@@ -107,7 +107,8 @@ scoped::read_declarations-returns-in_err-declare-clause-input t c = record {
 }
 
 pub scoped::read_declarations-returns-then-not-more_of-clause-made : goal.scoped::read_declarations-returns-then-not-more_of-clause-made
-scoped::read_declarations-returns-then-not-more_of-clause-made t c = stops c.loop-done.invariant.progress _ c.more_of.result c.more_of.ensures c.if-not-more_of.true
+scoped::read_declarations-returns-then-not-more_of-clause-made t c =
+    stops c.loop-done.invariant.progress _ c.more_of.result c.more_of.ensures c.if-not-more_of.true
 
 pub scoped::read_declarations-returns-then-fuel-eq0-clause-made : goal.scoped::read_declarations-returns-then-fuel-eq0-clause-made
 scoped::read_declarations-returns-then-fuel-eq0-clause-made t c =
@@ -119,7 +120,8 @@ scoped::read_declarations-loop-done-preserved t c =
     let adds = c.in_ok-declare.ensures.made p.so_far p.own_is p.names in
     let size = (declaration_fits adds.made).takes.within in
     record {
-      progress = goes_on p _ _ c.more_of.result c.burn.new.fuel _ _ _ c.more_of.ensures c.if-not-more_of.false c.burn.ensures (omega (arith, c.if-fuel-eq0.false)) adds;
+      progress = goes_on p _ _ c.more_of.result c.burn.new.fuel _ _ _ c.more_of.ensures c.if-not-more_of.false c.burn.ensures
+          (omega (arith, c.if-fuel-eq0.false)) adds;
       outer = same_trans c.loop-done.invariant.outer c.in_ok-declare.ensures.outer;
       fuel = omega (arith, size, c.burn.ensures, c.loop-done.invariant.fuel);
       tail = tail_trans c.in_ok-declare.ensures.input.tail (tail_trans (more_tail c.more_of.ensures) c.loop-done.invariant.tail);

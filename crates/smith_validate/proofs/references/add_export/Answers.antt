@@ -7,9 +7,9 @@ use Rattle.smith_syntax.specs.Scope.{with_types}
 use Rattle.smith_validate.specs.Bodies.{IsIn, IsRole}
 use Rattle.smith_validate.specs.Counted.{counted}
 use Rattle.smith_validate.proofs.Judging.{judged_by, keeps_by, on_by, on_judged}
-use Rattle.smith_validate.proofs.Names.{names_append}
 use Rattle.smith_validate.proofs.ExportSteps.{export_exactly}
 use Rattle.smith_validate.proofs.references.add_export.Goals as goal
+use Rattle.smith_tree.proofs.Named.{names_of_both as names_append}
 
 pub returns-clause-judged : goal.returns-clause-judged
 returns-clause-judged c = λ asks b outer names table s.

@@ -74,7 +74,8 @@ returns-clause-does c =
     let section : Section = Exports (record { exports = c.in_ok-exports.exports }) in
     let new = c.in_ok-push.ensures.ok in
     let R : ℕ → Type 0 =
-    λ n. Loop (NoExport b.config stack.outer stack.inner) (ReadsExport b.config stack.outer stack.inner) b.config.loop_bits 0 n 0 [] c.args.u.now es c.read_exports.new.u es in
+    λ n. Loop (NoExport b.config stack.outer stack.inner)
+    (ReadsExport b.config stack.outer stack.inner) b.config.loop_bits 0 n 0 [] c.args.u.now es c.read_exports.new.u es in
     let count : c.len.result ≡ length (exports_of stack.inner) = omega (arith, c.len.ensures, names_held b i) in
     let room : b.config.max_exports - c.len.result ≡ b.config.max_exports - length (exports_of stack.inner) =
     ap (λ n. b.config.max_exports - n) count in

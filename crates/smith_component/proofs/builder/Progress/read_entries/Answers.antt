@@ -49,5 +49,6 @@ loop-done-preserved g c =
       tail = turn_left c.read.ensures.input.tail c.more_of.ensures i.tail;
       count = omega (arith, e.count, i.count);
       around = around_then i.around e.around;
-      onward = goes_on _ _ _ _ _ _ _ _ _ _ _ _ _ _ _ _ _ c.if-not-more_of.false c.more_of.ensures (subst R i.around.outer e.read) c.in_ok-push.ensures.items i.onward;
+      onward = goes_on _ _ _ _ _ _ _ _ _ _ _ _ _ _ _ _ _ c.if-not-more_of.false c.more_of.ensures
+          (subst R i.around.outer e.read) c.in_ok-push.ensures.items i.onward;
     }

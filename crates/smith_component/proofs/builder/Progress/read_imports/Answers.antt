@@ -44,7 +44,8 @@ loop-done-init c =
     let tabled = i.1.0.tabled in
     let before = externs_of b.inner.sections.items in
     let S : List Import → Type 0 = λ is. ImportsState b.config (stack_of b) before is (own_marked b.scopes) b.totals b.inner.tables in
-    let O : List Import → Type 0 = λ is. Onward (NoImportValue b.config (stack_of b)) (ReadsImportValue b.config (stack_of b) before) b.config.loop_bits c.args.min c.args.max []
+    let O : List Import → Type 0 = λ is. Onward (NoImportValue b.config (stack_of b))
+    (ReadsImportValue b.config (stack_of b) before) b.config.loop_bits c.args.min c.args.max []
     c.args.u.now is 0 is c.args.u.now in
     record {
       tail = tail_same c.args.u.now;

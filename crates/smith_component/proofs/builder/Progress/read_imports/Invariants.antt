@@ -16,7 +16,8 @@ invariant-loop-done l =
     record {
       tail : IsTail l.u l.fn.u;
       within : length l.tables.functions.items ≤ l.tables.counted + b.config.max_exports;
-      onward : Onward (NoImportValue b.config stack) (ReadsImportValue b.config stack before) b.config.loop_bits l.min l.max [] l.fn.u l.imports.items l.done l.imports.items l.u;
+      onward : Onward (NoImportValue b.config stack) (ReadsImportValue b.config stack before) b.config.loop_bits l.min l.max [] l.fn.u l.imports.items l.done
+          l.imports.items l.u;
       around : KeepsAround b.scopes l.scopes;
       importing : ImportsState b.config stack before l.imports.items (own_marked l.scopes) l.totals l.tables;
     }

@@ -21,7 +21,8 @@ invariant-loop-done l =
       room : length l.tables.functions.items + (l.max - l.done) ≤ max_u32;
       around : KeepsAround l.fn.scopes l.scopes;
       onward : (outer : List Tree) (t : Tree) → ExportsState l.fn.config outer t [] (own_marked l.fn.scopes) l.fn.tables
-          → Onward (NoExport l.fn.config outer t) (ReadsExport l.fn.config outer t) l.fn.config.loop_bits 0 l.max [] l.fn.u (map shown_export l.exports.items) l.done
+          → Onward (NoExport l.fn.config outer t) (ReadsExport l.fn.config outer t) l.fn.config.loop_bits 0 l.max [] l.fn.u
+          (map shown_export l.exports.items) l.done
           (map shown_export l.exports.items) l.u;
       exporting : (outer : List Tree) (t : Tree) → ExportsState l.fn.config outer t [] (own_marked l.fn.scopes) l.fn.tables
           → ExportsState l.fn.config outer t (map shown_export l.exports.items) (own_marked l.scopes) l.tables;

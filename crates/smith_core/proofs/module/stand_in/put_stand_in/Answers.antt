@@ -19,4 +19,5 @@ returns-in_err-put_listed c =
 pub returns : goal.returns
 returns c =
     rw (← listed_shown 1 core_function shown_func c.args.types.now)
-    (ends_third _ _ (listed 5 memory_type c.args.memories.now) (c.in_ok-write_bytes.ensures {u = tt}) (c.in_ok-put_listed.ensures {u = tt}) c.put_listed-2.ensures)
+    (ends_third _ _ (listed 5 memory_type c.args.memories.now) (c.in_ok-write_bytes.ensures {u = tt})
+    (c.in_ok-put_listed.ensures {u = tt}) c.put_listed-2.ensures)

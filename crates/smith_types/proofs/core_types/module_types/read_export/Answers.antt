@@ -15,7 +15,8 @@ returns-in-None-clause-adds c around fuel =
     let none = subst (λ e. MaybeEntity c.args.making.now.config.now s c.read_export_name.new.u e c.read_entity.new.u) c.in-None.is
     (c.read_entity.ensures.reads fuel) in
     let N : List _ → Type 0 =
-    λ ds. ReadsNewText c.args.making.now.config.now.max_name_length (module_export_names (map shown_decl ds)) c.args.u.now (string_bytes c.in_ok-name.name) c.read_export_name.new.u in
+    λ ds. ReadsNewText c.args.making.now.config.now.max_name_length (module_export_names (map shown_decl ds)) c.args.u.now
+    (string_bytes c.in_ok-name.name) c.read_export_name.new.u in
     let R : List ℕ → Type 0 = λ r. ReadsExportName c.args.making.now.config.now s c.args.u.now (string_bytes c.in_ok-name.name) r in
     ((string_bytes c.in_ok-name.name, subst R (sym none.1) (subst N c.deref.ensures.value c.in_ok-name.ensures.reads), none.0), refl)
 
@@ -25,7 +26,8 @@ returns-in_ok-push-in-Some-clause-adds c around fuel =
     let some = subst (λ e. MaybeEntity c.args.making.now.config.now (so_far old fuel) c.read_export_name.new.u e c.read_entity.new.u) c.in-Some.is
     (c.read_entity.ensures.reads fuel) in
     let name = string_bytes c.in_ok-name.name in
-    let N : List _ → Type 0 = λ ds. ReadsNewText c.args.making.now.config.now.max_name_length (module_export_names (map shown_decl ds)) c.args.u.now name c.read_export_name.new.u in
+    let N : List _ → Type 0 = λ ds. ReadsNewText c.args.making.now.config.now.max_name_length
+    (module_export_names (map shown_decl ds)) c.args.u.now name c.read_export_name.new.u in
     let decls = pushed shown_decl old.counted.defs.items c.push.new.self.defs.items _ c.in_ok-push-in-Some.ensures.items in (
       exports name c.in-Some.entity,
       (name, c.read_export_name.new.u, subst N c.deref.ensures.value c.in_ok-name.ensures.reads, c.in-Some.entity, some, refl),

@@ -24,7 +24,8 @@ loop-done-preserved g c =
     let read = rw c.deref.ensures.value at c.in_ok-member.ensures.read in
     record {
       tail = tail_trans c.in_ok-member.ensures.input.tail (tail_trans (more_tail c.more_of.ensures) c.loop-done.invariant.tail);
-      onward = goes_on _ _ _ _ _ _ _ so_far _ x _ _ _ _ _ _ _ c.if-not-more_of.false c.more_of.ensures (has_read_as _ _ x c.burn.ensures c.if-fuel-eq0.false read next)
+      onward = goes_on _ _ _ _ _ _ _ so_far _ x _ _ _ _ _ _ _ c.if-not-more_of.false c.more_of.ensures
+          (has_read_as _ _ x c.burn.ensures c.if-fuel-eq0.false read next)
           next c.loop-done.invariant.onward;
     }
 

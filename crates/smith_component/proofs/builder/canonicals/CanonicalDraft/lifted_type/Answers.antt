@@ -37,8 +37,10 @@ returns-clause-reads c =
     let own = own_scope d.scopes.now in
     let low = c.lifted_func_type.new.u in
     IfOk-weaker c.lifted_func_type.result
-    (λ f. ReadsLiftedType d.config.now.max_name_length core c.args.u.now f low) (λ f. ReadsLiftedTypeOf d.config.now own d.component.now.tables c.args.core_func_index c.args.u.now f low)
+    (λ f. ReadsLiftedType d.config.now.max_name_length core c.args.u.now f low)
+    (λ f. ReadsLiftedTypeOf d.config.now own d.component.now.tables c.args.core_func_index c.args.u.now f low)
     (λ f reads. lifts_as d.scopes.now d.component.now.tables c.args.core_func_index c.index-func_index.result.now c.index-ty.result.now c.requires.known
-    c.index-func_index.ensures c.index-ty.ensures c.get.result.now.value c.get.ensures.value c.in-Func.func (sym c.deref.ensures ∙ c.in-Func.is) d.config.now core
+    c.index-func_index.ensures c.index-ty.ensures c.get.result.now.value c.get.ensures.value c.in-Func.func
+    (sym c.deref.ensures ∙ c.in-Func.is) d.config.now core
     c.deref-2.result.now f c.args.u.now low c.deref-2.ensures flat reads)
     c.lifted_func_type.ensures.reads

@@ -14,6 +14,7 @@ invariant-loop-done l = record {
   loans : SameLoans l.fn.self l.self;
   drafts : DraftsOn l.fn.self l.self;
   few : functions_at (spaces_at (draft_of l.self)) ≤ functions_at (spaces_at (draft_of l.fn.self)) + l.done;
-  onward : (so_far : List CanonItem) × Onward NoCanon (CanonTurn l.fn.self.config.now) l.fn.self.config.now.loop_bits l.min l.max (draft_of l.fn.self) l.fn.u so_far l.done
+  onward : (so_far : List CanonItem) × Onward NoCanon (CanonTurn l.fn.self.config.now) l.fn.self.config.now.loop_bits l.min l.max
+      (draft_of l.fn.self) l.fn.u so_far l.done
       (draft_of l.self) l.u;
 }
