@@ -1,6 +1,6 @@
 //! The script of a component.
 
-ghost use Rattle.std.specs.Prelude.{◌≡◌, ◌↔◌, ℕ, List, IfOk, IfErr};
+ghost use Rattle.std.specs.Prelude.{◌≡◌, ◌≤◌, ◌↔◌, ℕ, List, IfOk, IfErr};
 ghost use Rattle.smith_format.specs.Consistency.{IsConsistent};
 ghost use Rattle.smith_input.specs.Script.{AreBytes};
 ghost use Rattle.smith_tree.specs.Grammar.{Spells};
