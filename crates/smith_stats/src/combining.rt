@@ -136,9 +136,13 @@ impl Combining {
             origin_of_equal,
         } = direction;
         match to {
-            ComponentTypeRef::Module(index) => self.add(part, self.scopes.core_type_at(0, index)),
+            ComponentTypeRef::Module(index) => {
+                let known = self.scopes.core_type_at(0, index);
+                self.add(part, known)
+            }
             ComponentTypeRef::Component(index) | ComponentTypeRef::Instance(index) => {
-                self.add(part, self.scopes.type_at(0, index))
+                let known = self.scopes.type_at(0, index);
+                self.add(part, known)
             }
             ComponentTypeRef::Func(index) => {
                 let known = self.scopes.type_at(0, index);
