@@ -1,7 +1,10 @@
 // Each function of lupinanon.hpp: what it returns, why it returns nothing, and outputs that have to grow.
 #include "lupinanon.hpp"
 #include <algorithm>
+#include <cstddef>
+#include <cstdint>
 #include <cstdio>
+#include <span>
 #include <string>
 #include <string_view>
 
@@ -77,6 +80,21 @@ static bool says_limits() {
     limits.simd_enabled = 2;
     const auto refused = lupinanon::swarm_limits(limits, {});
     WANT(!refused && refused.error() == Error::bad_flag);
+    return true;
+}
+
+// The component has one combination: a type that is declared at the root.
+static bool counts_combinations() {
+    const auto limits = lupinanon::default_limits();
+    std::uint8_t counters[64] = {}, full[1] = {254};
+    WANT(lupinanon::features(limits, {}, counters) && std::ranges::count(counters, 0) == 64);
+    WANT(lupinanon::features(limits, view(plan), counters) && std::ranges::count(counters, 0) == 63);
+    WANT(lupinanon::features(limits, view(plan), counters) && std::ranges::count(counters, 2) == 1);
+    for (int times = 0; times < 2; times++) WANT(lupinanon::features(limits, view(plan), full) && full[0] == 255);
+    WANT(lupinanon::features(limits, view(plan), {}));
+    const auto refused = lupinanon::features(too_deep(), view(plan), counters);
+    WANT(!refused && refused.error() == Error::inconsistent_limits && !refused.offset());
+    WANT(std::ranges::count(counters, 2) == 1 && std::ranges::count(counters, 0) == 63);
     return true;
 }
 
@@ -162,8 +180,8 @@ static bool makes_near_misses() {
 }
 
 int main() {
-    const bool all = makes_a_component() && outputs_grow() && says_limits() && judges() && writes_texts() &&
-                     writes_scripts() && makes_smaller_ones() && makes_near_misses();
+    const bool all = makes_a_component() && outputs_grow() && says_limits() && counts_combinations() && judges() &&
+                     writes_texts() && writes_scripts() && makes_smaller_ones() && makes_near_misses();
     if (all) std::printf("each function of lupinanon.hpp does what lupinanon.h says\n");
     return all ? 0 : 1;
 }

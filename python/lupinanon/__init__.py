@@ -15,7 +15,7 @@ from ctypes import c_int32
 from dataclasses import dataclass
 from enum import IntEnum
 
-from lupinanon._library import NO_NUMBER, Limits, Status, as_bytes, library, number, written
+from lupinanon._library import NO_NUMBER, Limits, Status, as_bytes, as_counters, library, number, written
 
 __all__ = [
     "Answer",
@@ -32,6 +32,7 @@ __all__ = [
     "change_count",
     "changed",
     "check",
+    "features",
     "fuzz_limits",
     "generate",
     "join",
@@ -166,6 +167,18 @@ def generate(data, limits=None, **keywords):
     status, component = written(4096, library.lupinanon_generate_into, within, data, len(data), after=[left])
     _require(status)
     return Generated(component, left.value)
+
+
+def features(data, counters, limits=None, **keywords):
+    """Adds 1 to a counter for each combination in the component that `generate` returns, up to 255.
+
+    The counters are the bytes of a bytearray, or of what else has a buffer that can be written. Raises Error as `generate`
+    does, and then leaves them as they were.
+    """
+    data = as_bytes(data)
+    within = _copied(limits, keywords)
+    counters = as_counters(counters)
+    _require(library.lupinanon_features(within, data, len(data), counters, len(counters)))
 
 
 def check(component):

@@ -6,6 +6,7 @@ from ctypes import (
     POINTER,
     Structure,
     c_bool,
+    c_char,
     c_char_p,
     c_int32,
     c_size_t,
@@ -188,6 +189,7 @@ FUNCTIONS = {
     "fuzz_limits": (c_int32, [POINTER(Limits), c_size_t]),
     "swarm_limits": (c_int32, [POINTER(Limits), *BYTES, NUMBER]),
     "generate_into": (c_int32, [POINTER(Limits), *BYTES, *OUTPUT, NUMBER]),
+    "features": (c_int32, [POINTER(Limits), *BYTES, *BYTES]),
     "check": (c_int32, [*BYTES, NUMBER]),
     "validate": (c_int32, [*BYTES, NUMBER, NUMBER]),
     "print": (c_int32, [*BYTES, *OUTPUT]),
@@ -231,6 +233,11 @@ library = loaded()
 def as_bytes(data):
     """Returns the bytes of whatever has a buffer, which a number or a text has not."""
     return data if isinstance(data, bytes) else bytes(memoryview(data))
+
+
+def as_counters(data):
+    """Returns the memory of whatever has a buffer that can be written."""
+    return (c_char * memoryview(data).nbytes).from_buffer(data)
 
 
 def number(value=0):

@@ -99,6 +99,34 @@ class GenerateTest(Refuses):
         self.assertEqual(swarm.rest, b"rest")
 
 
+class FeaturesTest(Refuses):
+    def test_counters(self):
+        # The component has one combination: a type that is declared at the root.
+        counters = bytearray(64)
+        lupinanon.features(b"", counters)
+        self.assertEqual(counters, bytes(64))
+        lupinanon.features(PLAN, counters)
+        self.assertEqual(sorted(counters), [0] * 63 + [1])
+        lupinanon.features(bytearray(PLAN), memoryview(counters))
+        self.assertEqual(sorted(counters), [0] * 63 + [2])
+        full = bytearray([254])
+        for _ in range(2):
+            lupinanon.features(PLAN, full)
+            self.assertEqual(full, b"\xff")
+        lupinanon.features(PLAN, bytearray())
+
+    def test_refusals(self):
+        counters = bytearray(64)
+        self.refuses(Status.INCONSISTENT_LIMITS, None, lupinanon.features, PLAN, counters, max_nesting_depth=1001)
+        self.refuses(Status.MINIMUM_NOT_MET, None, lupinanon.features, b"", counters, Limits(min_imports=1))
+        self.assertEqual(counters, bytes(64))
+
+    def test_what_are_no_counters(self):
+        for counters in bytes(64), "text", 64, memoryview(bytearray(64))[::2]:
+            with self.assertRaises(TypeError):
+                lupinanon.features(PLAN, counters)
+
+
 class JudgeTest(Refuses):
     def test_check(self):
         self.assertEqual(lupinanon.check(TYPE_OF_U32), lupinanon.Checked(Verdict.WELL_FORMED, None))

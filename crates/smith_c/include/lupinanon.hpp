@@ -211,6 +211,15 @@ inline Result<Generated> generate(const Limits &limits, BytesView input) {
     return Generated{*std::move(output), left};
 }
 
+/* Adds 1 to a counter for each combination in the component that the input produces within the limits, up to 255. The
+ * result is a value if that is done, which says no more; otherwise the counters are as they were. */
+inline Result<std::monostate> features(const Limits &limits, BytesView input, std::span<std::uint8_t> counters) {
+    const auto status =
+        lupinanon_features(&limits, detail::data(input), input.size(), counters.data(), counters.size());
+    if (status != LUPINANON_ANSWERED) return static_cast<Error>(status);
+    return std::monostate{};
+}
+
 /* Returns whether bytes are a component that is well formed. */
 inline Result<Checked> check(BytesView bytes) {
     std::size_t offset = LUPINANON_NO_OFFSET;

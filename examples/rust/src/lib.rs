@@ -258,6 +258,17 @@ pub fn generate(limits: &Limits, input: &[u8]) -> Result<Generated, Refusal> {
     }
 }
 
+/// Adds 1 to a counter for each combination in the component that the input produces within the limits, for a fuzzer
+/// that takes counters as coverage. Which counter that is depends on how many there are, and none exceeds 255. If there
+/// is a refusal, they are as they were.
+///
+/// # Panics
+///
+/// As `generate` does.
+pub fn features(limits: &Limits, input: &[u8], counters: &mut [u8]) -> Result<(), Refusal> {
+    library::features(limits, input, counters)
+}
+
 /// Returns what the bytes are: a component that is well formed, one that is not, or not a component.
 pub fn check(bytes: &[u8]) -> Result<Verdict, OutOfMemory> {
     library::check(bytes)

@@ -24,6 +24,13 @@ extern "C" {
         bytes_len: *mut usize,
         left: *mut usize,
     ) -> i32;
+    fn lupinanon_features(
+        limits: *const RawLimits,
+        input: *const u8,
+        input_len: usize,
+        counters: *mut u8,
+        counters_len: usize,
+    ) -> i32;
     fn lupinanon_check(bytes: *const u8, bytes_len: usize, offset: *mut usize) -> i32;
     fn lupinanon_validate(
         bytes: *const u8,
@@ -182,13 +189,39 @@ pub fn generate_into(limits: &Limits, input: &[u8], output: &mut [u8]) -> Result
     };
     match status {
         0 => Ok(Outcome::Written { len, left }),
-        1 => Err(Refusal::InconsistentLimits),
-        2 => Err(Refusal::MinimumNotMet),
-        3 => Err(Refusal::ModuleRefused),
-        4 => Err(Refusal::TooLong),
-        5 => Err(Refusal::OutOfMemory),
-        6 => Err(Refusal::PartsDisagree),
         7 => Ok(Outcome::NoRoom { len }),
+        other => Err(refusal_of(other)),
+    }
+}
+
+/// Adds 1 to a counter for each combination in the component of the input.
+pub fn features(limits: &Limits, input: &[u8], counters: &mut [u8]) -> Result<(), Refusal> {
+    let limits = RawLimits::of(limits);
+    // SAFETY: no reference is null, the lengths are the slices', and the counters overlap nothing.
+    let status = unsafe {
+        lupinanon_features(
+            &limits,
+            input.as_ptr(),
+            input.len(),
+            counters.as_mut_ptr(),
+            counters.len(),
+        )
+    };
+    match status {
+        0 => Ok(()),
+        other => Err(refusal_of(other)),
+    }
+}
+
+// The refusal of that status.
+fn refusal_of(status: i32) -> Refusal {
+    match status {
+        1 => Refusal::InconsistentLimits,
+        2 => Refusal::MinimumNotMet,
+        3 => Refusal::ModuleRefused,
+        4 => Refusal::TooLong,
+        5 => Refusal::OutOfMemory,
+        6 => Refusal::PartsDisagree,
         other => unexpected(other),
     }
 }

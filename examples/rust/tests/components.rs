@@ -1,7 +1,7 @@
 use lupinanon::{
-    change_count, changed, check, generate, join, library_version, next_changed, next_miswritten, next_smaller, print,
-    reduce, script, smaller, swarm_limits, validate, without, Answer, Limits, NoScript, NoText, Refusal, Unreduced,
-    Verdict,
+    change_count, changed, check, features, generate, join, library_version, next_changed, next_miswritten,
+    next_smaller, print, reduce, script, smaller, swarm_limits, validate, without, Answer, Limits, NoScript, NoText,
+    Refusal, Unreduced, Verdict,
 };
 
 #[test]
@@ -96,6 +96,30 @@ fn threads_give_the_same_component() {
             assert_eq!(thread.join().unwrap().as_ref(), Ok(&alone));
         }
     });
+}
+
+#[test]
+fn combinations_are_counted() {
+    // The component has one: a type that is declared at the root.
+    let plan = b"\x03\x01\x00\x00\x06\x00\x00\xff";
+    let limits = Limits::default();
+    let mut counters = [0; 64];
+    assert_eq!(features(&limits, b"", &mut counters), Ok(()));
+    assert_eq!(counters, [0; 64]);
+    assert_eq!(features(&limits, plan, &mut counters), Ok(()));
+    let place = counters.iter().position(|&counter| counter == 1).unwrap();
+    let mut counted = [0; 64];
+    counted[place] = 1;
+    assert_eq!(counters, counted);
+    counters[place] = 254;
+    for _ in 0..2 {
+        assert_eq!(features(&limits, plan, &mut counters), Ok(()));
+        assert_eq!(counters[place], 255);
+    }
+    assert_eq!(features(&limits, plan, &mut []), Ok(()));
+    let crossed = Limits { min_types: 5, max_types: 4, ..limits };
+    assert_eq!(features(&crossed, plan, &mut counted), Err(Refusal::InconsistentLimits));
+    assert_eq!((counted[place], counted.iter().sum()), (1, 1u8));
 }
 
 #[test]
