@@ -11,8 +11,9 @@ use crate::scripting::refuse_script;
 use rand_pcg::Pcg32;
 use rand_pcg::rand_core::SeedableRng;
 use smith_component::Config;
-use smith_corpus::{Sample, draw, draw_swarm};
+use smith_corpus::{Sample, draw, draw_flat, draw_swarm};
 use smith_script::{ScriptError, script};
+use std::fmt;
 use std::io::IsTerminal;
 use std::process::ExitCode;
 
@@ -31,6 +32,21 @@ pub fn show_progress(rt: &HostRuntime, done: usize, count: usize) {
     }
 }
 
+// The status after a message that says why there is no sample.
+fn refuse_draw<W: fmt::Display + Drop>(rt: &HostRuntime, why: W) -> ExitCode {
+    let _status = print_error(rt, format_args!("no input is found: {why}"));
+    ExitCode::from(REFUSED)
+}
+
+// A sample of a component in which each sort of section is about as likely, or the status after a message.
+fn drawn_flat(rt: &HostRuntime, config: &Config, random: &mut Pcg32) -> Result<Sample, ExitCode> {
+    match draw_flat(rt.alloc(), config, random) {
+        Ok(Some(sample)) => Ok(sample),
+        Ok(None) => Err(refuse_draw(rt, "no component that was drawn has a script")),
+        Err(_) => Err(refuse_draw(rt, "out of memory")),
+    }
+}
+
 /// A sample, or the status after a message.
 pub fn drawn(
     rt: &HostRuntime,
@@ -38,6 +54,9 @@ pub fn drawn(
     random: &mut Pcg32,
     wanted: Draw,
 ) -> Result<Sample, ExitCode> {
+    if wanted.is_flat {
+        return drawn_flat(rt, config, random);
+    }
     let sample = if wanted.is_swarm {
         draw_swarm(rt.alloc(), config, random, wanted.len)
     } else {
@@ -45,10 +64,7 @@ pub fn drawn(
     };
     match sample {
         Ok(sample) => Ok(sample),
-        Err(error) => {
-            let _status = print_error(rt, format_args!("no input is found: {error}"));
-            Err(ExitCode::from(REFUSED))
-        }
+        Err(error) => Err(refuse_draw(rt, error)),
     }
 }
 
