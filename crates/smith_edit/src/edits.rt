@@ -43,7 +43,7 @@ pub fn without(
 }
 
 // How many entries there are in each index space.
-#[tactic(auto, using(crate::proofs::Sublists::map_dropped, crate::proofs::Joining::parts_same))]
+#[tactic(auto, using(smith_input::proofs::Lists::map_dropped, crate::proofs::Joining::parts_same))]
 fn count_entries(parts: &[PartNode]) -> Result<Counts, AllocError>
     ensures { IfOk result (λ c. c ≡ counts_of (spaces_of (tree_of (map shown_part_node parts.now)))) }
 {

@@ -1,6 +1,6 @@
 -- What is in types that can be generated.
 use Rattle.std.proofs.Common.{◌≡◌, ℕ, suc, ◌+◌, ◌<◌, ◌≤◌, ◌^◌, Bool, true, false, if◌then◌else◌, List, [], ◌∷◌, ◌++◌, length, map, refl, sym, ap, ◌∙◌, subst}
-use Rattle.std.proofs.Common.{append-nil, append_assoc, arith, bytes_eq, filter, flat_map}
+use Rattle.std.proofs.Common.{append-nil, append_assoc, arith, bytes_eq, codes, filter, flat_map}
 use Rattle.std.specs.Prelude.{Option, None, Some}
 use Rattle.std.proofs.lemmas.Grind.{flat_map-append}
 use Rattle.std.proofs.lemmas.List.{length-map, map-append}
@@ -113,14 +113,30 @@ short_itself names name short new = (name, short, record { times = 0; name_is = 
 -- What the canonical ABI asks for has short names.
 front_short : (m : Option MemoryType) (r f : Bool) → AreShortDecls [] (front_decls m r f)
 front_short None false false = tt
-front_short None true false = (tt, (short_itself _ _ (omega arith) refl, tt))
-front_short None false true = (tt, (short_itself _ _ (omega arith) refl, tt))
-front_short None true true = (tt, (short_itself _ _ (omega arith) refl, (tt, (short_itself _ _ (omega arith) refl, tt))))
-front_short (Some m) false false = (short_itself _ _ (omega arith) refl, tt)
-front_short (Some m) true false = (short_itself _ _ (omega arith) refl, (tt, (short_itself _ _ (omega arith) refl, tt)))
-front_short (Some m) false true = (short_itself _ _ (omega arith) refl, (tt, (short_itself _ _ (omega arith) refl, tt)))
-front_short (Some m) true true =
-    (short_itself _ _ (omega arith) refl, (tt, (short_itself _ _ (omega arith) refl, (tt, (short_itself _ _ (omega arith) refl, tt)))))
+front_short None true false = (tt, (short_itself [] (codes "canonical_abi_realloc") (omega arith) refl, tt))
+front_short None false true = (tt, (short_itself [] (codes "canonical_abi_free") (omega arith) refl, tt))
+front_short None true true = (
+  tt,
+  (
+    short_itself [] (codes "canonical_abi_realloc") (omega arith) refl,
+    (tt, (short_itself (codes "canonical_abi_realloc" ∷ []) (codes "canonical_abi_free") (omega arith) refl, tt)),
+  ),
+)
+front_short (Some m) false false = (short_itself [] (codes "memory") (omega arith) refl, tt)
+front_short (Some m) true false =
+    (short_itself [] (codes "memory") (omega arith) refl, (tt, (short_itself (codes "memory" ∷ []) (codes "canonical_abi_realloc") (omega arith) refl, tt)))
+front_short (Some m) false true =
+    (short_itself [] (codes "memory") (omega arith) refl, (tt, (short_itself (codes "memory" ∷ []) (codes "canonical_abi_free") (omega arith) refl, tt)))
+front_short (Some m) true true = (
+  short_itself [] (codes "memory") (omega arith) refl,
+  (
+    tt,
+    (
+      short_itself (codes "memory" ∷ []) (codes "canonical_abi_realloc") (omega arith) refl,
+      (tt, (short_itself (codes "memory" ∷ codes "canonical_abi_realloc" ∷ []) (codes "canonical_abi_free") (omega arith) refl, tt)),
+    ),
+  ),
+)
 
 module _ (config : Config) (few_bytes : config.max_name_length ≤ 100) where
   short_decl : (before : List ModuleDecl) (d : ModuleDecl) → IsReadableModuleDecl config before d → IsShortDecl before d
