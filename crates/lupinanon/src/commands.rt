@@ -125,8 +125,9 @@ fn switch<'a>(alloc: Global, name: &'a str, help: &'a str) -> Arg<'a> {
 }
 
 // That one of these options has to be there, and no more than one.
-fn one_of<'a>(alloc: Global, names: &[&'a str]) -> Result<ArgGroup<'a>, AllocError> {
-    Ok(ArgGroup::new(alloc, "wanted").args(names)?.required(true))
+fn one_of<'a>(alloc: Global, first: &'a str, second: &'a str) -> Result<ArgGroup<'a>, AllocError> {
+    let wanted = ArgGroup::new(alloc, "wanted").arg(first)?.arg(second)?;
+    Ok(wanted.required(true))
 }
 
 fn output<'a>(alloc: Global, help: &'a str) -> Arg<'a> {
@@ -212,7 +213,7 @@ fn smaller_command<'a>(alloc: Global) -> Result<Command<'a>, AllocError> {
         .arg(component(alloc))?
         .arg(output(alloc, TO_COMPONENT))?;
     with_limits(alloc, files)?
-        .group(one_of(alloc, &["number", "from"])?)?
+        .group(one_of(alloc, "number", "from")?)?
         .arg(which)?
         .arg(from)?
         .arg(any)
@@ -227,7 +228,7 @@ fn change_command<'a>(alloc: Global) -> Result<Command<'a>, AllocError> {
     let which = number(alloc, "number", "K", which).short('k');
     let list = switch(alloc, "list", list).conflicts_with("output")?;
     plain(alloc, "change", about, AFTER_CHANGE)
-        .group(one_of(alloc, &["number", "from", "list"])?)?
+        .group(one_of(alloc, "number", "from")?.arg("list")?)?
         .arg(component(alloc))?
         .arg(output(alloc, TO_COMPONENT))?
         .arg(which)?
@@ -246,7 +247,7 @@ fn with_draw<'a>(alloc: Global, command: Command<'a>) -> Result<Command<'a>, All
     let bytes = option(alloc, "bytes", "N", bytes);
     let seed = option(alloc, "seed", "SEED", seed);
     command
-        .group(one_of(alloc, &["count", "from"])?)?
+        .group(one_of(alloc, "count", "from")?)?
         .arg(count)?
         .arg(bytes.value_parser(value_parser!(usize).range(..=1_048_576)))?
         .arg(seed.value_parser(value_parser!(u64)))?
@@ -283,7 +284,9 @@ fn stats_command<'a>(alloc: Global) -> Result<Command<'a>, AllocError> {
     let listed =
         "List the combinations, each with how many components have it, and which is the first";
     let within = ArgGroup::new(alloc, "within")
-        .args(&["profile", "limits", "limit"])?
+        .arg("profile")?
+        .arg("limits")?
+        .arg("limit")?
         .multiple(true)
         .requires_arg("inputs")?;
     let files = plain(alloc, "stats", about, AFTER_STATS)
