@@ -65,8 +65,8 @@ pub fn texts(alloc: Global) -> Result<String, AllocError> {
     Ok(answers)
 }
 
-/// Whether the text of the default limits sets each limit, and all of them are the defaults; and whether the text of the
-/// profile sets its limits.
+/// Whether the text of the default limits sets each limit, and all of them are the defaults; and whether the text of
+/// the profile sets its limits.
 pub fn defaults(alloc: Global) -> Result<String, AllocError> {
     let Ok(table) = toml::table_from_str(alloc, DEFAULT_LIMITS) else {
         return String::from_str(alloc, "= no limits\n");
