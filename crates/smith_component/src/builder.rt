@@ -91,7 +91,7 @@ impl Progress {
             config,
             scopes: Scopes::with_marks(alloc, config.must_validate),
             outer: Vec::new(alloc),
-            inner: OpenComponent::new(alloc),
+            inner: OpenComponent::new(alloc, 0),
             totals: TreeTotals {
                 modules: 0,
                 components: 0,

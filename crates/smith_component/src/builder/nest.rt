@@ -25,7 +25,7 @@ impl Progress {
     {
         self.outer.reserve(1)?;
         self.scopes.open_scope()?;
-        let opened = OpenComponent::new(self.alloc);
+        let opened = OpenComponent::new(self.alloc, self.totals.components);
         let around = mem::replace(&mut self.inner, opened);
         self.outer.push_reserved(around);
         self.totals.components += 1;

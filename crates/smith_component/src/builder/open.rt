@@ -1,6 +1,6 @@
 //! A component that is not finished yet.
 
-ghost use Rattle.std.specs.Prelude.{◌≡◌, ◌∷◌, ◌++◌, [], OnOk};
+ghost use Rattle.std.specs.Prelude.{◌≡◌, ◌≤◌, ◌∷◌, ◌++◌, [], OnOk};
 ghost use Rattle.smith_component.specs.Shown.{shown_section, shown_sections};
 ghost use Rattle.smith_component.specs.Tables.{IsTabled};
 ghost use Rattle.smith_tree.specs.Tree.{add};
@@ -13,23 +13,45 @@ use std::alloc::{AllocError, Global};
 // and when a block is to have more than 1,000 bytes, `malloc` may merge all that are free.
 const FIRST_SECTIONS: usize = 17;
 
+// The same in a component after many others, in 224 bytes: a mebibyte of input has room for half a million components.
+const FEW_SECTIONS: usize = 4;
+
+// How many components are not many.
+const EARLY_COMPONENTS: usize = 1000;
+
 /// A component that is not finished yet, with how deep components nest in it, and what is kept beside its sections.
 #[derive(Drop)]
 pub(crate) struct OpenComponent {
     pub(crate) sections: Vec<Section>,
     pub(super) height: u32,
+    is_early: bool,
     pub(super) tables: Tables,
 }
 
 impl OpenComponent {
-    pub(crate) fn new(alloc: Global) -> OpenComponent
+    // An empty one, after that many other components of the tree.
+    pub(crate) fn new(alloc: Global, earlier: usize) -> OpenComponent
         ensures items { result.sections.items ≡ [] }
         ensures tabled { IsTabled result }
     {
         OpenComponent {
             sections: Vec::new(alloc),
             height: 0,
+            is_early: earlier < EARLY_COMPONENTS,
             tables: Tables::new(alloc),
+        }
+    }
+
+    // For how many more sections to make room.
+    fn more_room(&self) -> usize
+        ensures { 1 ≤ result }
+    {
+        if !self.sections.is_empty() {
+            1
+        } else if self.is_early {
+            FIRST_SECTIONS
+        } else {
+            FEW_SECTIONS
         }
     }
 
@@ -42,11 +64,7 @@ impl OpenComponent {
             ≡ add (shown_sections self.old.sections.items) (shown_section section)) }
         ensures tables { self.new.tables ≡ self.old.tables }
     {
-        let more = if self.sections.is_empty() {
-            FIRST_SECTIONS
-        } else {
-            1
-        };
+        let more = self.more_room();
         self.sections.reserve(more)?;
         self.height = self.height.max(section.height());
         self.sections.push_reserved(section);
