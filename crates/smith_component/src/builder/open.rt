@@ -24,7 +24,7 @@ const EARLY_COMPONENTS: usize = 1000;
 pub(crate) struct OpenComponent {
     pub(crate) sections: Vec<Section>,
     pub(super) height: u32,
-    is_early: bool,
+    pub(super) is_early: bool,
     pub(super) tables: Tables,
 }
 

@@ -25,7 +25,12 @@ returns-clause-drafts c =
     let d = c.args.self.now in
     let old : OpenComponent = d.component.now in
     let mid : OpenComponent = c.push-2.new.self in
-    let new : OpenComponent = record { sections = c.push-3.new.self.sections; height = c.push-3.new.self.height; tables = c.add_function.new.self } in
+    let new : OpenComponent = record {
+      sections = c.push-3.new.self.sections;
+      height = c.push-3.new.self.height;
+      is_early = c.push-3.new.self.is_early;
+      tables = c.add_function.new.self;
+    } in
     let T : Tables → Type 0 = λ z. AddsFunction (own_scope c.push_marked.new.self) 1 z c.in_ok-func_ty.func_ty c.add_function.new.self in
     let names : Tables → ExternNames = λ t. t.imports in
     let shows = ap shown_type (c.in_ok-clone.ensures.cases ∙ c.in_ok-shared.ensures.ok) ∙ shown_function c.args.ty in

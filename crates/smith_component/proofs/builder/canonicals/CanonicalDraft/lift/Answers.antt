@@ -38,7 +38,12 @@ returns-in-Some-clause-reads c =
     let r = chosen_equal (last_of d.scopes.now).types c.in_ok-signature.signature c.in_ok-ty.ty.value c.lifted_type.new.u c.choose_equal.new.u
     c.in_ok-func_ty.field-0 c.in-Some.func_ty c.in_ok-ty.ensures.ok c.in-Some.is c.in_ok-func_ty.ensures.chosen in
     let old : OpenComponent = d.component.now in
-    let new : OpenComponent = record { sections = old.sections; height = old.height; tables = c.add_function.new.self } in
+    let new : OpenComponent = record {
+      sections = old.sections;
+      height = old.height;
+      is_early = old.is_early;
+      tables = c.add_function.new.self;
+    } in
     lift_equal d c.requires.draft.around c.requires.draft.is d.config.now c.len.result c.choose_index-core_func_index.result
     c.in_ok-signature.signature c.args.u.now c.choose_index-core_func_index.new.self c.lifted_type.new.u c.choose_equal.new.u _ (omega (arith, c.len.ensures))
     c.choose_index-core_func_index.ensures c.in_ok-signature.ensures.reads c.in-Some.func_ty r
@@ -51,7 +56,12 @@ returns-in-Some-clause-drafts c =
     let r = chosen_equal (last_of d.scopes.now).types c.in_ok-signature.signature c.in_ok-ty.ty.value c.lifted_type.new.u c.choose_equal.new.u
     c.in_ok-func_ty.field-0 c.in-Some.func_ty c.in_ok-ty.ensures.ok c.in-Some.is c.in_ok-func_ty.ensures.chosen in
     let old : OpenComponent = d.component.now in
-    let new : OpenComponent = record { sections = old.sections; height = old.height; tables = c.add_function.new.self } in
+    let new : OpenComponent = record {
+      sections = old.sections;
+      height = old.height;
+      is_early = old.is_early;
+      tables = c.add_function.new.self;
+    } in
     let same = c.in_ok-func_ty.ensures.same in
     let t = c.in-Some.func_ty in
     record {

@@ -11,7 +11,12 @@ add_core_function-requires c = grind (arith, functions_counted)
 pub returns-clause-reads : goal.returns-clause-reads
 returns-clause-reads c =
     let d = c.args.self.now in
-    let new : OpenComponent = record { sections = d.component.now.sections; height = d.component.now.height; tables = c.add_core_function.new.self } in
+    let new : OpenComponent = record {
+      sections = d.component.now.sections;
+      height = d.component.now.height;
+      is_early = d.component.now.is_early;
+      tables = c.add_core_function.new.self;
+    } in
     on_ok_weaker c.add_core_function.result
     (λ adds. lower_reads d.component.now new d.funcs.now.items c.push.new.self.items c.deref.result.now c.args.u.now c.choose-func_index.new.self
     c.choose-func_index.result.now c.requires.draft.is.tabled c.deref.ensures.value c.choose-func_index.ensures refl c.in_ok-push.ensures.items)
@@ -20,7 +25,12 @@ returns-clause-reads c =
 pub returns-clause-drafts : goal.returns-clause-drafts
 returns-clause-drafts c =
     let d = c.args.self.now in
-    let new : OpenComponent = record { sections = d.component.now.sections; height = d.component.now.height; tables = c.add_core_function.new.self } in
+    let new : OpenComponent = record {
+      sections = d.component.now.sections;
+      height = d.component.now.height;
+      is_early = d.component.now.is_early;
+      tables = c.add_core_function.new.self;
+    } in
     on_ok_weaker c.add_core_function.result
     (λ adds. record {
       draft = λ around held. lower_draft d.component.now new d.funcs.now.items c.push.new.self.items c.deref.result.now c.args.u.now
