@@ -1,4 +1,4 @@
-/* What checks.c, answers.c, edits.c, changes.c and texts.c share: bytes, and allocations that are refused. */
+/* What checks.c, answers.c, edits.c, changes.c, texts.c and lent.c share: bytes, and allocations that are refused. */
 #ifndef CHECKS_H
 #define CHECKS_H
 
@@ -10,9 +10,17 @@
 void *__real_malloc(size_t size);
 void *__real_realloc(void *block, size_t size);
 
-static long until_refusal = -1;
+/* How many allocations there are before one is refused, if it is not negative, and how many there were. */
+static long until_refusal = -1, allocations;
 
-static int is_refused(void) { return until_refusal >= 0 && until_refusal-- == 0; }
+/* What is called inside each allocation, if anything is. */
+static void (*inside)(void);
+
+static int is_refused(void) {
+    allocations++;
+    if (inside) inside();
+    return until_refusal >= 0 && until_refusal-- == 0;
+}
 
 void *__wrap_malloc(size_t size) { return is_refused() ? NULL : __real_malloc(size); }
 void *__wrap_realloc(void *block, size_t size) { return is_refused() ? NULL : __real_realloc(block, size); }

@@ -1,6 +1,7 @@
-/* Two threads make components at once, each in an output of its own, and produce the same bytes. Then the deepest
- * components are made, counted, checked, validated and printed, and made again from their scripts, in a thread whose
- * stack is as lupinanon.h says. Built with -fsanitize=thread if the compiler has it. */
+/* Two threads make components at once, each in an output of its own, and produce the same bytes; so do four with memory
+ * that is lent, which also judge the components and write their scripts. Then the deepest components are made, counted,
+ * checked, validated and printed, and made again from their scripts, in a thread whose stack is as lupinanon.h says.
+ * Built with -fsanitize=thread if the compiler has it. */
 #include "lupinanon.h"
 #include <pthread.h>
 #include <stdio.h>
@@ -27,6 +28,52 @@ static void *make(void *argument) {
         if (made->status) break;
     }
     return NULL;
+}
+
+/* What a thread that is lent memory makes, and whether it is as it should be in each run. */
+struct Lent {
+    uint8_t scratch[LUPINANON_SCRATCH(INPUT)], output[OUTPUT], script[OUTPUT];
+    size_t len, left;
+    int is_right;
+};
+
+static int make_lent_once(struct Lent *lent, const LupinanonLimits *limits) {
+    size_t room = sizeof lent->scratch, script_len;
+    if (lupinanon_generate_in(limits, input, INPUT, lent->output, OUTPUT, &lent->len, &lent->left, lent->scratch, room))
+        return 0;
+    if (lupinanon_check_in(lent->output, lent->len, NULL, lent->scratch, room)) return 0;
+    if (lupinanon_validate_in(lent->output, lent->len, NULL, NULL, lent->scratch, room) == LUPINANON_OUT_OF_MEMORY)
+        return 0;
+    return !lupinanon_script_in(limits, lent->output, lent->len, lent->script, OUTPUT, &script_len, NULL, lent->scratch,
+                                room);
+}
+
+static void *make_lent(void *argument) {
+    struct Lent *lent = (struct Lent *)argument;
+    LupinanonLimits limits;
+    int run;
+    lupinanon_default_limits(&limits, sizeof limits);
+    lent->is_right = 1;
+    for (run = 0; run < RUNS && lent->is_right; run++) lent->is_right = make_lent_once(lent, &limits);
+    return NULL;
+}
+
+static int four_threads_are_lent_memory(void) {
+    static struct Lent lent[4];
+    static struct Made made;
+    pthread_t threads[4];
+    int place;
+    for (place = 0; place < 4; place++)
+        if (pthread_create(&threads[place], NULL, make_lent, &lent[place])) return 0;
+    make(&made);
+    for (place = 0; place < 4; place++)
+        if (pthread_join(threads[place], NULL)) return 0;
+    for (place = 0; place < 4; place++) {
+        if (!lent[place].is_right || lent[place].len != made.len || lent[place].left != made.left) return 0;
+        if (memcmp(lent[place].output, made.output, made.len)) return 0;
+    }
+    printf("threads: %zu bytes four times, with lent memory\n", made.len);
+    return 1;
 }
 
 static int two_threads_make_the_same(void) {
@@ -129,4 +176,6 @@ static int the_stack_is_enough(void) {
     return 1;
 }
 
-int main(void) { return two_threads_make_the_same() && the_stack_is_enough() ? 0 : 1; }
+int main(void) {
+    return two_threads_make_the_same() && four_threads_are_lent_memory() && the_stack_is_enough() ? 0 : 1;
+}

@@ -7,6 +7,7 @@
 #include <span>
 #include <string>
 #include <string_view>
+#include <vector>
 
 using lupinanon::Answer;
 using lupinanon::Bytes;
@@ -160,6 +161,27 @@ static bool makes_smaller_ones() {
     return true;
 }
 
+static bool takes_lent_memory() {
+    const auto limits = lupinanon::default_limits();
+    std::vector<std::byte> memory(LUPINANON_SCRATCH(plan.size()));
+    const lupinanon::Scratch scratch = memory, little = scratch.first(64);
+    const auto made = lupinanon::generate_in(limits, view(plan), scratch);
+    WANT(made && is(made->component, type_of_u32) && made->left == 1);
+    WANT(lupinanon::generate_in(limits, view(plan), little).error() == Error::out_of_memory);
+    const auto broken = lupinanon::check_in(view(of_itself), scratch);
+    WANT(broken && broken->verdict == Verdict::ill_formed && broken->offset == 12);
+    WANT(lupinanon::check_in(view(of_itself), {}).error() == Error::out_of_memory);
+    const auto invalid = lupinanon::validate_in(view(of_itself), scratch);
+    WANT(invalid && invalid->answer == Answer::invalid && invalid->rule && invalid->offset == 12);
+    WANT(lupinanon::validate_in(view(of_itself), little).error() == Error::out_of_memory);
+    const auto script = lupinanon::script_in(limits, view(type_of_u32), scratch);
+    WANT(script && is(*script, plan.substr(0, 7)));
+    const auto unread = lupinanon::script_in(limits, {}, scratch);
+    WANT(!unread && unread.error() == Error::unread && unread.offset() == 0);
+    WANT(lupinanon::script_in(limits, view(type_of_u32), little).error() == Error::out_of_memory);
+    return true;
+}
+
 static bool makes_near_misses() {
     const auto bytes = view(list);
     const auto count = lupinanon::change_count(bytes);
@@ -181,7 +203,8 @@ static bool makes_near_misses() {
 
 int main() {
     const bool all = makes_a_component() && outputs_grow() && says_limits() && counts_combinations() && judges() &&
-                     writes_texts() && writes_scripts() && makes_smaller_ones() && makes_near_misses();
+                     writes_texts() && writes_scripts() && takes_lent_memory() && makes_smaller_ones() &&
+                     makes_near_misses();
     if (all) std::printf("each function of lupinanon.hpp does what lupinanon.h says\n");
     return all ? 0 : 1;
 }

@@ -11,6 +11,9 @@ int accepts(const uint8_t *bytes, size_t len);
 
 enum { CHANGE = 4, MOST_BYTES = 1 << 16 };
 
+/* What the library makes and judges components in: no memory is taken for that. */
+static uint8_t scratch[LUPINANON_SCRATCH(MOST_BYTES)];
+
 static void print_bytes(const uint8_t *bytes, size_t len) {
     size_t at;
     for (at = 0; at < len; at++) fprintf(stderr, "%02x", bytes[at]);
@@ -19,7 +22,7 @@ static void print_bytes(const uint8_t *bytes, size_t len) {
 
 static void judge(const uint8_t *bytes, size_t len) {
     size_t rule, offset;
-    int32_t status = lupinanon_validate(bytes, len, &rule, &offset);
+    int32_t status = lupinanon_validate_in(bytes, len, &rule, &offset, scratch, sizeof scratch);
     if (status != LUPINANON_VALID && status != LUPINANON_INVALID) return; /* it may do either */
     if (!accepts(bytes, len) == (status == LUPINANON_INVALID)) return;
     if (status == LUPINANON_VALID)
@@ -60,7 +63,8 @@ int LLVMFuzzerTestOneInput(const uint8_t *data, size_t size) {
     lupinanon_default_limits(&limits, sizeof limits);
     limits.must_validate = 1;
     limits.max_exports = 10;
-    status = lupinanon_generate_into(&limits, data, front, component, sizeof component, &len, NULL);
+    status = lupinanon_generate_in(&limits, data, front, component, sizeof component, &len, NULL, scratch,
+                                   sizeof scratch);
     if (status == LUPINANON_NO_ROOM || status == LUPINANON_OUT_OF_MEMORY) return -1;
     if (status != LUPINANON_ANSWERED) abort();
     judge(component, len);

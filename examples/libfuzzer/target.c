@@ -16,14 +16,18 @@ __attribute__((section("__libfuzzer_extra_counters")))
 #endif
 static uint8_t seen[1 << 15];
 
+/* The longest input for whose component there is always enough memory, unless the input says its limits. */
+enum { MOST_INPUT = 1 << 14 };
+
 /* Returns -1, so that the input is not kept, if its component is too large for this target, or memory runs out. */
 int LLVMFuzzerTestOneInput(const uint8_t *data, size_t size) {
-    static uint8_t output[1 << 16];
+    static uint8_t output[1 << 16], scratch[LUPINANON_SCRATCH(MOST_INPUT)];
     size_t len, left, front;
     LupinanonLimits limits;
     int32_t status;
     front = limits_of_input(&limits, data, size);
-    status = lupinanon_generate_into(&limits, data + front, size - front, output, sizeof output, &len, &left);
+    status = lupinanon_generate_in(&limits, data + front, size - front, output, sizeof output, &len, &left, scratch,
+                                   sizeof scratch);
     if (status == LUPINANON_NO_ROOM || status == LUPINANON_OUT_OF_MEMORY) return -1;
     if (status != LUPINANON_ANSWERED || left > size - front) abort();
     status = lupinanon_features(&limits, data + front, size - front, seen, sizeof seen);

@@ -1,5 +1,5 @@
-/* What of lupinanon.h is plain C: the check of the arguments before the proved functions, a block for the bytes, and
- * words. A contract can say neither that a pointer is NULL, nor what is at one that is returned. */
+/* What of lupinanon.h is plain C: the check of the arguments before the proved functions, a block for the bytes, memory
+ * that is lent, and words. A contract can say neither that a pointer is NULL, nor what is at one that is returned. */
 #include "lupinanon.h"
 #include <string.h>
 
@@ -128,6 +128,9 @@ static void set_limits(LupinanonLimits *limits, void (*proved)(void *limits)) {
 
 static void set_defaults(LupinanonLimits *limits) { set_limits(limits, lupinanon_proved_default_limits); }
 
+/* As many bytes as the limits say, if there are any. */
+#define OF_LIMITS(limits) {limits, limits ? (limits)->size : 0}
+
 static int is_zero(const uint8_t *bytes, size_t len) {
     while (len)
         if (bytes[--len]) return 0;
@@ -164,6 +167,112 @@ static int may_pass(const Memory *read, size_t read_count, const Memory *written
     for (place = 0; place < read_count; place++)
         if (!is_there(read[place])) return 0;
     return is_there(written[0]) && are_apart(written, written_count, read, read_count);
+}
+
+/* The memory that a caller lends to the call that runs in this thread. Blocks lie in it one after another, each at a
+ * multiple of 16 and after its header. Only the last one grows in place, and only the last ones are given back. */
+typedef struct Lent {
+    uintptr_t last; /* the last block, or `next` if there is none */
+    uintptr_t end;  /* the last place for `next` */
+    uintptr_t next; /* where the next one would be, or 0 if nothing is lent */
+} Lent;
+
+/* How far it is to the next block, and from the one before or 0 if there is none, in units of ALIGNMENT. */
+typedef struct Header {
+    uint32_t to_next;
+    uint32_t from_before;
+} Header;
+
+enum { ALIGNMENT = 16 };
+
+/* A bit of `to_next`, and how much memory is used at most, so that there is room for it: 32 GiB. */
+#define IS_FREE (UINT32_C(1) << 31)
+#define MOST_LENT ((uintptr_t)ALIGNMENT * (IS_FREE - 1))
+
+static _Thread_local Lent lent;
+
+static uintptr_t aligned(uintptr_t at) { return at & ~(uintptr_t)(ALIGNMENT - 1); }
+
+static Header *header_of(uintptr_t block) { return (Header *)block - 1; }
+
+/* Makes a block the last one, with that size, and returns it. If it has no room, returns NULL and changes nothing. */
+static void *set_last(uintptr_t block, uintptr_t before, size_t size) {
+    size_t span = aligned(size + sizeof(Header) + ALIGNMENT - 1);
+    Header *header = header_of(block);
+    if (span < size || span > lent.end - block) return NULL;
+    header->to_next = (uint32_t)(span / ALIGNMENT);
+    header->from_before = (uint32_t)((block - before) / ALIGNMENT);
+    lent.last = block;
+    lent.next = block + span;
+    return (void *)block;
+}
+
+/* The block before, or the block itself if it is the first. */
+static uintptr_t block_before(uintptr_t block) {
+    return block - header_of(block)->from_before * (uintptr_t)ALIGNMENT;
+}
+
+/* What is lent, without the last blocks as far as they are free. */
+static Lent in_use(void) {
+    Lent it = lent;
+    while (it.last != it.next && header_of(it.last)->to_next & IS_FREE) {
+        it.next = it.last;
+        it.last = block_before(it.last);
+    }
+    return it;
+}
+
+static void *take(size_t size) {
+    Lent it = in_use();
+    return set_last(it.next, it.last, size);
+}
+
+static void set_free(uintptr_t block) { header_of(block)->to_next |= IS_FREE; }
+
+/* What malloc, realloc and free are to the proved functions: examples/library binds them. */
+void *lent_malloc(size_t size);
+void *lent_realloc(void *block, size_t size);
+void lent_free(void *block);
+
+void *lent_malloc(size_t size) { return lent.next ? take(size) : malloc(size); }
+
+void *lent_realloc(void *block, size_t size) {
+    uintptr_t at = (uintptr_t)block;
+    size_t len;
+    void *other;
+    if (!lent.next) return realloc(block, size);
+    if (!block) return take(size);
+    lent = in_use();
+    if (at == lent.last) return set_last(at, block_before(at), size);
+    len = header_of(at)->to_next * (size_t)ALIGNMENT - sizeof(Header);
+    if (size <= len) return block;
+    if (!(other = take(size))) return NULL;
+    memcpy(other, block, len);
+    set_free(at);
+    return other;
+}
+
+void lent_free(void *block) {
+    if (!lent.next)
+        free(block);
+    else if (block)
+        set_free((uintptr_t)block);
+}
+
+/* Whether memory can be lent: it is there, and apart from all else that is passed. If not, the function without lent
+ * memory is called with what it refuses, so that it writes what it writes then. */
+static int may_lend(Memory scratch, const Memory *others, size_t count) {
+    return is_there(scratch) && are_apart(&scratch, 1, others, count);
+}
+
+/* Lends memory, of any alignment, to the call that follows. Returns what was lent before, for after that call. */
+static Lent lend(Memory scratch) {
+    Lent before = lent;
+    uintptr_t at = (uintptr_t)scratch.at, end = aligned(at + scratch.len + sizeof(Header));
+    lent.last = lent.next = aligned(at + sizeof(Header) + ALIGNMENT - 1);
+    lent.end = end < lent.next ? lent.next : end;
+    if (lent.end - lent.next > MOST_LENT) lent.end = lent.next + MOST_LENT;
+    return before;
 }
 
 const char *lupinanon_version(void) { return LUPINANON_VERSION; }
@@ -285,6 +394,20 @@ int32_t lupinanon_generate(const LupinanonLimits *limits, const uint8_t *input, 
     return LUPINANON_OUT_OF_MEMORY;
 }
 
+int32_t lupinanon_generate_in(const LupinanonLimits *limits, const uint8_t *input, size_t input_len, uint8_t *output,
+                              size_t output_len, size_t *bytes_len, size_t *left, void *scratch, size_t scratch_len) {
+    Memory others[] = {OF_LIMITS(limits), {input, input_len}, {output, output_len}, MEMORY_OF(bytes_len),
+                       MEMORY_OF(left)};
+    Memory own = {scratch, scratch_len};
+    int32_t status;
+    Lent before;
+    if (!may_lend(own, others, 5)) return lupinanon_generate_into(NULL, NULL, 0, NULL, 0, bytes_len, left);
+    before = lend(own);
+    status = lupinanon_generate_into(limits, input, input_len, output, output_len, bytes_len, left);
+    lent = before;
+    return status;
+}
+
 int32_t lupinanon_features(const LupinanonLimits *limits, const uint8_t *input, size_t input_len, uint8_t *counters,
                            size_t counters_len) {
     LupinanonLimits room;
@@ -311,6 +434,17 @@ int32_t lupinanon_check(const uint8_t *bytes, size_t bytes_len, size_t *offset) 
     return lupinanon_proved_check(bytes ? bytes : &nothing, bytes_len, offset);
 }
 
+int32_t lupinanon_check_in(const uint8_t *bytes, size_t bytes_len, size_t *offset, void *scratch, size_t scratch_len) {
+    Memory others[] = {{bytes, bytes_len}, MEMORY_OF(offset)}, own = {scratch, scratch_len};
+    int32_t status;
+    Lent before;
+    if (!may_lend(own, others, 2)) return lupinanon_check(NULL, 1, offset);
+    before = lend(own);
+    status = lupinanon_check(bytes, bytes_len, offset);
+    lent = before;
+    return status;
+}
+
 int32_t lupinanon_validate(const uint8_t *bytes, size_t bytes_len, size_t *rule, size_t *offset) {
     uint8_t nothing = 0;
     size_t no_rule, no_offset;
@@ -323,6 +457,18 @@ int32_t lupinanon_validate(const uint8_t *bytes, size_t bytes_len, size_t *rule,
         if (!may_pass(&read, 1, written, 2)) return LUPINANON_BAD_ARGUMENT;
     }
     return lupinanon_proved_validate(bytes ? bytes : &nothing, bytes_len, rule, offset);
+}
+
+int32_t lupinanon_validate_in(const uint8_t *bytes, size_t bytes_len, size_t *rule, size_t *offset, void *scratch,
+                              size_t scratch_len) {
+    Memory others[] = {{bytes, bytes_len}, MEMORY_OF(rule), MEMORY_OF(offset)}, own = {scratch, scratch_len};
+    int32_t status;
+    Lent before;
+    if (!may_lend(own, others, 3)) return lupinanon_validate(NULL, 1, rule, offset);
+    before = lend(own);
+    status = lupinanon_validate(bytes, bytes_len, rule, offset);
+    lent = before;
+    return status;
 }
 
 int32_t lupinanon_print(const uint8_t *bytes, size_t bytes_len, uint8_t *output, size_t output_len, size_t *text_len) {
@@ -353,6 +499,20 @@ int32_t lupinanon_script_into(const LupinanonLimits *limits, const uint8_t *byte
     if (!limits) return LUPINANON_BAD_ARGUMENT;
     return lupinanon_proved_script_into(WITHOUT_SIZE(limits), bytes ? bytes : &nothing, bytes_len,
                                         output ? output : &nothing, output_len, script_len, offset);
+}
+
+int32_t lupinanon_script_in(const LupinanonLimits *limits, const uint8_t *bytes, size_t bytes_len, uint8_t *output,
+                            size_t output_len, size_t *script_len, size_t *offset, void *scratch, size_t scratch_len) {
+    Memory others[] = {OF_LIMITS(limits), {bytes, bytes_len}, {output, output_len}, MEMORY_OF(script_len),
+                       MEMORY_OF(offset)};
+    Memory own = {scratch, scratch_len};
+    int32_t status;
+    Lent before;
+    if (!may_lend(own, others, 5)) return lupinanon_script_into(NULL, NULL, 0, NULL, 0, script_len, offset);
+    before = lend(own);
+    status = lupinanon_script_into(limits, bytes, bytes_len, output, output_len, script_len, offset);
+    lent = before;
+    return status;
 }
 
 int32_t lupinanon_smaller(const LupinanonLimits *limits, const uint8_t *bytes, size_t bytes_len, size_t k,

@@ -4,7 +4,7 @@
  * lupinanon_generate_into, lupinanon_features, lupinanon_check, lupinanon_validate, lupinanon_print, lupinanon_script_into,
  * lupinanon_smaller, lupinanon_next_smaller, lupinanon_without, lupinanon_join, lupinanon_change_count,
  * lupinanon_changed, lupinanon_next_changed and lupinanon_next_miswritten call after a check of their arguments. That
- * check, and all else, is plain C.
+ * check, and all else, is plain C, with what takes memory for them: from malloc, or from what the caller lends.
  *
  * What the caller owes, and nothing checks:
  *  - A pointer that is not NULL points to what its type says, and a length says how much lies there. Limits are as many
@@ -12,10 +12,12 @@
  *  - `output` may hold anything. What else is passed is not written elsewhere while a call runs.
  *  - malloc, realloc and free come from one allocator, and a block is aligned to each power of two up to 16 that
  *    divides its size. A hook or a signal handler that runs inside a call touches nothing of what is passed.
- *  - No call is made from a signal handler, or in the forked child of a process with threads.
+ *  - No call is made from a signal handler, or in the forked child of a process with threads, and none is left by
+ *    longjmp.
  *  - The stack has room for LUPINANON_STACK, which is measured and not proved.
  *
- * The library keeps no state, so calls in several threads at once are fine if each has its own output.
+ * The library keeps no state between calls, so calls in several threads at once are fine if each has its own output and
+ * its own lent memory.
  * It is built for 64 bits.
  */
 #ifndef LUPINANON_H
@@ -114,7 +116,8 @@ enum LupinanonStatus {
     LUPINANON_MINIMUM_NOT_MET = 2,     /* no more imports or functions of a minimum can be added */
     LUPINANON_MODULE_REFUSED = 3,      /* a core module is chosen, and min_memories passes max_memories */
     LUPINANON_TOO_LONG = 4,            /* a length or a count in the bytes would pass 4,294,967,295 */
-    LUPINANON_OUT_OF_MEMORY = 5,       /* malloc or realloc returned NULL, or an index of an edit exceeds 32 bits */
+    LUPINANON_OUT_OF_MEMORY = 5,       /* malloc or realloc returned NULL, too little memory is lent, or an index of an
+                                        * edit exceeds 32 bits */
     LUPINANON_PARTS_DISAGREE = 6,      /* no call of this library returns it */
     LUPINANON_NO_ROOM = 7,             /* the output is too short; *bytes_len or *script_len, or the like, is how
                                         * long it has to be */
@@ -138,6 +141,12 @@ enum LupinanonStatus {
  * 1000 also lupinanon_check, lupinanon_validate, lupinanon_print and lupinanon_script_into of any bytes: theirs grows
  * with how deep the bytes nest, whatever the limits. At 1000, the greatest depth, that is 2 MiB. */
 #define LUPINANON_STACK(max_nesting_depth) (49152 + 2048 * (size_t)(max_nesting_depth))
+
+/* How many bytes of lent memory are enough, which is measured and not proved: for lupinanon_generate_in with an input of
+ * `len` bytes within the default limits or those of the profile `fuzz`, and for lupinanon_check_in and
+ * lupinanon_validate_in of `len` bytes. lupinanon_script_in of `len` bytes takes up to three times as many, and within
+ * other limits lupinanon_generate_in up to eight times as many, most of all if each byte begins a component. */
+#define LUPINANON_SCRATCH(len) (32768 + 256 * (size_t)(len))
 
 /* What lupinanon_check, lupinanon_validate and lupinanon_script_into write if they know no offset. */
 #define LUPINANON_NO_OFFSET SIZE_MAX
@@ -201,6 +210,24 @@ int32_t lupinanon_generate_into(const LupinanonLimits *limits, const uint8_t *in
  * are 0. */
 int32_t lupinanon_generate(const LupinanonLimits *limits, const uint8_t *input, size_t input_len, uint8_t **bytes,
                            size_t *bytes_len, size_t *left);
+
+/* lupinanon_generate_into, lupinanon_check, lupinanon_validate and lupinanon_script_into with memory that the caller
+ * lends: all that the call takes is in the `scratch_len` bytes at `scratch`, of any alignment and with any contents. It
+ * calls no malloc, realloc or free. The memory is lent until the call returns: meanwhile nothing else may use it, and
+ * then nothing is kept there. Calls in several threads at once each need their own.
+ *
+ * LUPINANON_OUT_OF_MEMORY: there is too little of it; 32 GiB are used at most. LUPINANON_SCRATCH says how much is enough.
+ * LUPINANON_BAD_ARGUMENT: also if it overlaps what else is passed.
+ * All else, the output too, is as of the function without lent memory.
+ *
+ * `scratch` may be NULL if its length is 0. */
+int32_t lupinanon_generate_in(const LupinanonLimits *limits, const uint8_t *input, size_t input_len, uint8_t *output,
+                              size_t output_len, size_t *bytes_len, size_t *left, void *scratch, size_t scratch_len);
+int32_t lupinanon_check_in(const uint8_t *bytes, size_t bytes_len, size_t *offset, void *scratch, size_t scratch_len);
+int32_t lupinanon_validate_in(const uint8_t *bytes, size_t bytes_len, size_t *rule, size_t *offset, void *scratch,
+                              size_t scratch_len);
+int32_t lupinanon_script_in(const LupinanonLimits *limits, const uint8_t *bytes, size_t bytes_len, uint8_t *output,
+                            size_t output_len, size_t *script_len, size_t *offset, void *scratch, size_t scratch_len);
 
 /* Counts what is in the component that the input produces within the limits, for a fuzzer that takes counters as coverage,
  * such as the extra counters of libFuzzer. Each combination in it, of a thing with what it is in and what it refers to

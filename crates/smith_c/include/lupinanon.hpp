@@ -125,6 +125,9 @@ struct Step {
     Bytes bytes;
 };
 
+/* Memory to lend to a call. LUPINANON_SCRATCH says how much is enough. */
+using Scratch = std::span<std::byte>;
+
 namespace detail {
 
 inline const std::uint8_t *data(BytesView bytes) noexcept {
@@ -160,6 +163,15 @@ Result<Step> found(BytesView bytes, std::size_t number, Call call) {
     });
     if (!output) return output.error();
     return Step{number, *std::move(output)};
+}
+
+inline Result<Checked> checked(std::int32_t status, std::size_t offset) {
+    switch (status) {
+    case LUPINANON_WELL_FORMED: return Checked{Verdict::well_formed, {}};
+    case LUPINANON_ILL_FORMED: return Checked{Verdict::ill_formed, known(offset)};
+    case LUPINANON_UNREAD: return Checked{Verdict::unread, known(offset)};
+    default: return static_cast<Error>(status);
+    }
 }
 
 inline Result<Validated> validated(std::int32_t status, std::size_t rule, std::size_t offset) {
@@ -211,6 +223,17 @@ inline Result<Generated> generate(const Limits &limits, BytesView input) {
     return Generated{*std::move(output), left};
 }
 
+/* The same with memory that is lent: only the bytes that are returned are taken from elsewhere. */
+inline Result<Generated> generate_in(const Limits &limits, BytesView input, Scratch scratch) {
+    std::size_t left = 0;
+    auto output = detail::written(4096, [&](auto *at, std::size_t room, std::size_t *len) {
+        return lupinanon_generate_in(&limits, detail::data(input), input.size(), at, room, len, &left, scratch.data(),
+                                     scratch.size());
+    });
+    if (!output) return output.error();
+    return Generated{*std::move(output), left};
+}
+
 /* Adds 1 to a counter for each combination in the component that the input produces within the limits, up to 255. The
  * result is a value if that is done, which says no more; otherwise the counters are as they were. */
 inline Result<std::monostate> features(const Limits &limits, BytesView input, std::span<std::uint8_t> counters) {
@@ -224,18 +247,29 @@ inline Result<std::monostate> features(const Limits &limits, BytesView input, st
 inline Result<Checked> check(BytesView bytes) {
     std::size_t offset = LUPINANON_NO_OFFSET;
     const auto status = lupinanon_check(detail::data(bytes), bytes.size(), &offset);
-    switch (status) {
-    case LUPINANON_WELL_FORMED: return Checked{Verdict::well_formed, {}};
-    case LUPINANON_ILL_FORMED: return Checked{Verdict::ill_formed, detail::known(offset)};
-    case LUPINANON_UNREAD: return Checked{Verdict::unread, detail::known(offset)};
-    default: return static_cast<Error>(status);
-    }
+    return detail::checked(status, offset);
+}
+
+/* The same with memory that is lent. */
+inline Result<Checked> check_in(BytesView bytes, Scratch scratch) {
+    std::size_t offset = LUPINANON_NO_OFFSET;
+    const auto status =
+        lupinanon_check_in(detail::data(bytes), bytes.size(), &offset, scratch.data(), scratch.size());
+    return detail::checked(status, offset);
 }
 
 /* Returns whether a validator has to accept bytes, may not accept them, or neither. */
 inline Result<Validated> validate(BytesView bytes) {
     std::size_t rule = LUPINANON_NO_RULE, offset = LUPINANON_NO_OFFSET;
     const auto status = lupinanon_validate(detail::data(bytes), bytes.size(), &rule, &offset);
+    return detail::validated(status, rule, offset);
+}
+
+/* The same with memory that is lent. */
+inline Result<Validated> validate_in(BytesView bytes, Scratch scratch) {
+    std::size_t rule = LUPINANON_NO_RULE, offset = LUPINANON_NO_OFFSET;
+    const auto status =
+        lupinanon_validate_in(detail::data(bytes), bytes.size(), &rule, &offset, scratch.data(), scratch.size());
     return detail::validated(status, rule, offset);
 }
 
@@ -252,6 +286,17 @@ inline Result<Bytes> script(const Limits &limits, BytesView bytes) {
     std::size_t offset = LUPINANON_NO_OFFSET;
     auto output = detail::written(4096, [&](auto *at, std::size_t room, std::size_t *len) {
         return lupinanon_script_into(&limits, detail::data(bytes), bytes.size(), at, room, len, &offset);
+    });
+    if (!output) return {output.error(), detail::known(offset)};
+    return output;
+}
+
+/* The same with memory that is lent: only the bytes that are returned are taken from elsewhere. */
+inline Result<Bytes> script_in(const Limits &limits, BytesView bytes, Scratch scratch) {
+    std::size_t offset = LUPINANON_NO_OFFSET;
+    auto output = detail::written(4096, [&](auto *at, std::size_t room, std::size_t *len) {
+        return lupinanon_script_in(&limits, detail::data(bytes), bytes.size(), at, room, len, &offset, scratch.data(),
+                                   scratch.size());
     });
     if (!output) return {output.error(), detail::known(offset)};
     return output;

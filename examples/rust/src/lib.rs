@@ -188,6 +188,12 @@ impl fmt::Display for NoScript {
 
 impl core::error::Error for NoScript {}
 
+impl From<OutOfMemory> for NoScript {
+    fn from(_: OutOfMemory) -> NoScript {
+        NoScript::OutOfMemory
+    }
+}
+
 /// Why no component is returned that is smaller than another, or changed, or that two are joined to.
 #[derive(Clone, Copy, Debug, PartialEq, Eq)]
 #[non_exhaustive]
@@ -240,12 +246,29 @@ pub fn swarm_limits<'a>(limits: &Limits, input: &'a [u8]) -> SwarmLimits<'a> {
 ///
 /// If the static library is older than this crate and does not have a limit that is set.
 pub fn generate(limits: &Limits, input: &[u8]) -> Result<Generated, Refusal> {
+    generated(|output| library::generate_into(limits, input, output))
+}
+
+/// The same with memory that is lent: all but the bytes that are returned is taken from there. `LUPINANON_SCRATCH` in
+/// `lupinanon.h` says how much is enough.
+///
+/// # Panics
+///
+/// As `generate` does.
+pub fn generate_in(limits: &Limits, input: &[u8], scratch: &mut [u8]) -> Result<Generated, Refusal> {
+    generated(|output| library::generate_in(limits, input, output, scratch))
+}
+
+// Returns what a call writes into an output that has room for it.
+fn generated(
+    mut write: impl FnMut(&mut [u8]) -> Result<library::Outcome, Refusal>,
+) -> Result<Generated, Refusal> {
     let mut output = Vec::new();
     let mut room = 4096;
     loop {
         output.try_reserve_exact(room).map_err(|_| Refusal::OutOfMemory)?;
         output.resize(room, 0);
-        match library::generate_into(limits, input, &mut output)? {
+        match write(&mut output)? {
             library::Outcome::Written { len, left } => {
                 output.truncate(len);
                 return Ok(Generated { bytes: output, left });
@@ -274,10 +297,20 @@ pub fn check(bytes: &[u8]) -> Result<Verdict, OutOfMemory> {
     library::check(bytes)
 }
 
+/// The same with memory that is lent.
+pub fn check_in(bytes: &[u8], scratch: &mut [u8]) -> Result<Verdict, OutOfMemory> {
+    library::check_in(bytes, scratch)
+}
+
 /// Returns what the bytes are to whoever tests a validator: a component that it has to accept, bytes that it may not
 /// accept, or neither.
 pub fn validate(bytes: &[u8]) -> Result<Answer, OutOfMemory> {
     library::validate(bytes)
+}
+
+/// The same with memory that is lent.
+pub fn validate_in(bytes: &[u8], scratch: &mut [u8]) -> Result<Answer, OutOfMemory> {
+    library::validate_in(bytes, scratch)
 }
 
 /// Returns the component that the bytes are, well formed or not, in the text format, with indexes as comments.
@@ -294,19 +327,24 @@ pub fn print(bytes: &[u8]) -> Result<String, NoText> {
 ///
 /// As `generate` does.
 pub fn script(limits: &Limits, bytes: &[u8]) -> Result<Vec<u8>, NoScript> {
-    let mut output = Vec::new();
-    let mut room = 4096;
-    loop {
-        output.try_reserve_exact(room).map_err(|_| NoScript::OutOfMemory)?;
-        output.resize(room, 0);
-        let len = library::script_into(limits, bytes, &mut output)?;
-        if len <= room {
-            output.truncate(len);
-            return Ok(output);
-        }
-        output.clear();
-        room = len;
-    }
+    script_written(|output| library::script_into(limits, bytes, output))
+}
+
+/// The same with memory that is lent, as for `generate_in`.
+///
+/// # Panics
+///
+/// As `generate` does.
+pub fn script_in(limits: &Limits, bytes: &[u8], scratch: &mut [u8]) -> Result<Vec<u8>, NoScript> {
+    script_written(|output| library::script_in(limits, bytes, output, scratch))
+}
+
+// Returns the script that a call writes.
+fn script_written(
+    mut write: impl FnMut(&mut [u8]) -> Result<usize, NoScript>,
+) -> Result<Vec<u8>, NoScript> {
+    let script = written(4096, |output| write(output).map(Some))?;
+    Ok(script.expect("what has no script is an error"))
 }
 
 // Returns what a call writes to an output of that room, or of as much more as it asks for.

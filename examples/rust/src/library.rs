@@ -24,6 +24,17 @@ extern "C" {
         bytes_len: *mut usize,
         left: *mut usize,
     ) -> i32;
+    fn lupinanon_generate_in(
+        limits: *const RawLimits,
+        input: *const u8,
+        input_len: usize,
+        output: *mut u8,
+        output_len: usize,
+        bytes_len: *mut usize,
+        left: *mut usize,
+        scratch: *mut u8,
+        scratch_len: usize,
+    ) -> i32;
     fn lupinanon_features(
         limits: *const RawLimits,
         input: *const u8,
@@ -32,11 +43,26 @@ extern "C" {
         counters_len: usize,
     ) -> i32;
     fn lupinanon_check(bytes: *const u8, bytes_len: usize, offset: *mut usize) -> i32;
+    fn lupinanon_check_in(
+        bytes: *const u8,
+        bytes_len: usize,
+        offset: *mut usize,
+        scratch: *mut u8,
+        scratch_len: usize,
+    ) -> i32;
     fn lupinanon_validate(
         bytes: *const u8,
         bytes_len: usize,
         rule: *mut usize,
         offset: *mut usize,
+    ) -> i32;
+    fn lupinanon_validate_in(
+        bytes: *const u8,
+        bytes_len: usize,
+        rule: *mut usize,
+        offset: *mut usize,
+        scratch: *mut u8,
+        scratch_len: usize,
     ) -> i32;
     fn lupinanon_rule_text(rule: usize) -> *const c_char;
     fn lupinanon_print(
@@ -54,6 +80,17 @@ extern "C" {
         output_len: usize,
         script_len: *mut usize,
         offset: *mut usize,
+    ) -> i32;
+    fn lupinanon_script_in(
+        limits: *const RawLimits,
+        bytes: *const u8,
+        bytes_len: usize,
+        output: *mut u8,
+        output_len: usize,
+        script_len: *mut usize,
+        offset: *mut usize,
+        scratch: *mut u8,
+        scratch_len: usize,
     ) -> i32;
     fn lupinanon_smaller(
         limits: *const RawLimits,
@@ -187,6 +224,37 @@ pub fn generate_into(limits: &Limits, input: &[u8], output: &mut [u8]) -> Result
             &mut left,
         )
     };
+    outcome_of(status, len, left)
+}
+
+/// The same with memory that is lent.
+pub fn generate_in(
+    limits: &Limits,
+    input: &[u8],
+    output: &mut [u8],
+    scratch: &mut [u8],
+) -> Result<Outcome, Refusal> {
+    let limits = RawLimits::of(limits);
+    let (mut len, mut left) = (0, 0);
+    // SAFETY: no reference is null, the lengths are the slices', and nothing written overlaps anything.
+    let status = unsafe {
+        lupinanon_generate_in(
+            &limits,
+            input.as_ptr(),
+            input.len(),
+            output.as_mut_ptr(),
+            output.len(),
+            &mut len,
+            &mut left,
+            scratch.as_mut_ptr(),
+            scratch.len(),
+        )
+    };
+    outcome_of(status, len, left)
+}
+
+// What a status says, with these counts.
+fn outcome_of(status: i32, len: usize, left: usize) -> Result<Outcome, Refusal> {
     match status {
         0 => Ok(Outcome::Written { len, left }),
         7 => Ok(Outcome::NoRoom { len }),
@@ -244,6 +312,21 @@ pub fn check(bytes: &[u8]) -> Result<Verdict, OutOfMemory> {
     let mut offset = 0;
     // SAFETY: the length is the slice's, and the offset overlaps nothing of it.
     let status = unsafe { lupinanon_check(bytes.as_ptr(), bytes.len(), &mut offset) };
+    verdict_of(status, offset)
+}
+
+/// The same with memory that is lent.
+pub fn check_in(bytes: &[u8], scratch: &mut [u8]) -> Result<Verdict, OutOfMemory> {
+    let mut offset = 0;
+    let (lent, lent_len) = (scratch.as_mut_ptr(), scratch.len());
+    // SAFETY: the lengths are the slices', and nothing written overlaps anything.
+    let status =
+        unsafe { lupinanon_check_in(bytes.as_ptr(), bytes.len(), &mut offset, lent, lent_len) };
+    verdict_of(status, offset)
+}
+
+// What a status of a check says, with that offset.
+fn verdict_of(status: i32, offset: usize) -> Result<Verdict, OutOfMemory> {
     match status {
         0 => Ok(Verdict::WellFormed),
         5 => Err(OutOfMemory),
@@ -259,6 +342,23 @@ pub fn validate(bytes: &[u8]) -> Result<Answer, OutOfMemory> {
     // SAFETY: the length is the slice's, and what is written overlaps nothing.
     let status =
         unsafe { lupinanon_validate(bytes.as_ptr(), bytes.len(), &mut number, &mut offset) };
+    answer_of(status, number, offset)
+}
+
+/// The same with memory that is lent.
+pub fn validate_in(bytes: &[u8], scratch: &mut [u8]) -> Result<Answer, OutOfMemory> {
+    let (mut number, mut offset) = (0, 0);
+    // SAFETY: the lengths are the slices', and nothing written overlaps anything.
+    let status = unsafe {
+        lupinanon_validate_in(
+            bytes.as_ptr(),
+            bytes.len(),
+            &mut number,
+            &mut offset,
+            scratch.as_mut_ptr(),
+            scratch.len(),
+        )
+    };
     answer_of(status, number, offset)
 }
 
@@ -314,6 +414,37 @@ pub fn script_into(limits: &Limits, bytes: &[u8], output: &mut [u8]) -> Result<u
             &mut offset,
         )
     };
+    script_of(status, len, offset)
+}
+
+/// The same with memory that is lent.
+pub fn script_in(
+    limits: &Limits,
+    bytes: &[u8],
+    output: &mut [u8],
+    scratch: &mut [u8],
+) -> Result<usize, NoScript> {
+    let limits = RawLimits::of(limits);
+    let (mut len, mut offset) = (0, 0);
+    // SAFETY: no reference is null, the lengths are the slices', and nothing written overlaps anything.
+    let status = unsafe {
+        lupinanon_script_in(
+            &limits,
+            bytes.as_ptr(),
+            bytes.len(),
+            output.as_mut_ptr(),
+            output.len(),
+            &mut len,
+            &mut offset,
+            scratch.as_mut_ptr(),
+            scratch.len(),
+        )
+    };
+    script_of(status, len, offset)
+}
+
+// How long a script is, or why there is none, by a status, with that offset.
+fn script_of(status: i32, len: usize, offset: usize) -> Result<usize, NoScript> {
     match status {
         0 | 7 => Ok(len),
         1 => Err(NoScript::InconsistentLimits),

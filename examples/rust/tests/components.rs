@@ -1,7 +1,7 @@
 use lupinanon::{
-    change_count, changed, check, features, generate, join, library_version, next_changed, next_miswritten,
-    next_smaller, print, reduce, script, smaller, swarm_limits, validate, without, Answer, Limits, NoScript, NoText,
-    Refusal, Unreduced, Verdict,
+    change_count, changed, check, check_in, features, generate, generate_in, join, library_version, next_changed,
+    next_miswritten, next_smaller, print, reduce, script, script_in, smaller, swarm_limits, validate, validate_in,
+    without, Answer, Limits, NoScript, NoText, OutOfMemory, Refusal, Unreduced, Verdict,
 };
 
 #[test]
@@ -9,6 +9,23 @@ fn a_component_of_one_type() {
     let made = generate(&Limits::default(), b"\x03\x01\x00\x00\x06\x00\x00\xff").unwrap();
     assert_eq!(made.bytes, b"\x00asm\x0d\x00\x01\x00\x07\x02\x01\x79");
     assert_eq!(made.left, 1);
+}
+
+#[test]
+fn memory_may_be_lent() {
+    let limits = Limits::default();
+    let component = b"\x00asm\x0d\x00\x01\x00\x07\x02\x01\x79";
+    let plan = b"\x03\x01\x00\x00\x06\x00\x00\xff";
+    let mut scratch = vec![0; 1 << 16];
+    let made = generate_in(&limits, plan, &mut scratch).unwrap();
+    assert_eq!((&made.bytes[..], made.left), (&component[..], 1));
+    assert_eq!(check_in(component, &mut scratch), Ok(Verdict::WellFormed));
+    assert_eq!(validate_in(component, &mut scratch), Ok(Answer::Valid));
+    assert_eq!(script_in(&limits, component, &mut scratch).unwrap(), plan[..7]);
+    assert_eq!(generate_in(&limits, plan, &mut scratch[..64]), Err(Refusal::OutOfMemory));
+    assert_eq!(check_in(component, &mut []), Err(OutOfMemory));
+    assert_eq!(validate_in(component, &mut scratch[..64]), Err(OutOfMemory));
+    assert_eq!(script_in(&limits, component, &mut scratch[..64]), Err(NoScript::OutOfMemory));
 }
 
 #[test]
