@@ -1,5 +1,5 @@
 -- Loops that print the sections of a component.
-use Rattle.std.proofs.Common.{◌≡◌, ℕ, ◌+◌, ◌<◌, ◌≤◌, List, [], ◌++◌, length, map, drop, get_or, refl, ap, sym, subst, ◌∙◌, Some, None, Result, Ok, Err}
+use Rattle.std.proofs.Common.{◌≡◌, ℕ, ◌+◌, ◌<◌, ◌≤◌, List, [], ◌++◌, length, map, drop, get_or, refl, ap, sym, subst, ◌∙◌, Some, None, Result, Ok, Err, suc, arith}
 use Rattle.std.proofs.Common.{IsErrAnd, IfErr}
 use Rattle.std.proofs.lemmas.List.{drop-drop, length-map}
 use Rattle.smith_input.proofs.Rests.{drop_past, rest_at}
@@ -10,12 +10,12 @@ use Rattle.smith_format.proofs.Piece.{assoc, joined, left_nil, left_none, right_
 use Rattle.smith_print.specs.declared.error.PrintError.{PrintError}
 use Rattle.smith_print.specs.declared.error.PrintError.TheVariants.{OtherCoreModule}
 use Rattle.smith_print.specs.declared.spaces.IndexSpaces.{IndexSpaces}
-use Rattle.smith_print.proofs.Listed.{after_all-map, entries-map}
+use Rattle.smith_print.proofs.Listed.{after_all-map, entry_lines-map}
 use Rattle.smith_print.specs.Components.{after_function, after_part, closing, core_module_text, custom_text, export_entry_text, head_text, part_text}
 use Rattle.smith_print.specs.Components.{parts_text}
 use Rattle.smith_print.specs.CoreTypes.{after_core_type}
 use Rattle.smith_print.specs.Externs.{canon_text, import_text}
-use Rattle.smith_print.specs.Lines.{after_all, closed, entries}
+use Rattle.smith_print.specs.Lines.{after_all, closed, entry_lines}
 use Rattle.smith_print.specs.Spaces.{after_canon, after_extern, nothing}
 use Rattle.smith_print.specs.Types.{after_type, core_type_text, type_text}
 use Rattle.smith_print.specs.Words.{deeper}
@@ -36,7 +36,7 @@ use Rattle.smith_tree.specs.declared.entries.Func.{Func}
 use Rattle.smith_print.specs.Printing.{Adds, IsRefused, PrintsPiece}
 use Rattle.smith_read.specs.PartNodes.{shown_import_node, shown_part_node}
 use Rattle.smith_read.specs.declared.nodes.PartNode.{PartNode}
-use Rattle.smith_tree.specs.Tree.{tree_of}
+use Rattle.smith_tree.specs.Tree.{Tree, tree_of}
 
 -- some text was added
 pub adds_text : {old new : String Global} {text : List ℕ} → string_bytes new ≡ string_bytes old ++ text → Adds old new (bytes text)
@@ -150,27 +150,27 @@ pub text_component : (ns : Vec PartNode) (c : ℕ) (r : IndexSpaces) (os : List 
 text_component ns c r os = ap (λ p. part_text p c r os) (shown_nested ns)
 
 pub text_core_types : (ts : Vec CoreNode) (c : ℕ) (r : IndexSpaces) (os : List ℕ)
-    → part_text (shown_part_node (node.CoreTypes ts)) c r os ≡ bytes (entries (λ t. core_type_text (shown_core_node t)) (λ t. after_core_type) c r os ts.items)
+    → part_text (shown_part_node (node.CoreTypes ts)) c r os ≡ bytes (entry_lines (λ t. core_type_text (shown_core_node t)) (λ t. after_core_type) c r os ts.items)
 text_core_types ts c r os = ap (λ p. part_text p c r os) (shown_core_types ts)
-    ∙ ap bytes (entries-map core_type_text (λ t. after_core_type) shown_core_node c r os ts.items)
+    ∙ ap bytes (entry_lines-map core_type_text (λ t. after_core_type) shown_core_node c r os ts.items)
 
 pub text_types : (ts : Vec TypeNode) (c : ℕ) (r : IndexSpaces) (os : List ℕ)
-    → part_text (shown_part_node (node.Types ts)) c r os ≡ bytes (entries (λ t. type_text (shown_type_node t)) (λ t. after_type) c r os ts.items)
-text_types ts c r os = ap (λ p. part_text p c r os) (shown_types ts) ∙ ap bytes (entries-map type_text (λ t. after_type) shown_type_node c r os ts.items)
+    → part_text (shown_part_node (node.Types ts)) c r os ≡ bytes (entry_lines (λ t. type_text (shown_type_node t)) (λ t. after_type) c r os ts.items)
+text_types ts c r os = ap (λ p. part_text p c r os) (shown_types ts) ∙ ap bytes (entry_lines-map type_text (λ t. after_type) shown_type_node c r os ts.items)
 
 pub text_canons : (fs : Vec Func) (c : ℕ) (r : IndexSpaces) (os : List ℕ)
-    → part_text (shown_part_node (node.Canons fs)) c r os ≡ bytes (entries (λ f _. canon_text (shown_canon f)) (λ f. after_canon (shown_canon f)) c r os fs.items)
-text_canons fs c r os = ap (λ p. part_text p c r os) (shown_canons fs) ∙ ap bytes (entries-map (λ f _. canon_text f) after_canon shown_canon c r os fs.items)
+    → part_text (shown_part_node (node.Canons fs)) c r os ≡ bytes (entry_lines (λ f _. canon_text (shown_canon f)) (λ f. after_canon (shown_canon f)) c r os fs.items)
+text_canons fs c r os = ap (λ p. part_text p c r os) (shown_canons fs) ∙ ap bytes (entry_lines-map (λ f _. canon_text f) after_canon shown_canon c r os fs.items)
 
 pub text_imports : (is : Vec ImportNode) (c : ℕ) (r : IndexSpaces) (os : List ℕ) → part_text (shown_part_node (node.Imports is)) c r os
-    ≡ bytes (entries (λ i _. import_text (string_bytes i.name) i.to) (λ i. after_extern i.to) c r os is.items)
+    ≡ bytes (entry_lines (λ i _. import_text (string_bytes i.name) i.to) (λ i. after_extern i.to) c r os is.items)
 text_imports is c r os = ap (λ p. part_text p c r os) (shown_imports is)
-    ∙ ap bytes (entries-map (λ i _. import_text i.name i.to) (λ i. after_extern i.to) shown_import_node c r os is.items)
+    ∙ ap bytes (entry_lines-map (λ i _. import_text i.name i.to) (λ i. after_extern i.to) shown_import_node c r os is.items)
 
 pub text_exports : (es : Vec Export) (c : ℕ) (r : IndexSpaces) (os : List ℕ)
-    → part_text (shown_part_node (node.Exports es)) c r os ≡ bytes (entries (λ e _. export_entry_text (shown_export e)) (λ e. after_function) c r os es.items)
+    → part_text (shown_part_node (node.Exports es)) c r os ≡ bytes (entry_lines (λ e _. export_entry_text (shown_export e)) (λ e. after_function) c r os es.items)
 text_exports es c r os = ap (λ p. part_text p c r os) (shown_exports es)
-    ∙ ap bytes (entries-map (λ e _. export_entry_text e) (λ e. after_function) shown_export c r os es.items)
+    ∙ ap bytes (entry_lines-map (λ e _. export_entry_text e) (λ e. after_function) shown_export c r os es.items)
 
 -- and the index spaces after them
 
@@ -213,7 +213,10 @@ pub count_module : (bs : Vec ℕ) → items_in (shown_part_node (node.CoreModule
 count_module bs = ap items_in (shown_module bs)
 
 pub count_component : (ns : Vec PartNode) → items_in (shown_part_node (node.Component ns)) ≡ 1 + items (held ns.items)
-count_component ns = ap items_in (shown_nested ns)
+count_component ns = ap items_in (shown_nested ns) ∙ one_more
+  where
+    one_more : suc (items (held ns.items)) ≡ 1 + items (held ns.items)
+    one_more = omega arith
 
 -- results
 

@@ -8,10 +8,10 @@ use Rattle.smith_tree.specs.Tree.{ExportEntry, Part, Tree, ends, first, custom, 
 use Rattle.smith_print.specs.declared.spaces.IndexSpaces.{IndexSpaces}
 use Rattle.smith_print.specs.CoreTypes.{after_core_type, after_memory, core_function_line, memory_line}
 use Rattle.smith_print.specs.Externs.{canon_text, import_text}
-use Rattle.smith_print.specs.Lines.{after_all, closed, entries, lines}
+use Rattle.smith_print.specs.Lines.{after_all, closed, entry_lines, lines}
 use Rattle.smith_print.specs.Spaces.{after_canon, after_extern, nothing}
 use Rattle.smith_print.specs.Types.{after_type, core_type_text, type_text}
-use Rattle.smith_print.specs.Words.{◌⧺◌, deeper, entry_line, quoted}
+use Rattle.smith_print.specs.Words.{◌⧺◌, deeper, item_line, quoted}
 
 -- An export of a component function, which is the next one (Explainer.md, export definitions).
 abbrev pub export_entry_text : ExportEntry → IndexSpaces → List ℕ
@@ -47,7 +47,7 @@ module_text m columns =
 
 -- the head of a core module under its index
 abbrev pub module_head_text : ℕ → IndexSpaces → List ℕ → List ℕ
-module_head_text columns s offsets = entry_line columns offsets ⧺ codes "(core module (;" ⧺ decimal s.modules ⧺ codes ";)"
+module_head_text columns s offsets = item_line columns offsets ⧺ codes "(core module (;" ⧺ decimal s.modules ⧺ codes ";)"
 
 -- A core module that has no others, under its index. Any other has no text.
 abbrev pub core_module_text : Option StandIn → ℕ → IndexSpaces → List ℕ → Piece
@@ -62,25 +62,25 @@ closing columns (Some contents) = bytes (closed columns contents)
 -- a custom section (core specification, Text Format, Custom Annotations)
 abbrev pub custom_text : List ℕ → List ℕ → ℕ → List ℕ → List ℕ
 custom_text name contents columns offsets =
-    entry_line columns offsets ⧺ codes "(@custom " ⧺ quoted name ⧺ codes " " ⧺ quoted contents ⧺ codes ")"
+    item_line columns offsets ⧺ codes "(@custom " ⧺ quoted name ⧺ codes " " ⧺ quoted contents ⧺ codes ")"
 
 -- the head of a component under its index
 abbrev pub head_text : ℕ → IndexSpaces → List ℕ → List ℕ
-head_text columns s offsets = entry_line columns offsets ⧺ codes "(component (;" ⧺ decimal s.components ⧺ codes ";)"
+head_text columns s offsets = item_line columns offsets ⧺ codes "(component (;" ⧺ decimal s.components ⧺ codes ";)"
 
 -- Sections, of which each item (`Items` of `smith_read`) stands behind the next of these offsets, if there are any.
 abbrev mutual
   pub part_text : Part → ℕ → IndexSpaces → List ℕ → Piece
   part_text (custom name contents) columns s offsets = bytes (custom_text name contents columns offsets)
   part_text (core_module bs) columns s offsets = core_module_text (stand_in_at bs) columns s offsets
-  part_text (core_types ts) columns s offsets = bytes (entries core_type_text (λ t. after_core_type) columns s offsets ts)
+  part_text (core_types ts) columns s offsets = bytes (entry_lines core_type_text (λ t. after_core_type) columns s offsets ts)
   part_text (component t) columns s offsets =
       bytes (head_text columns s offsets) ⊕ closing columns (parts_text t (deeper columns) nothing (drop 1 offsets))
-  part_text (types ts) columns s offsets = bytes (entries type_text (λ t. after_type) columns s offsets ts)
-  part_text (canons fs) columns s offsets = bytes (entries (λ f _. canon_text f) after_canon columns s offsets fs)
+  part_text (types ts) columns s offsets = bytes (entry_lines type_text (λ t. after_type) columns s offsets ts)
+  part_text (canons fs) columns s offsets = bytes (entry_lines (λ f _. canon_text f) after_canon columns s offsets fs)
   part_text (imports is) columns s offsets =
-      bytes (entries (λ i _. import_text i.name i.to) (λ i. after_extern i.to) columns s offsets is)
-  part_text (exports es) columns s offsets = bytes (entries (λ e _. export_entry_text e) (λ e. after_function) columns s offsets es)
+      bytes (entry_lines (λ i _. import_text i.name i.to) (λ i. after_extern i.to) columns s offsets is)
+  part_text (exports es) columns s offsets = bytes (entry_lines (λ e _. export_entry_text e) (λ e. after_function) columns s offsets es)
 
   -- sections one after another, with the index spaces after those before them
   pub parts_text : Tree → ℕ → IndexSpaces → List ℕ → Piece

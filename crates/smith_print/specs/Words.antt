@@ -25,9 +25,9 @@ abbrev pub line : ℕ → List ℕ
 line columns = 10 ∷ replicate columns 32
 
 -- a line's end, and the next line up to what stands behind the first of these offsets, as a comment (Lexical Format, Comments)
-abbrev pub entry_line : ℕ → List ℕ → List ℕ
-entry_line columns [] = line columns
-entry_line columns (offset ∷ offsets) = line columns ⧺ codes "(;@" ⧺ decimal offset ⧺ codes ";) "
+abbrev pub item_line : ℕ → List ℕ → List ℕ
+item_line columns [] = line columns
+item_line columns (offset ∷ offsets) = line columns ⧺ codes "(;@" ⧺ decimal offset ⧺ codes ";) "
 
 -- Contents are two columns further to the right, and at most 40.
 abbrev pub deeper : ℕ → ℕ

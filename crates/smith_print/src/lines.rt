@@ -2,10 +2,10 @@
 
 ghost use Rattle.std.specs.Prelude.{◌≡◌, ℕ, List, ◌++◌, drop, length, IfOk, String, string_bytes, string_len};
 ghost use Rattle.std.specs.declared.alloc.Global.{Global};
-ghost use Rattle.smith_print.specs.Lines.{after_all, closed, entries, lines};
+ghost use Rattle.smith_print.specs.Lines.{after_all, closed, entry_lines, lines};
 ghost use Rattle.smith_print.specs.declared.spaces.IndexSpaces.{IndexSpaces};
 ghost use Rattle.smith_print.specs.Printing.{Prints};
-ghost use Rattle.smith_print.specs.Words.{entry_line};
+ghost use Rattle.smith_print.specs.Words.{item_line};
 
 use crate::spaces::IndexSpaces;
 use crate::words::print_line;
@@ -23,7 +23,7 @@ pub(crate) fn begin_entry(
     columns: usize,
     offsets: &mut Offsets<'_>,
 ) -> Result<(), AllocError>
-    ensures printed { Prints result out.old out.new (entry_line columns offsets.old.left.now) }
+    ensures printed { Prints result out.old out.new (item_line columns offsets.old.left.now) }
     ensures passed { IfOk result (λ _. offsets.new.left.now ≡ drop 1 offsets.old.left.now) }
 {
     print_line(out, columns)?;
@@ -60,7 +60,7 @@ pub(crate) fn print_entries<T: Line>(
     entries: &[T],
 ) -> Result<(), AllocError>
     ensures printed { Prints result out.old out.new
-        (entries T.text T.after columns spaces.old offsets.old.left.now entries.now) }
+        (entry_lines T.text T.after columns spaces.old offsets.old.left.now entries.now) }
     ensures indexes { IfOk result (λ _. spaces.new ≡ after_all T.after spaces.old entries.now) }
     ensures passed { IfOk result (λ _. offsets.new.left.now ≡ drop (length entries.now) offsets.old.left.now) }
 {

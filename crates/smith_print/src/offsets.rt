@@ -14,7 +14,7 @@ use std::alloc::{AllocError, Global};
 
 // Adds the offset of what is next, if these bytes are from there to the end.
 fn place(offsets: &mut Vec<usize>, total: usize, bytes: &[u8]) -> Result<(), AllocError>
-    ensures { IfOk result (λ _. offsets.new.items ≡ offsets.old.items ++ total - length bytes.now ∷ []) }
+    ensures { IfOk result (λ _. offsets.new.items ≡ offsets.old.items ++ (total - length bytes.now) ∷ []) }
 {
     offsets.push(total.saturating_sub(bytes.len()))?;
     Ok(())

@@ -6,7 +6,7 @@ ghost use Rattle.smith_print.specs.Components.{core_module_text, custom_text, ex
 ghost use Rattle.smith_print.specs.Components.{module_head_text, part_text};
 ghost use Rattle.smith_print.specs.Components.{parts_text, text_of, text_with};
 ghost use Rattle.smith_print.specs.Externs.{canon_text, import_text};
-ghost use Rattle.smith_print.specs.Lines.{after_all, entries};
+ghost use Rattle.smith_print.specs.Lines.{after_all, entry_lines};
 ghost use Rattle.smith_print.specs.Printing.{Prints, PrintsPiece};
 ghost use Rattle.smith_format.specs.Piece.{bytes};
 ghost use Rattle.smith_print.specs.Spaces.{after_canon, after_extern, nothing};
@@ -141,7 +141,7 @@ fn print_list<T: Line>(
     entries: &[T],
 ) -> Result<(), PrintError>
     ensures printed { PrintsPiece result out.old out.new
-        (bytes (entries T.text T.after columns spaces.old offsets.old.left.now entries.now)) }
+        (bytes (entry_lines T.text T.after columns spaces.old offsets.old.left.now entries.now)) }
     ensures indexes { IfOk result (λ _. spaces.new ≡ after_all T.after spaces.old entries.now) }
     ensures passed { IfOk result (λ _. offsets.new.left.now ≡ drop (length entries.now) offsets.old.left.now) }
 {

@@ -1,7 +1,7 @@
 //! Entries of sections in the bytes of a component, passed one after another: their nodes have no offsets.
 
-ghost use Rattle.std.specs.Prelude.{◌≡◌, ℕ, Bool, List, length, map};
-ghost use Rattle.smith_format.specs.Piece.{Piece, ◌⊕◌, bytes, u};
+ghost use Rattle.std.specs.Prelude.{◌≡◌, ℕ, Bool, List, Some, length, map};
+ghost use Rattle.smith_format.specs.Piece.{Piece, ◌⊕◌, u};
 ghost use Rattle.smith_format.specs.Writing.{piece_length};
 ghost use Rattle.smith_syntax.specs.Entries.{in_order};
 ghost use Rattle.smith_syntax.specs.Grammar.{core_entry, decl, decls, defvaltype, entry, functype, import_entry};
@@ -62,7 +62,7 @@ fn pass_function<'a>(alloc: Global, ty: &FuncType, bytes: &'a [u8]) -> Result<&'
 // What follows an outer alias, which begins with so many bytes that say what it is of.
 fn pass_outer(bytes: &[u8], head: usize) -> Result<&[u8], Unread>
     ensures { (front : List ℕ) (count index : ℕ) → head ≡ length front
-        → Passes result bytes.now (bytes front ⊕ u count ⊕ u index) }
+        → Passes result bytes.now (Some front ⊕ u count ⊕ u index) }
 {
     let rest = pass_bytes(bytes, head)?;
     let (_count, rest) = count_of(rest)?;
