@@ -1,4 +1,5 @@
 -- Lemmas about printers.
+pub mod Following
 pub mod Listed
 pub mod Printing
 pub mod Sections

@@ -1,10 +1,9 @@
 //! Entries of sections in the bytes of a component, passed one after another: their nodes have no offsets.
 
-ghost use Rattle.std.specs.Prelude.{◌≡◌, ℕ, Bool, List, Some, length, map};
-ghost use Rattle.smith_format.specs.Piece.{Piece, ◌⊕◌, u};
+ghost use Rattle.std.specs.Prelude.{◌≡◌, ℕ, Bool, List, Some, length};
+ghost use Rattle.smith_format.specs.Piece.{Piece, ◌⊕◌, byte, many, u};
 ghost use Rattle.smith_format.specs.Writing.{piece_length};
-ghost use Rattle.smith_syntax.specs.Entries.{in_order};
-ghost use Rattle.smith_syntax.specs.Grammar.{core_entry, decl, decls, defvaltype, entry, functype, import_entry};
+ghost use Rattle.smith_syntax.specs.Grammar.{core_entry, decl, defvaltype, entry, functype, import_entry};
 ghost use Rattle.smith_syntax.specs.Shown.{shown_defined};
 ghost use Rattle.smith_tree.specs.Grammar.{canon, export_entry};
 ghost use Rattle.smith_tree.specs.Shown.{shown_canon, shown_export};
@@ -28,7 +27,8 @@ pub(crate) fn pass_bytes(bytes: &[u8], count: usize) -> Result<&[u8], Unread>
     if bytes.len() < count {
         return Err(malformed(bytes, Reason::Ends));
     }
-    Ok(&bytes[count..])
+    let (_front, rest) = bytes.split_at(count);
+    Ok(rest)
 }
 
 // What follows something that is read in one way.
@@ -70,30 +70,40 @@ fn pass_outer(bytes: &[u8], head: usize) -> Result<&[u8], Unread>
     Ok(rest)
 }
 
+// What follows a byte, and then something that is read in one way.
+fn pass_behind<T: Readable>(alloc: Global, bytes: &[u8]) -> Result<&[u8], Unread>
+    ensures { (tag : ℕ) (piece : T.Shown → Piece) (x : T.Shown) → Tells piece T.reading
+        → Passes result bytes.now (byte tag ⊕ piece x) }
+{
+    let rest = pass_bytes(bytes, 1)?;
+    pass_read::<T>(alloc, rest)
+}
+
 #[cycle(passing)]
 fn pass_decl<'a>(alloc: Global, node: &DeclNode, bytes: &'a [u8]) -> Result<&'a [u8], Unread>
     ensures { (importing : Bool) → Passes result bytes.now (decl importing (shown_decl_node node.now)) }
 {
     match node {
-        DeclNode::TypeAlias { .. } => return pass_outer(bytes, 3),
-        DeclNode::CoreTypeAlias { .. } => return pass_outer(bytes, 4),
-        _ => {}
-    }
-    let rest = pass_bytes(bytes, 1)?;
-    match node {
-        DeclNode::Core(_) => pass_read::<CoreNode>(alloc, rest),
-        DeclNode::Type(ty) => pass_type(alloc, ty, rest),
-        _ => pass_read::<ImportNode>(alloc, rest),
+        DeclNode::Core(_) => pass_behind::<CoreNode>(alloc, bytes),
+        DeclNode::Type(ty) => {
+            let rest = pass_bytes(bytes, 1)?;
+            pass_type(alloc, ty, rest)
+        }
+        DeclNode::TypeAlias { .. } => pass_outer(bytes, 3),
+        DeclNode::CoreTypeAlias { .. } => pass_outer(bytes, 4),
+        DeclNode::Import { .. } => pass_behind::<ImportNode>(alloc, bytes),
+        DeclNode::Export { .. } => pass_behind::<ImportNode>(alloc, bytes),
     }
 }
 
-// What follows the declarations of a type, which are behind their count.
+// What follows a component type or an instance type.
 #[cycle(passing)]
 fn pass_decls<'a>(alloc: Global, nodes: &[DeclNode], bytes: &'a [u8]) -> Result<&'a [u8], Unread>
-    ensures { (importing : Bool) → Passes result bytes.now
-        (u (length nodes.now) ⊕ decls importing (in_order (map shown_decl_node nodes.now))) }
+    ensures { (tag : ℕ) (importing : Bool) → Passes result bytes.now
+        (byte tag ⊕ many (λ d. decl importing (shown_decl_node d)) nodes.now) }
 {
-    let (_count, first) = count_of(bytes)?;
+    let counted = pass_bytes(bytes, 1)?;
+    let (_count, first) = count_of(counted)?;
     let mut rest = first;
     for node in nodes {
         rest = pass_decl(alloc, node, rest)?;
@@ -108,10 +118,8 @@ fn pass_type<'a>(alloc: Global, node: &TypeNode, bytes: &'a [u8]) -> Result<&'a 
     match node {
         TypeNode::Defined(ty) => pass_defined(alloc, ty, bytes),
         TypeNode::Func(ty) => pass_function(alloc, ty, bytes),
-        TypeNode::Component(decls) | TypeNode::Instance(decls) => {
-            let rest = pass_bytes(bytes, 1)?;
-            pass_decls(alloc, decls, rest)
-        }
+        TypeNode::Component(decls) => pass_decls(alloc, decls, bytes),
+        TypeNode::Instance(decls) => pass_decls(alloc, decls, bytes),
     }
 }
 
