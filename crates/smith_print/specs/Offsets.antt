@@ -38,5 +38,5 @@ abbrev mutual
   contents_at offset (imports is) = many_at import_entry offset is
   contents_at offset (exports es) = many_at export_entry offset es
 
-abbrev pub offsets : Tree → List ℕ
-offsets t = parts_at (length preamble) t
+abbrev pub offsets_of : Tree → List ℕ
+offsets_of t = parts_at (length preamble) t

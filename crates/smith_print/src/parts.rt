@@ -7,6 +7,7 @@ ghost use Rattle.smith_print.specs.Components.{module_head_text, part_text};
 ghost use Rattle.smith_print.specs.Components.{parts_text, text_of, text_with};
 ghost use Rattle.smith_print.specs.Externs.{canon_text, import_text};
 ghost use Rattle.smith_print.specs.Lines.{after_all, entry_lines};
+ghost use Rattle.smith_print.specs.Offsets.{offsets_of};
 ghost use Rattle.smith_print.specs.Printing.{Prints, PrintsPiece};
 ghost use Rattle.smith_format.specs.Piece.{bytes};
 ghost use Rattle.smith_print.specs.Spaces.{after_canon, after_extern, nothing};
@@ -15,6 +16,7 @@ ghost use Rattle.smith_print.specs.declared.error.PrintError.TheVariants.{OtherC
 ghost use Rattle.smith_read.specs.Items.{items, items_in};
 ghost use Rattle.smith_read.specs.ModuleSections.{stand_in_at};
 ghost use Rattle.smith_read.specs.PartNodes.{shown_import_node, shown_part_node, shown_tree};
+ghost use Rattle.smith_tree.specs.Grammar.{Spells};
 ghost use Rattle.smith_tree.specs.Shown.{shown_canon, shown_export};
 ghost use Rattle.smith_tree.specs.Tree.{tree_of};
 
@@ -256,7 +258,12 @@ pub fn print_with_offsets(
     alloc: Global,
     component: &ComponentTree,
     bytes: &[u8],
-) -> Result<String, PrintError> {
+) -> Result<String, PrintError>
+    ensures printed { Spells (shown_tree component.now) bytes.now → IfOk result (λ text.
+        text_with (offsets_of (shown_tree component.now)) (shown_tree component.now) ≡ Some (string_bytes text)) }
+    ensures refused { Spells (shown_tree component.now) bytes.now → IfErr result (λ e. e ≡ OtherCoreModule
+        → text_with (offsets_of (shown_tree component.now)) (shown_tree component.now) ≡ None) }
+{
     match offsets_of(alloc, component, bytes) {
         Ok(offsets) => print_with(alloc, component, &offsets),
         Err(_) => Err(PrintError::OutOfMemory),
