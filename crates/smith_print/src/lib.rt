@@ -4,6 +4,7 @@
 mod core_types;
 mod error;
 mod externs;
+pub mod laws;
 mod lines;
 mod members;
 mod modules;
