@@ -1,11 +1,11 @@
 -- Words of the text format that are told apart.
-use Rattle.std.proofs.Common.{◌≡◌, ℕ, suc, ◌+◌, ◌-◌, ◌*◌, ◌/◌, ◌%◌, ◌<◌, ◌≤◌, List, [], ◌∷◌, ◌++◌, drop, get_or, refl, ap, sym, subst, ◌∙◌, append_assoc, arith}
+use Rattle.std.proofs.Common.{◌≡◌, ℕ, ◌+◌, ◌-◌, ◌*◌, ◌/◌, ◌%◌, ◌<◌, ◌≤◌, List, [], ◌∷◌, ◌++◌, drop, get_or, refl, ap, sym, subst, ◌∙◌, append_assoc, arith}
 use Rattle.std.proofs.Common.{Bool, true, false, cond, eqb, nat_lt}
 use Rattle.std.proofs.lemmas.Bool.{eqb-true, le-ltb, lt-ltb, ltb-false, ltb-true}
 use Rattle.std.proofs.lemmas.Fmt.{hex_one_digit}
-use Rattle.std.specs.Fmt.{digit_glyph, digits}
+use Rattle.std.specs.Fmt.{digit_glyph}
 use Rattle.std.specs.List.{AllByRecursion, flat_map}
-use Rattle.std.specs.Prelude.{codes, nat_eq, if◌then◌else◌, ◌==◌}
+use Rattle.std.specs.Prelude.{codes, if◌then◌else◌, ◌==◌}
 use Rattle.smith_syntax.specs.declared.types.PrimitiveValType.{PrimitiveValType}
 use Rattle.smith_syntax.specs.declared.types.PrimitiveValType.TheVariants as prim
 use Rattle.smith_print.specs.Values.{primitive_text}

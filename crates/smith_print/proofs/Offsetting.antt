@@ -9,7 +9,7 @@ use Rattle.smith_format.specs.Piece.{Piece, ◌⊕◌, bytes, each, many, u}
 use Rattle.smith_format.specs.Writing.{piece_length}
 use Rattle.smith_format.proofs.Piece.{parts_are}
 use Rattle.smith_syntax.specs.Grammar.{core_entry, entry, import_entry}
-use Rattle.smith_tree.specs.Grammar.{Spells, canon, component_text, export_entry, part, parts, preamble}
+use Rattle.smith_tree.specs.Grammar.{Spells, canon, export_entry, part, parts, preamble}
 use Rattle.smith_tree.specs.Tree.{Part, Tree, canons, component, core_module, core_types, custom, ends, exports, first, imports, types}
 use Rattle.smith_read.specs.Items.{items, items_in}
 use Rattle.smith_read.specs.Places.{contents_in, front, front_in, id_of, list_before, offset_in, opened, sole_before}

@@ -1,5 +1,5 @@
 -- Offsets that are added one after another.
-use Rattle.std.proofs.Common.{◌≡◌, ℕ, ◌+◌, ◌-◌, ◌<◌, ◌≤◌, List, [], ◌∷◌, ◌++◌, length, map, drop, get_or, Some, None, Result, Ok, Err, refl, ap, sym, ◌∙◌}
+use Rattle.std.proofs.Common.{◌≡◌, ℕ, ◌+◌, ◌-◌, ◌<◌, ◌≤◌, List, [], ◌∷◌, ◌++◌, length, map, drop, get_or, Some, Result, Ok, Err, refl, ap, sym, ◌∙◌}
 use Rattle.std.proofs.Common.{append_assoc, append-nil, arith, subst}
 use Rattle.std.proofs.lemmas.List.{length-append, length-map}
 use Rattle.std.proofs.lemmas.Option.{same_Some}
@@ -11,7 +11,7 @@ use Rattle.smith_format.specs.Writing.{piece_length}
 use Rattle.smith_format.proofs.Many.{many-map}
 use Rattle.smith_format.proofs.Piece.{joined, left_nil, parts_are}
 use Rattle.smith_tree.specs.Grammar.{component_text, part, parts, preamble}
-use Rattle.smith_tree.specs.Tree.{Part, Tree, component, tree_of}
+use Rattle.smith_tree.specs.Tree.{Part}
 use Rattle.smith_read.specs.PartNodes.{shown_part_node}
 use Rattle.smith_read.specs.Places.{contents_in, id_of}
 use Rattle.smith_read.specs.Reading.{byte_at, u_at}

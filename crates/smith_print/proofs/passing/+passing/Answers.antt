@@ -1,13 +1,13 @@
 use Rattle.std.proofs.Common.{false, length, Ok, refl, true}
 use Rattle.std.specs.Prelude.{string_bytes}
-use Rattle.smith_format.specs.Piece.{◌⊕◌, byte, each, many, u}
+use Rattle.smith_format.specs.Piece.{byte, each, many, u}
 use Rattle.smith_syntax.specs.Grammar.{core_entry, decl, entry, import_entry}
 use Rattle.smith_read.specs.Nodes.{shown_core_node}
 use Rattle.smith_read.specs.PartNodes.{import_of}
 use Rattle.smith_read.specs.Reading.{u_at}
 use Rattle.smith_read.specs.TypeNodes.{shown_decl_node, shown_type_node}
 use Rattle.smith_read.specs.declared.type_nodes.DeclNode.{DeclNode}
-use Rattle.smith_read.proofs.ShownNodes.{shown_alias, shown_core, shown_core_alias, shown_export, shown_import}
+use Rattle.smith_read.proofs.ShownNodes.{shown_core, shown_export, shown_import}
 use Rattle.smith_read.proofs.Telling.{tells_u}
 use Rattle.smith_read.proofs.TellingCore.{tells_core_entry}
 use Rattle.smith_read.proofs.TellingParts.{tells_import}

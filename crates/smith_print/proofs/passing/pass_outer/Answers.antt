@@ -1,4 +1,4 @@
-use Rattle.std.proofs.Common.{Some, Ok, refl}
+use Rattle.std.proofs.Common.{Some, Ok}
 use Rattle.smith_format.specs.Piece.{◌⊕◌, u}
 use Rattle.smith_read.proofs.Telling.{tells_u}
 use Rattle.smith_read.specs.Reading.{u_at}
