@@ -20,6 +20,14 @@ static void print_bytes(const uint8_t *bytes, size_t len) {
     fputc('\n', stderr);
 }
 
+/* Bytes that are no component have no text. */
+static void print_text(const uint8_t *bytes, size_t len) {
+    static uint8_t text[32 * MOST_BYTES];
+    size_t text_len;
+    if (lupinanon_print(bytes, len, text, sizeof text, &text_len) == LUPINANON_ANSWERED)
+        fwrite(text, 1, text_len, stderr);
+}
+
 static void judge(const uint8_t *bytes, size_t len) {
     size_t rule, offset;
     int32_t status = lupinanon_validate_in(bytes, len, &rule, &offset, scratch, sizeof scratch);
@@ -31,6 +39,7 @@ static void judge(const uint8_t *bytes, size_t len) {
         fprintf(stderr, "the validator accepts what is invalid: %s at offset %zu:\n", lupinanon_rule_text(rule),
                 offset);
     print_bytes(bytes, len);
+    print_text(bytes, len);
     abort();
 }
 

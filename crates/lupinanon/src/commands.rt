@@ -182,9 +182,11 @@ fn show_command<'a>(alloc: Global) -> Result<Command<'a>, AllocError> {
 fn print_command<'a>(alloc: Global) -> Result<Command<'a>, AllocError> {
     let about = "Write a component as text in the text format, which other tools read";
     let to = "Where the text goes; - is standard output [default: -]";
+    let offsets = "Write the offset of each entry of a section as a comment before it";
     plain(alloc, "print", about, AFTER_PRINT)
         .arg(component(alloc))?
-        .arg(output(alloc, to))
+        .arg(output(alloc, to))?
+        .arg(switch(alloc, "offsets", offsets))
 }
 
 fn script_command<'a>(alloc: Global) -> Result<Command<'a>, AllocError> {

@@ -5,7 +5,7 @@ use crate::places::{STANDARD_INPUT, Source, print_fault, source_of, status_of_pr
 use crate::scripting::write_bytes;
 use crate::show::Shown;
 use smith_core::CORE_PREAMBLE;
-use smith_print::print as text_of;
+use smith_print::{print as text_of, print_with_offsets};
 use smith_read::read;
 use smith_verdict::{Answer, Outside, Verdict, answer, check as check_bytes};
 use std::fmt;
@@ -148,18 +148,24 @@ pub fn show(rt: &HostRuntime, path: Option<&str>) -> Result<ExitCode, ExitCode> 
     }
 }
 
-/// Writes the component in the file as text to a file, or to standard output if there is none.
+/// Writes the component in the file as text, with offsets or without, to a file, or to standard output if there is none.
 pub fn print(
     rt: &HostRuntime,
     path: Option<&str>,
     output: Option<&str>,
+    with_offsets: bool,
 ) -> Result<ExitCode, ExitCode> {
     let bytes = bytes_in(rt, path)?;
     let component = match read(rt.alloc(), &bytes) {
         Ok(component) => component,
         Err(error) => return Err(refuse_unread(rt, path, &bytes, &error, REFUSED)),
     };
-    match text_of(rt.alloc(), &component) {
+    let text = if with_offsets {
+        print_with_offsets(rt.alloc(), &component, &bytes)
+    } else {
+        text_of(rt.alloc(), &component)
+    };
+    match text {
         Ok(text) => write_bytes(rt, output, text.as_bytes()),
         Err(error) => Err(refuse(rt, path, &error, REFUSED)),
     }

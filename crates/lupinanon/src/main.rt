@@ -54,7 +54,13 @@ fn run(rt: &HostRuntime) -> Result<ExitCode, ExitCode> {
         Ok(Task::Check(path, false)) => inspecting::check(rt, path),
         Ok(Task::Check(path, true)) => inspecting::validate(rt, path),
         Ok(Task::Show(path)) => inspecting::show(rt, path),
-        Ok(Task::Print { input, output }) => inspecting::print(rt, input, output),
+        Ok(
+            Task::Print {
+                input,
+                output,
+                with_offsets,
+            },
+        ) => inspecting::print(rt, input, output, with_offsets),
         Ok(Task::Script(options)) => scripting::script(rt, &options),
         Ok(Task::Smaller(options, choice)) => reducing::reduce(rt, &options, choice),
         Ok(Task::Change(change)) => changing::change(rt, &change),

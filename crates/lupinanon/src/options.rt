@@ -22,6 +22,8 @@ pub enum Task<'a> {
     Print {
         input: Option<&'a str>,
         output: Option<&'a str>,
+        /// Whether it has the offset of each entry.
+        with_offsets: bool,
     },
     /// Write the script of the component in a file.
     Script(Options<'a>),
@@ -257,6 +259,7 @@ pub fn task_of<'a, S: AsStr>(alloc: Global, words: &'a [S]) -> Result<Task<'a>, 
         "print" => Task::Print {
             input: file(found, "input"),
             output: file(found, "output"),
+            with_offsets: found.get_flag("offsets"),
         },
         "script" => Task::Script(options_of(alloc, found)?),
         "smaller" => Task::Smaller(options_of(alloc, found)?, choice_of(found)),

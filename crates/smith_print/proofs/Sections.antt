@@ -1,6 +1,7 @@
 -- Loops that print the sections of a component.
-use Rattle.std.proofs.Common.{◌≡◌, ℕ, ◌+◌, ◌<◌, ◌≤◌, List, [], ◌++◌, length, map, drop, get_or, refl, ap, sym, subst, ◌∙◌, Some, None, Result, Ok, Err}
+use Rattle.std.proofs.Common.{◌≡◌, ℕ, ◌+◌, ◌<◌, ◌≤◌, List, [], ◌++◌, length, map, drop, get_or, refl, ap, sym, subst, ◌∙◌, Some, None, Result, Ok, Err, suc, arith}
 use Rattle.std.proofs.Common.{IsErrAnd, IfErr}
+use Rattle.std.proofs.lemmas.List.{drop-drop, length-map}
 use Rattle.smith_input.proofs.Rests.{drop_past, rest_at}
 use Rattle.std.specs.Prelude.{String, string_bytes}
 use Rattle.std.specs.declared.alloc.Global.{Global}
@@ -9,17 +10,18 @@ use Rattle.smith_format.proofs.Piece.{assoc, joined, left_nil, left_none, right_
 use Rattle.smith_print.specs.declared.error.PrintError.{PrintError}
 use Rattle.smith_print.specs.declared.error.PrintError.TheVariants.{OtherCoreModule}
 use Rattle.smith_print.specs.declared.spaces.IndexSpaces.{IndexSpaces}
-use Rattle.smith_print.proofs.Listed.{after_all-map, lines-map}
+use Rattle.smith_print.proofs.Listed.{after_all-map, entry_lines-map}
 use Rattle.smith_print.specs.Components.{after_function, after_part, closing, core_module_text, custom_text, export_entry_text, head_text, part_text}
 use Rattle.smith_print.specs.Components.{parts_text}
 use Rattle.smith_print.specs.CoreTypes.{after_core_type}
 use Rattle.smith_print.specs.Externs.{canon_text, import_text}
-use Rattle.smith_print.specs.Lines.{after_all, closed, lines}
+use Rattle.smith_print.specs.Lines.{after_all, closed, entry_lines}
 use Rattle.smith_print.specs.Spaces.{after_canon, after_extern, nothing}
 use Rattle.smith_print.specs.Types.{after_type, core_type_text, type_text}
 use Rattle.smith_print.specs.Words.{deeper}
 use Rattle.std.specs.Global.{Vec}
 use Rattle.smith_read.proofs.PartNodes.{shown_canons, shown_core_types, shown_custom, shown_exports, shown_imports, shown_module, shown_nested, shown_types}
+use Rattle.smith_read.specs.Items.{items, items_in}
 use Rattle.smith_read.specs.ModuleSections.{stand_in_at}
 use Rattle.smith_read.specs.Nodes.{shown_core_node}
 use Rattle.smith_read.specs.TypeNodes.{shown_type_node}
@@ -34,7 +36,7 @@ use Rattle.smith_tree.specs.declared.entries.Func.{Func}
 use Rattle.smith_print.specs.Printing.{Adds, IsRefused, PrintsPiece}
 use Rattle.smith_read.specs.PartNodes.{shown_import_node, shown_part_node}
 use Rattle.smith_read.specs.declared.nodes.PartNode.{PartNode}
-use Rattle.smith_tree.specs.Tree.{tree_of}
+use Rattle.smith_tree.specs.Tree.{Tree, tree_of}
 
 -- some text was added
 pub adds_text : {old new : String Global} {text : List ℕ} → string_bytes new ≡ string_bytes old ++ text → Adds old new (bytes text)
@@ -50,50 +52,67 @@ refused_not n = record { is = λ h. absurd (n h) }
 pub refused_behind : {e : PrintError} {q : Piece} (p : Piece) → IsRefused e q → IsRefused e (p ⊕ q)
 refused_behind p r = record { is = λ h. ap (λ x. p ⊕ x) (r.is h) ∙ right_none p }
 
--- sections from the first on
-abbrev pub sections : List PartNode → ℕ → IndexSpaces → Piece
-sections ns c s = parts_text (tree_of (map shown_part_node ns)) c s
+-- the tree of some sections, and what they are with these offsets
+
+abbrev pub held : List PartNode → Tree
+held ns = tree_of (map shown_part_node ns)
+
+abbrev pub sections : List PartNode → ℕ → IndexSpaces → List ℕ → Piece
+sections ns c s os = parts_text (held ns) c s os
 
 -- What was printed, and then the sections from i on, is what was there and then all sections.
-pub record Going (ns : List PartNode) (c : ℕ) (i : ℕ) (old new : String Global) (s r : IndexSpaces) : Type 0 where
-  pub is : Some (string_bytes new) ⊕ sections (drop i ns) c r ≡ Some (string_bytes old) ⊕ sections ns c s
+pub record Going (ns : List PartNode) (c : ℕ) (i : ℕ) (old new : String Global) (s r : IndexSpaces) (os ps : List ℕ) : Type 0 where
+  pub is : Some (string_bytes new) ⊕ sections (drop i ns) c r ps ≡ Some (string_bytes old) ⊕ sections ns c s os
+  pub passed : drop (items (held (drop i ns))) ps ≡ drop (items (held ns)) os
 
-pub going_first : (ns : List PartNode) (c : ℕ) (old : String Global) (s : IndexSpaces) → Going ns c 0 old old s s
-going_first ns c old s = record { is = refl }
+pub going_first : (ns : List PartNode) (c : ℕ) (old : String Global) (s : IndexSpaces) (os : List ℕ) → Going ns c 0 old old s s os os
+going_first ns c old s os = record { is = refl; passed = refl }
 
-front : (ns : List PartNode) (c : ℕ) (i : ℕ) (n : PartNode) (r : IndexSpaces) → i < length ns → n ≡ get_or ns i n
-    → sections (drop i ns) c r ≡ part_text (shown_part_node n) c r ⊕ sections (drop (i + 1) ns) c (after_part (shown_part_node n) r)
-front ns c i n r low at = ap (λ ms. sections ms c r) (rest_at ns i n low at)
+front : (ns : List PartNode) (c : ℕ) (i : ℕ) (n : PartNode) (r : IndexSpaces) (ps : List ℕ) → i < length ns → n ≡ get_or ns i n
+    → sections (drop i ns) c r ps
+    ≡ part_text (shown_part_node n) c r ps ⊕ sections (drop (i + 1) ns) c (after_part (shown_part_node n) r) (drop (items_in (shown_part_node n)) ps)
+front ns c i n r ps low at = ap (λ ms. sections ms c r ps) (rest_at ns i n low at)
 
-pub going_next : (ns : List PartNode) (c : ℕ) (i : ℕ) (n : PartNode) (old a b : String Global) (s r t : IndexSpaces) → Going ns c i old a s r
-    → i < length ns → n ≡ get_or ns i n → Adds a b (part_text (shown_part_node n) c r) → t ≡ after_part (shown_part_node n) r → Going ns c (i + 1) old b s t
-going_next ns c i n old a b s r t h low at adds after =
+pub going_next : (ns : List PartNode) (c : ℕ) (i : ℕ) (n : PartNode) (old a b : String Global) (s r t : IndexSpaces) (os ps qs : List ℕ)
+    → Going ns c i old a s r os ps → i < length ns → n ≡ get_or ns i n → Adds a b (part_text (shown_part_node n) c r ps)
+    → t ≡ after_part (shown_part_node n) r → qs ≡ drop (items_in (shown_part_node n)) ps → Going ns c (i + 1) old b s t os qs
+going_next ns c i n old a b s r t os ps qs h low at adds after past =
+    let rest = drop (i + 1) ns in
+    let p = shown_part_node n in
+    let next = sections rest c (after_part p r) (drop (items_in p) ps) in
     record {
-      is = ap (λ q. Some (string_bytes b) ⊕ sections (drop (i + 1) ns) c q) after
-          ∙ ap (λ p. p ⊕ sections (drop (i + 1) ns) c (after_part (shown_part_node n) r)) adds.is
-          ∙ assoc (Some (string_bytes a)) (part_text (shown_part_node n) c r) (sections (drop (i + 1) ns) c (after_part (shown_part_node n) r))
-          ∙ ap (λ p. Some (string_bytes a) ⊕ p) (sym (front ns c i n r low at)) ∙ h.is;
+      is = ap (λ q. Some (string_bytes b) ⊕ sections rest c q qs) after ∙ ap (λ q. Some (string_bytes b) ⊕ sections rest c (after_part p r) q) past
+          ∙ ap (λ q. q ⊕ next) adds.is ∙ assoc (Some (string_bytes a)) (part_text p c r ps) next
+          ∙ ap (λ q. Some (string_bytes a) ⊕ q) (sym (front ns c i n r ps low at)) ∙ h.is;
+      passed = ap (drop (items (held rest))) past ∙ drop-drop (items (held rest)) (items_in p) ps
+          ∙ sym (ap (λ ms. drop (items (held ms)) ps) (rest_at ns i n low at)) ∙ h.passed;
     }
 
-pub going_done : (ns : List PartNode) (c : ℕ) (i : ℕ) (old new : String Global) (s r : IndexSpaces) → Going ns c i old new s r → length ns ≤ i
-    → Adds old new (sections ns c s)
-going_done ns c i old new s r h e =
-    record { is = sym (right_nil (Some (string_bytes new))) ∙ ap (λ ms. Some (string_bytes new) ⊕ sections ms c r) (sym (drop_past ns i e)) ∙ h.is }
+pub going_done : (ns : List PartNode) (c : ℕ) (i : ℕ) (old new : String Global) (s r : IndexSpaces) (os ps : List ℕ) → Going ns c i old new s r os ps
+    → length ns ≤ i → Adds old new (sections ns c s os)
+going_done ns c i old new s r os ps h e = record {
+  is = sym (right_nil (Some (string_bytes new))) ∙ ap (λ ms. Some (string_bytes new) ⊕ sections ms c r ps) (sym (drop_past ns i e)) ∙ h.is;
+}
+
+pub going_passed : (ns : List PartNode) (c : ℕ) (i : ℕ) (old new : String Global) (s r : IndexSpaces) (os ps : List ℕ) → Going ns c i old new s r os ps
+    → length ns ≤ i → ps ≡ drop (items (held ns)) os
+going_passed ns c i old new s r os ps h e = ap (λ ms. drop (items (held ms)) ps) (sym (drop_past ns i e)) ∙ h.passed
 
 none_behind : (a : List ℕ) (p : Piece) → None ≡ Some a ⊕ p → p ≡ None
 unfolding ◌⊕◌
 none_behind a None e = refl
 none_behind a (Some b) e = cc
 
-pub going_refused : (ns : List PartNode) (c : ℕ) (i : ℕ) (n : PartNode) (e : PrintError) (old a : String Global) (s r : IndexSpaces) → Going ns c i old a s r
-    → i < length ns → n ≡ get_or ns i n → IsRefused e (part_text (shown_part_node n) c r) → IsRefused e (sections ns c s)
-going_refused ns c i n e old a s r h low at refused =
+pub going_refused : (ns : List PartNode) (c : ℕ) (i : ℕ) (n : PartNode) (e : PrintError) (old a : String Global) (s r : IndexSpaces) (os ps : List ℕ)
+    → Going ns c i old a s r os ps → i < length ns → n ≡ get_or ns i n → IsRefused e (part_text (shown_part_node n) c r ps)
+    → IsRefused e (sections ns c s os)
+going_refused ns c i n e old a s r os ps h low at refused =
+    let next = sections (drop (i + 1) ns) c (after_part (shown_part_node n) r) (drop (items_in (shown_part_node n)) ps) in
     record {
-      is = λ other. none_behind (string_bytes old) (sections ns c s)
+      is = λ other. none_behind (string_bytes old) (sections ns c s os)
           (sym (right_none (Some (string_bytes a)))
           ∙ ap (λ p. Some (string_bytes a) ⊕ p)
-          (sym (front ns c i n r low at ∙ ap (λ p. p ⊕ sections (drop (i + 1) ns) c (after_part (shown_part_node n) r)) (refused.is other)
-          ∙ left_none (sections (drop (i + 1) ns) c (after_part (shown_part_node n) r)))) ∙ h.is);
+          (sym (front ns c i n r ps low at ∙ ap (λ p. p ⊕ next) (refused.is other) ∙ left_none next)) ∙ h.is);
     }
 
 -- contents that were printed, and their end
@@ -119,39 +138,39 @@ closing_refused c r = record { is = λ h. ap (closing c) (r.is h) }
 
 -- sections by the nodes that show them
 
-pub text_custom : (n : CustomSection) (c : ℕ) (r : IndexSpaces)
-    → part_text (shown_part_node (node.Custom n)) c r ≡ bytes (custom_text (string_bytes n.name) n.bytes.items c)
-text_custom n c r = ap (λ p. part_text p c r) (shown_custom n)
+pub text_custom : (n : CustomSection) (c : ℕ) (r : IndexSpaces) (os : List ℕ)
+    → part_text (shown_part_node (node.Custom n)) c r os ≡ bytes (custom_text (string_bytes n.name) n.bytes.items c os)
+text_custom n c r os = ap (λ p. part_text p c r os) (shown_custom n)
 
-pub text_module : (bs : Vec ℕ) (c : ℕ) (r : IndexSpaces) → part_text (shown_part_node (node.CoreModule bs)) c r ≡ core_module_text (stand_in_at bs.items) c r
-text_module bs c r = ap (λ p. part_text p c r) (shown_module bs)
+pub text_module : (bs : Vec ℕ) (c : ℕ) (r : IndexSpaces) (os : List ℕ) → part_text (shown_part_node (node.CoreModule bs)) c r os ≡ core_module_text (stand_in_at bs.items) c r os
+text_module bs c r os = ap (λ p. part_text p c r os) (shown_module bs)
 
-pub text_component : (ns : Vec PartNode) (c : ℕ) (r : IndexSpaces)
-    → part_text (shown_part_node (node.Component ns)) c r ≡ bytes (head_text c r) ⊕ closing c (sections ns.items (deeper c) nothing)
-text_component ns c r = ap (λ p. part_text p c r) (shown_nested ns)
+pub text_component : (ns : Vec PartNode) (c : ℕ) (r : IndexSpaces) (os : List ℕ)
+    → part_text (shown_part_node (node.Component ns)) c r os ≡ bytes (head_text c r os) ⊕ closing c (sections ns.items (deeper c) nothing (drop 1 os))
+text_component ns c r os = ap (λ p. part_text p c r os) (shown_nested ns)
 
-pub text_core_types : (ts : Vec CoreNode) (c : ℕ) (r : IndexSpaces)
-    → part_text (shown_part_node (node.CoreTypes ts)) c r ≡ bytes (lines (λ t. core_type_text (shown_core_node t)) (λ t. after_core_type) c r ts.items)
-text_core_types ts c r = ap (λ p. part_text p c r) (shown_core_types ts)
-    ∙ ap bytes (lines-map core_type_text (λ t. after_core_type) shown_core_node c r ts.items)
+pub text_core_types : (ts : Vec CoreNode) (c : ℕ) (r : IndexSpaces) (os : List ℕ)
+    → part_text (shown_part_node (node.CoreTypes ts)) c r os ≡ bytes (entry_lines (λ t. core_type_text (shown_core_node t)) (λ t. after_core_type) c r os ts.items)
+text_core_types ts c r os = ap (λ p. part_text p c r os) (shown_core_types ts)
+    ∙ ap bytes (entry_lines-map core_type_text (λ t. after_core_type) shown_core_node c r os ts.items)
 
-pub text_types : (ts : Vec TypeNode) (c : ℕ) (r : IndexSpaces)
-    → part_text (shown_part_node (node.Types ts)) c r ≡ bytes (lines (λ t. type_text (shown_type_node t)) (λ t. after_type) c r ts.items)
-text_types ts c r = ap (λ p. part_text p c r) (shown_types ts) ∙ ap bytes (lines-map type_text (λ t. after_type) shown_type_node c r ts.items)
+pub text_types : (ts : Vec TypeNode) (c : ℕ) (r : IndexSpaces) (os : List ℕ)
+    → part_text (shown_part_node (node.Types ts)) c r os ≡ bytes (entry_lines (λ t. type_text (shown_type_node t)) (λ t. after_type) c r os ts.items)
+text_types ts c r os = ap (λ p. part_text p c r os) (shown_types ts) ∙ ap bytes (entry_lines-map type_text (λ t. after_type) shown_type_node c r os ts.items)
 
-pub text_canons : (fs : Vec Func) (c : ℕ) (r : IndexSpaces)
-    → part_text (shown_part_node (node.Canons fs)) c r ≡ bytes (lines (λ f _. canon_text (shown_canon f)) (λ f. after_canon (shown_canon f)) c r fs.items)
-text_canons fs c r = ap (λ p. part_text p c r) (shown_canons fs) ∙ ap bytes (lines-map (λ f _. canon_text f) after_canon shown_canon c r fs.items)
+pub text_canons : (fs : Vec Func) (c : ℕ) (r : IndexSpaces) (os : List ℕ)
+    → part_text (shown_part_node (node.Canons fs)) c r os ≡ bytes (entry_lines (λ f _. canon_text (shown_canon f)) (λ f. after_canon (shown_canon f)) c r os fs.items)
+text_canons fs c r os = ap (λ p. part_text p c r os) (shown_canons fs) ∙ ap bytes (entry_lines-map (λ f _. canon_text f) after_canon shown_canon c r os fs.items)
 
-pub text_imports : (is : Vec ImportNode) (c : ℕ) (r : IndexSpaces) → part_text (shown_part_node (node.Imports is)) c r
-    ≡ bytes (lines (λ i _. import_text (string_bytes i.name) i.to) (λ i. after_extern i.to) c r is.items)
-text_imports is c r = ap (λ p. part_text p c r) (shown_imports is)
-    ∙ ap bytes (lines-map (λ i _. import_text i.name i.to) (λ i. after_extern i.to) shown_import_node c r is.items)
+pub text_imports : (is : Vec ImportNode) (c : ℕ) (r : IndexSpaces) (os : List ℕ) → part_text (shown_part_node (node.Imports is)) c r os
+    ≡ bytes (entry_lines (λ i _. import_text (string_bytes i.name) i.to) (λ i. after_extern i.to) c r os is.items)
+text_imports is c r os = ap (λ p. part_text p c r os) (shown_imports is)
+    ∙ ap bytes (entry_lines-map (λ i _. import_text i.name i.to) (λ i. after_extern i.to) shown_import_node c r os is.items)
 
-pub text_exports : (es : Vec Export) (c : ℕ) (r : IndexSpaces)
-    → part_text (shown_part_node (node.Exports es)) c r ≡ bytes (lines (λ e _. export_entry_text (shown_export e)) (λ e. after_function) c r es.items)
-text_exports es c r = ap (λ p. part_text p c r) (shown_exports es)
-    ∙ ap bytes (lines-map (λ e _. export_entry_text e) (λ e. after_function) shown_export c r es.items)
+pub text_exports : (es : Vec Export) (c : ℕ) (r : IndexSpaces) (os : List ℕ)
+    → part_text (shown_part_node (node.Exports es)) c r os ≡ bytes (entry_lines (λ e _. export_entry_text (shown_export e)) (λ e. after_function) c r os es.items)
+text_exports es c r os = ap (λ p. part_text p c r os) (shown_exports es)
+    ∙ ap bytes (entry_lines-map (λ e _. export_entry_text e) (λ e. after_function) shown_export c r os es.items)
 
 -- and the index spaces after them
 
@@ -169,6 +188,35 @@ after_imports is r = ap (λ p. after_part p r) (shown_imports is) ∙ after_all-
 
 pub after_exports : (es : Vec Export) (r : IndexSpaces) → after_part (shown_part_node (node.Exports es)) r ≡ after_all (λ e. after_function) r es.items
 after_exports es r = ap (λ p. after_part p r) (shown_exports es) ∙ after_all-map (λ e. after_function) shown_export r es.items
+
+-- and how many items they are
+
+pub count_core_types : (ts : Vec CoreNode) → items_in (shown_part_node (node.CoreTypes ts)) ≡ length ts.items
+count_core_types ts = ap items_in (shown_core_types ts) ∙ length-map ts.items shown_core_node
+
+pub count_types : (ts : Vec TypeNode) → items_in (shown_part_node (node.Types ts)) ≡ length ts.items
+count_types ts = ap items_in (shown_types ts) ∙ length-map ts.items shown_type_node
+
+pub count_canons : (fs : Vec Func) → items_in (shown_part_node (node.Canons fs)) ≡ length fs.items
+count_canons fs = ap items_in (shown_canons fs) ∙ length-map fs.items shown_canon
+
+pub count_imports : (is : Vec ImportNode) → items_in (shown_part_node (node.Imports is)) ≡ length is.items
+count_imports is = ap items_in (shown_imports is) ∙ length-map is.items shown_import_node
+
+pub count_exports : (es : Vec Export) → items_in (shown_part_node (node.Exports es)) ≡ length es.items
+count_exports es = ap items_in (shown_exports es) ∙ length-map es.items shown_export
+
+pub count_custom : (n : CustomSection) → items_in (shown_part_node (node.Custom n)) ≡ 1
+count_custom n = ap items_in (shown_custom n)
+
+pub count_module : (bs : Vec ℕ) → items_in (shown_part_node (node.CoreModule bs)) ≡ 1
+count_module bs = ap items_in (shown_module bs)
+
+pub count_component : (ns : Vec PartNode) → items_in (shown_part_node (node.Component ns)) ≡ 1 + items (held ns.items)
+count_component ns = ap items_in (shown_nested ns) ∙ one_more
+  where
+    one_more : suc (items (held ns.items)) ≡ 1 + items (held ns.items)
+    one_more = omega arith
 
 -- results
 

@@ -8,7 +8,7 @@ use Rattle.smith_print.specs.Spaces.{nothing}
 use Rattle.smith_print.specs.CoreTypes.{after_module_decl, module_decl_line}
 use Rattle.smith_print.specs.Types.{after_decl, core_entry_text, decl_lines, decl_text, entry_text, nested}
 use Rattle.smith_print.specs.Words.{deeper, line}
-use Rattle.smith_print.proofs.Listed.{lines-map}
+use Rattle.smith_print.proofs.Listed.{entry_lines-map}
 use Rattle.smith_read.specs.Nodes.{shown_module_node}
 use Rattle.smith_read.specs.declared.core_types.ModuleNode.{ModuleNode}
 use Rattle.smith_read.proofs.ShownNodes.{shown_component, shown_instance}
@@ -40,4 +40,4 @@ text_instance ds c = ap (λ e. entry_text e c) (shown_instance ds) ∙ nested_is
 pub text_module_type : (ds : List ModuleNode) (c : ℕ)
     → nested (codes "(module") (λ n. lines (λ d _. module_decl_line (shown_module_node d)) (λ d. after_module_decl (shown_module_node d)) n nothing ds) c
     ≡ core_entry_text (core_module (map shown_module_node ds)) c
-text_module_type ds c = rw (lines-map (λ d _. module_decl_line d) after_module_decl shown_module_node (deeper (deeper c)) nothing ds) refl
+text_module_type ds c = rw (entry_lines-map (λ d _. module_decl_line d) after_module_decl shown_module_node (deeper (deeper c)) nothing [] ds) refl

@@ -1,16 +1,17 @@
 -- The text of components (Explainer.md, component definitions).
-use Rattle.std.specs.Prelude.{ℕ, ◌+◌, List, [], Option, Some, None, codes, decimal}
+use Rattle.std.specs.Prelude.{ℕ, ◌+◌, List, [], drop, Option, Some, None, codes, decimal}
 use Rattle.smith_core.specs.StandInText.{StandIn}
 use Rattle.smith_format.specs.Piece.{Piece, ◌⊕◌, bytes}
+use Rattle.smith_read.specs.Items.{items_in}
 use Rattle.smith_read.specs.ModuleSections.{stand_in_at}
 use Rattle.smith_tree.specs.Tree.{ExportEntry, Part, Tree, ends, first, custom, core_module, core_types, component, types, canons, imports, exports}
 use Rattle.smith_print.specs.declared.spaces.IndexSpaces.{IndexSpaces}
 use Rattle.smith_print.specs.CoreTypes.{after_core_type, after_memory, core_function_line, memory_line}
 use Rattle.smith_print.specs.Externs.{canon_text, import_text}
-use Rattle.smith_print.specs.Lines.{after_all, closed, lines}
+use Rattle.smith_print.specs.Lines.{after_all, closed, entry_lines, lines}
 use Rattle.smith_print.specs.Spaces.{after_canon, after_extern, nothing}
 use Rattle.smith_print.specs.Types.{after_type, core_type_text, type_text}
-use Rattle.smith_print.specs.Words.{◌⧺◌, deeper, line, quoted}
+use Rattle.smith_print.specs.Words.{◌⧺◌, deeper, item_line, quoted}
 
 -- An export of a component function, which is the next one (Explainer.md, export definitions).
 abbrev pub export_entry_text : ExportEntry → IndexSpaces → List ℕ
@@ -45,13 +46,13 @@ module_text m columns =
     ⧺ lines (λ t _. memory_line t) (λ t. after_memory) (deeper columns) nothing m.memories)
 
 -- the head of a core module under its index
-abbrev pub module_head_text : ℕ → IndexSpaces → List ℕ
-module_head_text columns s = line columns ⧺ codes "(core module (;" ⧺ decimal s.modules ⧺ codes ";)"
+abbrev pub module_head_text : ℕ → IndexSpaces → List ℕ → List ℕ
+module_head_text columns s offsets = item_line columns offsets ⧺ codes "(core module (;" ⧺ decimal s.modules ⧺ codes ";)"
 
 -- A core module that has no others, under its index. Any other has no text.
-abbrev pub core_module_text : Option StandIn → ℕ → IndexSpaces → Piece
-core_module_text None columns s = None
-core_module_text (Some m) columns s = bytes (module_head_text columns s ⧺ module_text m columns)
+abbrev pub core_module_text : Option StandIn → ℕ → IndexSpaces → List ℕ → Piece
+core_module_text None columns s offsets = None
+core_module_text (Some m) columns s offsets = bytes (module_head_text columns s offsets ⧺ module_text m columns)
 
 -- what has such contents, if they have a text
 abbrev pub closing : ℕ → Piece → Piece
@@ -59,30 +60,38 @@ closing columns None = None
 closing columns (Some contents) = bytes (closed columns contents)
 
 -- a custom section (core specification, Text Format, Custom Annotations)
-abbrev pub custom_text : List ℕ → List ℕ → ℕ → List ℕ
-custom_text name contents columns = line columns ⧺ codes "(@custom " ⧺ quoted name ⧺ codes " " ⧺ quoted contents ⧺ codes ")"
+abbrev pub custom_text : List ℕ → List ℕ → ℕ → List ℕ → List ℕ
+custom_text name contents columns offsets =
+    item_line columns offsets ⧺ codes "(@custom " ⧺ quoted name ⧺ codes " " ⧺ quoted contents ⧺ codes ")"
 
 -- the head of a component under its index
-abbrev pub head_text : ℕ → IndexSpaces → List ℕ
-head_text columns s = line columns ⧺ codes "(component (;" ⧺ decimal s.components ⧺ codes ";)"
+abbrev pub head_text : ℕ → IndexSpaces → List ℕ → List ℕ
+head_text columns s offsets = item_line columns offsets ⧺ codes "(component (;" ⧺ decimal s.components ⧺ codes ";)"
 
+-- Sections, of which each item (`Items` of `smith_read`) stands behind the next of these offsets, if there are any.
 abbrev mutual
-  pub part_text : Part → ℕ → IndexSpaces → Piece
-  part_text (custom name contents) columns s = bytes (custom_text name contents columns)
-  part_text (core_module bs) columns s = core_module_text (stand_in_at bs) columns s
-  part_text (core_types ts) columns s = bytes (lines core_type_text (λ t. after_core_type) columns s ts)
-  part_text (component t) columns s =
-      bytes (head_text columns s) ⊕ closing columns (parts_text t (deeper columns) nothing)
-  part_text (types ts) columns s = bytes (lines type_text (λ t. after_type) columns s ts)
-  part_text (canons fs) columns s = bytes (lines (λ f _. canon_text f) after_canon columns s fs)
-  part_text (imports is) columns s = bytes (lines (λ i _. import_text i.name i.to) (λ i. after_extern i.to) columns s is)
-  part_text (exports es) columns s = bytes (lines (λ e _. export_entry_text e) (λ e. after_function) columns s es)
+  pub part_text : Part → ℕ → IndexSpaces → List ℕ → Piece
+  part_text (custom name contents) columns s offsets = bytes (custom_text name contents columns offsets)
+  part_text (core_module bs) columns s offsets = core_module_text (stand_in_at bs) columns s offsets
+  part_text (core_types ts) columns s offsets = bytes (entry_lines core_type_text (λ t. after_core_type) columns s offsets ts)
+  part_text (component t) columns s offsets =
+      bytes (head_text columns s offsets) ⊕ closing columns (parts_text t (deeper columns) nothing (drop 1 offsets))
+  part_text (types ts) columns s offsets = bytes (entry_lines type_text (λ t. after_type) columns s offsets ts)
+  part_text (canons fs) columns s offsets = bytes (entry_lines (λ f _. canon_text f) after_canon columns s offsets fs)
+  part_text (imports is) columns s offsets =
+      bytes (entry_lines (λ i _. import_text i.name i.to) (λ i. after_extern i.to) columns s offsets is)
+  part_text (exports es) columns s offsets = bytes (entry_lines (λ e _. export_entry_text e) (λ e. after_function) columns s offsets es)
 
   -- sections one after another, with the index spaces after those before them
-  pub parts_text : Tree → ℕ → IndexSpaces → Piece
-  parts_text ends columns s = bytes []
-  parts_text (first p t) columns s = part_text p columns s ⊕ parts_text t columns (after_part p s)
+  pub parts_text : Tree → ℕ → IndexSpaces → List ℕ → Piece
+  parts_text ends columns s offsets = bytes []
+  parts_text (first p t) columns s offsets = part_text p columns s offsets ⊕ parts_text t columns (after_part p s) (drop (items_in p) offsets)
 
--- The text of a whole component, or None if it has none: a core module in it has more than function types and memories.
+-- The text of a whole component with these offsets before its items, or None if it has none: a core module in it has more than function types and
+-- memories.
+abbrev pub text_with : List ℕ → Tree → Piece
+text_with offsets t = bytes (codes "(component") ⊕ closing 0 (parts_text t (deeper 0) nothing offsets) ⊕ bytes (codes "\n")
+
+-- without offsets
 abbrev pub text_of : Tree → Piece
-text_of t = bytes (codes "(component") ⊕ closing 0 (parts_text t (deeper 0) nothing) ⊕ bytes (codes "\n")
+text_of t = text_with [] t

@@ -3,6 +3,8 @@ pub mod Components
 pub mod CoreTypes
 pub mod Externs
 pub mod Lines
+pub mod Offsets
+pub mod Passing
 pub mod Printing
 pub mod Spaces
 pub mod Types

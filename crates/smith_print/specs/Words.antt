@@ -1,5 +1,5 @@
 -- Words of the text format (core specification, Text Format, Lexical Format and Values).
-use Rattle.std.specs.Prelude.{ℕ, ◌/◌, ◌%◌, Bool, List, [], ◌∷◌, ◌++◌, codes, nat_eq, nat_le, nat_lt, not, ◌&&◌, replicate, if◌then◌else◌, ◌+◌, false}
+use Rattle.std.specs.Prelude.{ℕ, ◌/◌, ◌%◌, Bool, List, [], ◌∷◌, ◌++◌, codes, decimal, nat_eq, nat_le, nat_lt, not, ◌&&◌, replicate, if◌then◌else◌, ◌+◌, false}
 use Rattle.std.specs.Fmt.{digits}
 use Rattle.std.specs.List.{flat_map}
 
@@ -23,6 +23,11 @@ quoted bs = codes "\"" ⧺ flat_map character bs ⧺ codes "\""
 -- a line's end, and the next line's indent of so many columns
 abbrev pub line : ℕ → List ℕ
 line columns = 10 ∷ replicate columns 32
+
+-- a line's end, and the next line up to what stands behind the first of these offsets, as a comment (Lexical Format, Comments)
+abbrev pub item_line : ℕ → List ℕ → List ℕ
+item_line columns [] = line columns
+item_line columns (offset ∷ offsets) = line columns ⧺ codes "(;@" ⧺ decimal offset ⧺ codes ";) "
 
 -- Contents are two columns further to the right, and at most 40.
 abbrev pub deeper : ℕ → ℕ

@@ -4,15 +4,18 @@
 mod core_types;
 mod error;
 mod externs;
+pub mod laws;
 mod lines;
 mod members;
 mod modules;
+mod offsets;
 mod parts;
+mod passing;
 mod spaces;
 mod types;
 mod values;
 mod words;
 
 pub use error::PrintError;
-pub use parts::print;
+pub use parts::{print, print_with, print_with_offsets};
 pub use spaces::{IndexSpaces, next};

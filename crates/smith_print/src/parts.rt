@@ -1,28 +1,32 @@
 //! Components as text (Explainer.md, component definitions).
 
-ghost use Rattle.std.specs.Prelude.{◌≡◌, Some, None, IfErr, IfOk, map, string_bytes};
+ghost use Rattle.std.specs.Prelude.{◌≡◌, Some, None, IfErr, IfOk, drop, length, map, string_bytes};
 ghost use Rattle.smith_print.specs.Components.{after_component, after_function, after_module, after_part, closing};
 ghost use Rattle.smith_print.specs.Components.{core_module_text, custom_text, export_entry_text, head_text};
 ghost use Rattle.smith_print.specs.Components.{module_head_text, part_text};
-ghost use Rattle.smith_print.specs.Components.{parts_text, text_of};
+ghost use Rattle.smith_print.specs.Components.{parts_text, text_of, text_with};
 ghost use Rattle.smith_print.specs.Externs.{canon_text, import_text};
-ghost use Rattle.smith_print.specs.Lines.{after_all, lines};
+ghost use Rattle.smith_print.specs.Lines.{after_all, entry_lines};
+ghost use Rattle.smith_print.specs.Offsets.{offsets_of};
 ghost use Rattle.smith_print.specs.Printing.{Prints, PrintsPiece};
 ghost use Rattle.smith_format.specs.Piece.{bytes};
 ghost use Rattle.smith_print.specs.Spaces.{after_canon, after_extern, nothing};
 ghost use Rattle.smith_print.specs.Words.{deeper};
 ghost use Rattle.smith_print.specs.declared.error.PrintError.TheVariants.{OtherCoreModule};
+ghost use Rattle.smith_read.specs.Items.{items, items_in};
 ghost use Rattle.smith_read.specs.ModuleSections.{stand_in_at};
 ghost use Rattle.smith_read.specs.PartNodes.{shown_import_node, shown_part_node, shown_tree};
+ghost use Rattle.smith_tree.specs.Grammar.{Spells};
 ghost use Rattle.smith_tree.specs.Shown.{shown_canon, shown_export};
 ghost use Rattle.smith_tree.specs.Tree.{tree_of};
 
 use crate::error::PrintError;
 use crate::externs::{print_canon, print_import};
-use crate::lines::{Line, print_end, print_lines};
+use crate::lines::{Line, Offsets, begin_entry, print_end, print_entries};
 use crate::modules::print_module;
+use crate::offsets::offsets_of;
 use crate::spaces::{IndexSpaces, next};
-use crate::words::{Quoted, deeper, print_line};
+use crate::words::{Quoted, deeper};
 use smith_read::{
     ComponentTree, CustomSection, Export, Func, ImportNode, PartNode, Unread, module_sections_of,
 };
@@ -76,11 +80,17 @@ impl Line for Export {
     }
 }
 
-fn print_custom(out: &mut String, columns: usize, section: &CustomSection) -> Result<(), AllocError>
-    ensures { Prints result out.old out.new
-        (custom_text (string_bytes section.now.name) section.now.bytes.items columns) }
+fn print_custom(
+    out: &mut String,
+    columns: usize,
+    offsets: &mut Offsets<'_>,
+    section: &CustomSection,
+) -> Result<(), AllocError>
+    ensures printed { Prints result out.old out.new
+        (custom_text (string_bytes section.now.name) section.now.bytes.items columns offsets.old.left.now) }
+    ensures passed { IfOk result (λ _. offsets.new.left.now ≡ drop 1 offsets.old.left.now) }
 {
-    print_line(out, columns)?;
+    begin_entry(out, columns, offsets)?;
     let name = Quoted(section.name.as_bytes());
     let contents = Quoted(&section.bytes);
     write!(out, "(@custom {name} {contents})")
@@ -91,11 +101,13 @@ fn print_module_head(
     out: &mut String,
     columns: usize,
     spaces: &mut IndexSpaces,
+    offsets: &mut Offsets<'_>,
 ) -> Result<(), AllocError>
-    ensures printed { Prints result out.old out.new (module_head_text columns spaces.old) }
+    ensures printed { Prints result out.old out.new (module_head_text columns spaces.old offsets.old.left.now) }
     ensures indexes { IfOk result (λ _. spaces.new ≡ after_module spaces.old) }
+    ensures passed { IfOk result (λ _. offsets.new.left.now ≡ drop 1 offsets.old.left.now) }
 {
-    print_line(out, columns)?;
+    begin_entry(out, columns, offsets)?;
     let index = next(&mut spaces.modules)?;
     write!(out, "(core module (;{index};)")
 }
@@ -105,17 +117,20 @@ fn print_core_module(
     out: &mut String,
     columns: usize,
     spaces: &mut IndexSpaces,
+    offsets: &mut Offsets<'_>,
     bytes: &[u8],
 ) -> Result<(), PrintError>
-    ensures printed { PrintsPiece result out.old out.new (core_module_text (stand_in_at bytes.now) columns spaces.old) }
+    ensures printed { PrintsPiece result out.old out.new
+        (core_module_text (stand_in_at bytes.now) columns spaces.old offsets.old.left.now) }
     ensures indexes { IfOk result (λ _. spaces.new ≡ after_module spaces.old) }
+    ensures passed { IfOk result (λ _. offsets.new.left.now ≡ drop 1 offsets.old.left.now) }
 {
     let sections = match module_sections_of(*out.allocator(), bytes) {
         Ok(sections) => sections,
         Err(Unread::OutOfMemory) => return Err(PrintError::OutOfMemory),
         Err(Unread::Malformed { .. }) => return Err(PrintError::OtherCoreModule),
     };
-    print_module_head(out, columns, spaces)?;
+    print_module_head(out, columns, spaces, offsets)?;
     print_module(out, columns, &sections)?;
     Ok(())
 }
@@ -124,21 +139,30 @@ fn print_list<T: Line>(
     out: &mut String,
     columns: usize,
     spaces: &mut IndexSpaces,
+    offsets: &mut Offsets<'_>,
     entries: &[T],
 ) -> Result<(), PrintError>
-    ensures printed { PrintsPiece result out.old out.new (bytes (lines T.text T.after columns spaces.old entries.now)) }
+    ensures printed { PrintsPiece result out.old out.new
+        (bytes (entry_lines T.text T.after columns spaces.old offsets.old.left.now entries.now)) }
     ensures indexes { IfOk result (λ _. spaces.new ≡ after_all T.after spaces.old entries.now) }
+    ensures passed { IfOk result (λ _. offsets.new.left.now ≡ drop (length entries.now) offsets.old.left.now) }
 {
-    print_lines(out, columns, spaces, entries)?;
+    print_entries(out, columns, spaces, offsets, entries)?;
     Ok(())
 }
 
 // The head of a component under its index.
-fn print_head(out: &mut String, columns: usize, spaces: &mut IndexSpaces) -> Result<(), AllocError>
-    ensures printed { Prints result out.old out.new (head_text columns spaces.old) }
+fn print_head(
+    out: &mut String,
+    columns: usize,
+    spaces: &mut IndexSpaces,
+    offsets: &mut Offsets<'_>,
+) -> Result<(), AllocError>
+    ensures printed { Prints result out.old out.new (head_text columns spaces.old offsets.old.left.now) }
     ensures indexes { IfOk result (λ _. spaces.new ≡ after_component spaces.old) }
+    ensures passed { IfOk result (λ _. offsets.new.left.now ≡ drop 1 offsets.old.left.now) }
 {
-    print_line(out, columns)?;
+    begin_entry(out, columns, offsets)?;
     let index = next(&mut spaces.components)?;
     write!(out, "(component (;{index};)")
 }
@@ -148,39 +172,50 @@ fn print_part(
     out: &mut String,
     columns: usize,
     spaces: &mut IndexSpaces,
+    offsets: &mut Offsets<'_>,
     node: &PartNode,
 ) -> Result<(), PrintError>
-    ensures printed { PrintsPiece result out.old out.new (part_text (shown_part_node node.now) columns spaces.old) }
+    ensures printed { PrintsPiece result out.old out.new
+        (part_text (shown_part_node node.now) columns spaces.old offsets.old.left.now) }
     ensures indexes { IfOk result (λ _. spaces.new ≡ after_part (shown_part_node node.now) spaces.old) }
+    ensures passed { IfOk result (λ _.
+        offsets.new.left.now ≡ drop (items_in (shown_part_node node.now)) offsets.old.left.now) }
 {
     match node {
         PartNode::Custom(section) => {
-            print_custom(out, columns, section)?;
+            print_custom(out, columns, offsets, section)?;
             Ok(())
         }
-        PartNode::CoreModule(bytes) => print_core_module(out, columns, spaces, bytes),
-        PartNode::CoreTypes(types) => print_list(out, columns, spaces, types),
+        PartNode::CoreModule(bytes) => print_core_module(out, columns, spaces, offsets, bytes),
+        PartNode::CoreTypes(types) => print_list(out, columns, spaces, offsets, types),
         PartNode::Component(nodes) => {
-            print_head(out, columns, spaces)?;
-            print_component(out, columns, nodes)
+            print_head(out, columns, spaces, offsets)?;
+            print_component(out, columns, offsets, nodes)
         }
-        PartNode::Types(types) => print_list(out, columns, spaces, types),
-        PartNode::Canons(canons) => print_list(out, columns, spaces, canons),
-        PartNode::Imports(imports) => print_list(out, columns, spaces, imports),
-        PartNode::Exports(exports) => print_list(out, columns, spaces, exports),
+        PartNode::Types(types) => print_list(out, columns, spaces, offsets, types),
+        PartNode::Canons(canons) => print_list(out, columns, spaces, offsets, canons),
+        PartNode::Imports(imports) => print_list(out, columns, spaces, offsets, imports),
+        PartNode::Exports(exports) => print_list(out, columns, spaces, offsets, exports),
     }
 }
 
 // The sections of a component, and its end.
 #[cycle(printing)]
-fn print_component(out: &mut String, columns: usize, nodes: &[PartNode]) -> Result<(), PrintError>
-    ensures { PrintsPiece result out.old out.new
-        (closing columns (parts_text (tree_of (map shown_part_node nodes.now)) (deeper columns) nothing)) }
+fn print_component(
+    out: &mut String,
+    columns: usize,
+    offsets: &mut Offsets<'_>,
+    nodes: &[PartNode],
+) -> Result<(), PrintError>
+    ensures printed { PrintsPiece result out.old out.new (closing columns (parts_text
+        (tree_of (map shown_part_node nodes.now)) (deeper columns) nothing offsets.old.left.now)) }
+    ensures passed { IfOk result (λ _.
+        offsets.new.left.now ≡ drop (items (tree_of (map shown_part_node nodes.now))) offsets.old.left.now) }
 {
     let start = out.len();
     let mut spaces = IndexSpaces::new();
     for node in nodes {
-        print_part(out, deeper(columns), &mut spaces, node)?;
+        print_part(out, deeper(columns), &mut spaces, offsets, node)?;
     }
     print_end(out, columns, start)?;
     Ok(())
@@ -195,9 +230,42 @@ pub fn print(alloc: Global, component: &ComponentTree) -> Result<String, PrintEr
     ensures printed { IfOk result (λ text. text_of (shown_tree component.now) ≡ Some (string_bytes text)) }
     ensures refused { IfErr result (λ e. e ≡ OtherCoreModule → text_of (shown_tree component.now) ≡ None) }
 {
+    print_with(alloc, component, &[])
+}
+
+/// The same with these offsets, each as a comment before the item of that number, as `offset_of` of `smith_read` counts
+/// items. Those that are missing are left out.
+pub fn print_with(
+    alloc: Global,
+    component: &ComponentTree,
+    offsets: &[usize],
+) -> Result<String, PrintError>
+    ensures printed { IfOk result (λ text.
+        text_with offsets.now (shown_tree component.now) ≡ Some (string_bytes text)) }
+    ensures refused { IfErr result (λ e. e ≡ OtherCoreModule
+        → text_with offsets.now (shown_tree component.now) ≡ None) }
+{
     let mut out = String::new(alloc);
     write!(out, "(component")?;
-    print_component(&mut out, 0, &component.parts)?;
+    let mut offsets = Offsets { left: offsets };
+    print_component(&mut out, 0, &mut offsets, &component.parts)?;
     write!(out, "\n")?;
     Ok(out)
+}
+
+/// The same with the offset of each item in the bytes that spell the component.
+pub fn print_with_offsets(
+    alloc: Global,
+    component: &ComponentTree,
+    bytes: &[u8],
+) -> Result<String, PrintError>
+    ensures printed { Spells (shown_tree component.now) bytes.now → IfOk result (λ text.
+        text_with (offsets_of (shown_tree component.now)) (shown_tree component.now) ≡ Some (string_bytes text)) }
+    ensures refused { Spells (shown_tree component.now) bytes.now → IfErr result (λ e. e ≡ OtherCoreModule
+        → text_with (offsets_of (shown_tree component.now)) (shown_tree component.now) ≡ None) }
+{
+    match offsets_of(alloc, component, bytes) {
+        Ok(offsets) => print_with(alloc, component, &offsets),
+        Err(_) => Err(PrintError::OutOfMemory),
+    }
 }

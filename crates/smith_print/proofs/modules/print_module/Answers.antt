@@ -1,7 +1,7 @@
 use Rattle.std.proofs.Common.{◌++◌, ap, sym, ◌∙◌, append_assoc}
-use Rattle.std.specs.Prelude.{string_bytes}
+use Rattle.std.specs.Prelude.{[], string_bytes}
 use Rattle.smith_format.specs.Shown.{shown_func}
-use Rattle.smith_print.proofs.Listed.{lines-map}
+use Rattle.smith_print.proofs.Listed.{entry_lines-map}
 use Rattle.smith_print.proofs.Printing.{prints_same}
 use Rattle.smith_print.proofs.modules.print_module.Goals as goal
 use Rattle.smith_print.specs.CoreTypes.{after_core_type, after_memory, core_function_line, memory_line}
@@ -18,6 +18,6 @@ returns c =
     let next = rw (c.deeper-2.ensures, c.new-memories.ensures, c.deref-2.ensures.value) at (c.in_ok-print_lines-2.ensures {u = tt}).printed in
     prints_same c.print_end.result c.args.out.now c.print_end.new.out
     (ap (λ q. closed c.args.columns (q ++ memories))
-    (sym (lines-map (λ f _. core_function_line f) (λ f. after_core_type) shown_func n nothing c.args.sections.now.types.items)))
+    (sym (entry_lines-map (λ f _. core_function_line f) (λ f. after_core_type) shown_func n nothing [] c.args.sections.now.types.items)))
     (c.print_end.ensures c.args.out.now (types ++ memories) c.len-start.ensures
     (next ∙ ap (λ q. q ++ memories) first ∙ append_assoc (string_bytes c.args.out.now) types memories))

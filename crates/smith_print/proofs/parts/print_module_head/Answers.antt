@@ -2,10 +2,10 @@ use Rattle.std.proofs.Common.{◌++◌}
 use Rattle.std.specs.Prelude.{codes, decimal}
 use Rattle.smith_print.proofs.Printing.{prints_then}
 use Rattle.smith_print.proofs.parts.print_module_head.Goals as goal
-use Rattle.smith_print.specs.Words.{line}
+use Rattle.smith_print.specs.Words.{item_line}
 
 pub returns-clause-printed : goal.returns-clause-printed
 returns-clause-printed c =
-    prints_then c.write.result c.args.out.now c.print_line.new.out c.write.new.self (line c.args.columns)
-    (codes "(core module (;" ++ (decimal c.args.spaces.now.modules ++ codes ";)")) (c.in_ok-print_line.ensures {u = tt})
+    prints_then c.write.result c.args.out.now c.begin_entry.new.out c.write.new.self (item_line c.args.columns c.args.offsets.now.left.now)
+    (codes "(core module (;" ++ (decimal c.args.spaces.now.modules ++ codes ";)")) ((c.in_ok-begin_entry.ensures {u = tt}).printed)
     (rw (c.in_ok-index.ensures {u = tt}).index at c.write.ensures.bytes)
