@@ -17,5 +17,5 @@ mod values;
 mod words;
 
 pub use error::PrintError;
-pub use parts::{print, print_with, print_with_offsets};
+pub use parts::{print, print_with_offsets};
 pub use spaces::{IndexSpaces, next};

@@ -233,9 +233,9 @@ pub fn print(alloc: Global, component: &ComponentTree) -> Result<String, PrintEr
     print_with(alloc, component, &[])
 }
 
-/// The same with these offsets, each as a comment before the item of that number, as `offset_of` of `smith_read` counts
-/// items. Those that are missing are left out.
-pub fn print_with(
+// The same with these offsets, each as a comment before the item of that number, as `offset_of` of `smith_read` counts
+// items. Those that are missing are left out.
+fn print_with(
     alloc: Global,
     component: &ComponentTree,
     offsets: &[usize],
@@ -253,7 +253,8 @@ pub fn print_with(
     Ok(out)
 }
 
-/// The same with the offset of each item in the bytes that spell the component.
+/// The same with the offset of each item, as a comment before it: that of `offset_of` of `smith_read` in the bytes that
+/// the component was read from. It takes time and memory in proportion to these and the text.
 pub fn print_with_offsets(
     alloc: Global,
     component: &ComponentTree,
