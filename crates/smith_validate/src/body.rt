@@ -83,8 +83,8 @@ impl Exported {
     pub(crate) fn export(&mut self, all: &[InstanceType], what: Extern) -> Result<(), Stop>
         ensures outward { OnOk result (self.new.refers_outside ≡ true → (self.old.refers_outside ≡ true)
             × AllByRecursion (λ u. outside_at all.now (number_of u) ≡ true) (option_to_list what.used)) }
-        ensures first { (table : List Surface) (named : List Id) → IsTable all.now table
-            → OnOk result (self.new.names_first ≡ true → (self.old.names_first ≡ true)
+        ensures first { (table : List Surface) → IsTable all.now table
+            → OnOk result ((named : List Id) → self.new.names_first ≡ true → (self.old.names_first ≡ true)
             × (AreSettled table self.old.named named → IsMetBy table what.used self.new.named named)) }
         ensures other { IfErr result IsOther }
         ensures memory { IfErr result (λ e. e ≡ OutOfMemory) }
