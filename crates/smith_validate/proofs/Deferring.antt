@@ -1,17 +1,17 @@
 -- Types of instances that are named at once, and what they name later.
-use Rattle.std.proofs.Common.{◌≡◌, ◌⊎◌, inl, inr, ℕ, ◌+◌, ◌<◌, true, false, List, [], ◌∷◌, ◌++◌, length, get_or}
+use Rattle.std.proofs.Common.{◌≡◌, ◌⊎◌, inl, inr, ℕ, ◌+◌, ◌<◌, Bool, true, false, List, [], ◌∷◌, ◌++◌, length, get_or}
 use Rattle.std.proofs.Common.{refl, sym, ap, ◌∙◌, subst, arith, None, Some}
 use Rattle.std.specs.BTreeSet.{contains}
 use Rattle.std.specs.List.{AllByRecursion}
 use Rattle.std.specs.Ordering.{nat_cmp}
 use Rattle.smith_input.specs.NewNames.{is_among}
 use Rattle.smith_tree.specs.Facts.{Extern, Id}
-use Rattle.smith_tree.specs.Validates.{names_of}
+use Rattle.smith_tree.specs.Validates.{RefersTo, names_of}
 use Rattle.smith_validate.specs.Deferring.{Adds, AreSettled, Gains, IsExposure, IsListed, IsNamedBy, IsOwed, IsUsed}
 use Rattle.smith_validate.specs.Exact.{IsExposed, is_exposed}
-use Rattle.smith_validate.specs.Exposing.{IsSettled, is_settled, named_after, uses_of}
+use Rattle.smith_validate.specs.Exposing.{IsSettled, first_at, is_settled, named_after, outside_at, uses_of}
 use Rattle.smith_validate.specs.Instances.{Surface, Follow, IsInstanceType, IsTable, Piece, equal, externs_in, externs_of, named_by, no_surface}
-use Rattle.smith_validate.specs.Instances.{place_of, refers_of, single, uses_in, whole}
+use Rattle.smith_validate.specs.Instances.{outside_of, place_of, refers_of, single, uses_in, whole}
 use Rattle.smith_validate.specs.Marks.{Within}
 use Rattle.smith_validate.specs.Opening.{IsOpenable}
 use Rattle.smith_validate.specs.Places.{IsBefore, IsInside, IsUnder}
@@ -24,7 +24,7 @@ use Rattle.smith_validate.specs.declared.instances.Use.TheVariants.{Instance, Eq
 use Rattle.smith_validate.proofs.Exposed.{Both, both_at}
 use Rattle.smith_validate.proofs.Ids.{child_of, under_same, under_then}
 use Rattle.smith_validate.proofs.Names.{Sub, among_cases, or_cases, or_left, or_right, refers_of_append, sub_left, sub_right, sub_same}
-use Rattle.smith_validate.proofs.Names.{sub_then, within_first, within_last}
+use Rattle.smith_validate.proofs.Names.{refers_sub, sub_then, sub_within, within_first, within_last, within_sub}
 use Rattle.smith_validate.proofs.Opened.{live_known, seen_live}
 use Rattle.smith_validate.proofs.Tables.{settled_more, settled_sub}
 use Rattle.smith_tree.proofs.Named.{names_of_both as names_append}
@@ -179,6 +179,21 @@ module _ (table : List Surface) where
           used_known (get_or table n no_surface).outside e.is.pieces m e.is.follow v,
           used_within named e.is.pieces m v (subst (λ xs. Within named (refers_of xs)) e.is.externs_are w),
         )
+
+-- What is known of one that need not be looked at.
+module _ (table : List Surface) (all : List InstanceType) (ts : IsTable all table) (n : ℕ) (h : n < length table) (named : List Id)
+    (w : Within named (outside_of table n)) where
+  pub first_met : first_at all n ≡ true → RefersTo named (externs_of table n)
+  first_met is =
+      let e : Both (IsInstanceType table) all n (get_or table n no_surface) = both_at (IsInstanceType table) all table n no_surface ts h in
+      refers_sub (outside_of table n) named (externs_of table n) (sub_within named (outside_of table n) w)
+      (e.is.first (sym (ap (λ o. elim o as (λ x. Bool) [ None ↦ false | Some t ↦ t.names_first ]) e.at) ∙ is))
+
+  pub outside_met : outside_at all n ≡ true → Within named (refers_of (externs_of table n))
+  outside_met is =
+      let e : Both (IsInstanceType table) all n (get_or table n no_surface) = both_at (IsInstanceType table) all table n no_surface ts h in
+      within_sub (outside_of table n) named (refers_of (externs_of table n)) (sub_within named (outside_of table n) w)
+      (e.is.outward (sym (ap (λ o. elim o as (λ x. Bool) [ None ↦ false | Some t ↦ t.refers_outside ]) e.at) ∙ is))
 
 -- those that were looked at, and one more
 pub settled_add : (table : List Surface) (all : List InstanceType) (before mid new : Exposure) (n : ℕ) (named : List Id) → IsTable all table

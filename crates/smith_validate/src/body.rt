@@ -1,7 +1,8 @@
 //! A component, a component type or an instance type as far as it was judged.
 
 ghost use Rattle.std.specs.Prelude.{◌≡◌, ◌+◌, ◌++◌, ◌<◌, ◌&&◌, not, ℕ, List, false, true, IfErr, OnOk};
-ghost use Rattle.std.specs.Prelude.{AllByRecursion, option_to_list};
+ghost use Rattle.std.specs.Prelude.{option_to_list};
+ghost use Rattle.std.specs.List.{AllByRecursion};
 ghost use Rattle.smith_tree.specs.Demands.{Keeps};
 ghost use Rattle.smith_tree.specs.Facts.{Id};
 ghost use Rattle.smith_tree.specs.Sizes.{size_bound};
