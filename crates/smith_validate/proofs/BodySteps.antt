@@ -34,11 +34,11 @@ module _ (place : Id) (table new : List Surface) (e : Exposure) (ids : List Id) 
     (before : (id : Id) → is_among ids id ≡ true → IsBefore 0 place id) (x : IsExposure table e ids) where
   -- it is one of those before, of which that holds
   was_before : {P : Type 0} (n : ℕ) → IsLive new n → (n < length table → P) → (IsUnder (place_of new n) place → P) → P
-  was_before {P} n l yes no = by_length (ltb n (length table)) refl
+  was_before {P} n l earlier later = by_length (ltb n (length table)) refl
     where
       by_length : (t : Bool) → ltb n (length table) ≡ t → P
-      by_length true e = yes (ltb-true n (length table) e)
-      by_length false e = let h = ltb-false n (length table) e in no (g.places n (omega (arith, h)) l)
+      by_length true e = earlier (ltb-true n (length table) e)
+      by_length false e = let h = ltb-false n (length table) e in later (g.places n (omega (arith, h)) l)
 
   not_within : {P : Type 0} (n : ℕ) (id : Id) → is_among ids id ≡ true → IsInside id (place_of new n) → IsUnder (place_of new n) place → P
   not_within n id a i u = absurd (not_under 0 place id (before id a) (under_then id (place_of new n) place (inside_under id (place_of new n) i) u))

@@ -1,6 +1,6 @@
 -- Types of instances that are named at once, and what they name later.
 use Rattle.std.proofs.Common.{◌≡◌, ◌⊎◌, inl, inr, ℕ, ◌+◌, ◌<◌, Bool, true, false, List, [], ◌∷◌, ◌++◌, length, get_or}
-use Rattle.std.proofs.Common.{refl, sym, ap, ◌∙◌, subst, arith, None, Some}
+use Rattle.std.proofs.Common.{refl, sym, ap, ◌∙◌, subst, arith, None, Some, Err, IfOk, Ok, Result}
 use Rattle.std.specs.BTreeSet.{contains}
 use Rattle.std.specs.List.{AllByRecursion}
 use Rattle.std.specs.Ordering.{nat_cmp}
@@ -9,11 +9,11 @@ use Rattle.smith_tree.specs.Facts.{Extern, Id}
 use Rattle.smith_tree.specs.Validates.{RefersTo, names_of}
 use Rattle.smith_validate.specs.Deferring.{Adds, AreSettled, Gains, IsExposure, IsListed, IsNamedBy, IsOwed, IsUsed}
 use Rattle.smith_validate.specs.Exact.{IsExposed, is_exposed}
-use Rattle.smith_validate.specs.Exposing.{IsSettled, first_at, is_settled, named_after, outside_at, uses_of}
+use Rattle.smith_validate.specs.Exposing.{IsSettled, Meets, first_at, is_settled, named_after, outside_at, uses_of}
 use Rattle.smith_validate.specs.Instances.{Surface, Follow, IsInstanceType, IsTable, Piece, equal, externs_in, externs_of, named_by, no_surface}
 use Rattle.smith_validate.specs.Instances.{outside_of, place_of, refers_of, single, uses_in, whole}
 use Rattle.smith_validate.specs.Marks.{Within}
-use Rattle.smith_validate.specs.Opening.{IsOpenable}
+use Rattle.smith_validate.specs.Opening.{IsFound, IsOpenable, IsReached}
 use Rattle.smith_validate.specs.Places.{IsBefore, IsInside, IsUnder}
 use Rattle.smith_validate.specs.Tables.{AreDistinct, AreExact, Fits, IsGrown, IsLive, IsSeen}
 use Rattle.smith_validate.specs.declared.exposure.Exposure.{Exposure}
@@ -132,6 +132,13 @@ are_sub table e a b f s = record { settled = settled_sub table e.exposed a b f s
 
 pub are_more : (table more : List Surface) (e : Exposure) (named : List Id) → AreSettled table e named → AreSettled (table ++ more) e named
 are_more table more e named s = record { settled = settled_more table more e.exposed named s.settled; later = s.later }
+
+pub settled_as : (table : List Surface) (old new : Exposure) (named : List Id) → new.exposed ≡ old.exposed → new.later.items ≡ old.later.items
+    → AreSettled table old named → AreSettled table new named
+settled_as table old new named e l s = record {
+  settled = subst (λ x. IsSettled table x named) (sym e) s.settled;
+  later = λ n h. subst (λ x. is_exposed x n ≡ true) (sym e) (s.later n (subst (λ xs. IsListed xs n) l h));
+}
 
 module _ (table : List Surface) where
   -- an instance that is among what follows
@@ -497,3 +504,28 @@ module _ (table : List Surface) where
                 )
           ];
     }
+
+-- A look at what it exports, once nothing is to be looked at.
+
+pub ok_then : {A E : Type 0} (r : Result A E) {P Q : A → Type 0} → ((x : A) → P x → Q x) → IfOk r P → IfOk r Q
+ok_then (Ok x) {P} {Q} f h = f x h
+ok_then (Err e) {P} {Q} f h = tt
+
+pub openable_more : (table : List Surface) (s new : Exposed) (u : Use) → ((m : ℕ) → is_exposed s m ≡ true → is_exposed new m ≡ true)
+    → IsOpenable table s [] u → IsOpenable table new [] u
+openable_more table s new u more o = record { live = o.live; after = tt; reached = by_use u o.reached }
+  where
+    by_use : (v : Use) → IsReached table s [] v → IsReached table new [] v
+    by_use (Instance n) r = λ m l i. elim (r m l i) [ inl e ↦ inl e | inr y ↦ elim y [ inl z ↦ inr (inl (more m z)) | inr z ↦ absurd z ] ]
+    by_use (Equal n) r = tt
+
+module _ (table : List Surface) (e : Exposure) (none : e.later.items ≡ []) (u : Use) (named : List Id) where
+  pub settled_whole : Meets table u (IsSettled table e.exposed) named → Meets table u (AreSettled table e) named
+  settled_whole m = record {
+    met = m.met;
+    settled = record { settled = m.settled; later = λ n h. absurd (subst (λ xs. IsListed xs n) none h) };
+  }
+
+  pub found_whole : (is : Bool) → IsFound table u (IsExposed table e.exposed []) named is → IsFound table u (IsExposure table e) named is
+  found_whole true f = whole_exposure table e (named_after table u named) none f
+  found_whole false f = f

@@ -128,11 +128,19 @@ impl Exposure {
             return Ok(());
         };
         for used in &ty.uses {
-            if let Use::Instance(within) = used {
-                self.add(*within)?;
-            }
+            self.add_use(*used)?;
         }
         Ok(())
+    }
+
+    // Names the type that a use is an instance of.
+    fn add_use(&mut self, used: Use) -> Result<(), AllocError>
+        ensures { OnOk result (Adds self.old self.new (used ∷ [])) }
+    {
+        match used {
+            Use::Instance(number) => self.add(number),
+            Use::Equal(_) => Ok(()),
+        }
     }
 }
 
