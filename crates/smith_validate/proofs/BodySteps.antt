@@ -1,5 +1,5 @@
 -- What is kept of a body is exact, when types are added.
-use Rattle.std.proofs.Common.{◌≡◌, ◌⊎◌, inl, inr, ℕ, ◌+◌, ◌≤◌, Bool, true, false, List, [], ◌∷◌, ◌++◌, length, map, reverse}
+use Rattle.std.proofs.Common.{◌≡◌, ◌⊎◌, inl, inr, ℕ, ◌+◌, ◌<◌, ◌≤◌, Bool, true, false, List, [], ◌∷◌, ◌++◌, length, map, reverse}
 use Rattle.std.proofs.Common.{refl, sym, ap, ◌∙◌, subst, arith, length-append}
 use Rattle.std.proofs.lemmas.Bool.{ltb-false, ltb-true}
 use Rattle.std.specs.List.{AllByRecursion}
@@ -9,17 +9,17 @@ use Rattle.smith_syntax.specs.Scope.{with_types}
 use Rattle.smith_tree.specs.Bodies.{Body, with_facts}
 use Rattle.smith_tree.specs.Facts.{Extern, FactScope, Facts, Id, id_at}
 use Rattle.smith_tree.specs.Validates.{exported, imported, names_of}
-use Rattle.smith_validate.specs.Exact.{AreExportsExactly, IsBodyExactly, IsBodyExactlyNow, IsExposed, IsKeptExactly, IsOpening}
-use Rattle.smith_validate.specs.Exact.{IsRoleExactly, is_exposed}
-use Rattle.smith_validate.specs.Instances.{Surface, externs_in, place_of}
-use Rattle.smith_validate.specs.Places.{IsBefore, IsInside, IsOpen}
+use Rattle.smith_validate.specs.Deferring.{IsExposure, IsListed}
+use Rattle.smith_validate.specs.Exact.{AreExportsExactly, IsBodyExactly, IsBodyExactlyNow, IsKeptExactly, IsRoleExactly}
+use Rattle.smith_validate.specs.Instances.{Surface, externs_in, externs_of, place_of}
+use Rattle.smith_validate.specs.Places.{IsBefore, IsInside, IsOpen, IsUnder}
 use Rattle.smith_validate.specs.Tables.{AreAdded, AreExact, Fits, IsGrown, IsLive, names_in}
 use Rattle.smith_validate.specs.declared.body.Body.{Body as KeptBody}
 use Rattle.smith_validate.specs.declared.body.Exported.{Exported}
 use Rattle.smith_validate.specs.declared.body.Role.{Role}
 use Rattle.smith_validate.specs.declared.body.Role.TheVariants.{Names as Naming, Exporting}
 use Rattle.smith_validate.specs.declared.facts.Facts.{Facts as KeptFacts}
-use Rattle.smith_validate.specs.declared.instances.Exposed.{Exposed}
+use Rattle.smith_validate.specs.declared.exposure.Exposure.{Exposure}
 use Rattle.smith_validate.specs.declared.known.Known.{Known}
 use Rattle.smith_validate.specs.declared.known.Scope.{Scope}
 use Rattle.smith_validate.proofs.Attaining.{Names, attains_moves}
@@ -28,25 +28,60 @@ use Rattle.smith_validate.proofs.Ids.{Moves, closed_before, inside_under, moves_
 use Rattle.smith_validate.proofs.Knowing.{grown_externs, grown_live, grown_long, grown_names, grown_place, grown_same}
 use Rattle.smith_validate.proofs.Knowing.{known_as, known_push, names_grown, next_at, next_is}
 use Rattle.smith_validate.proofs.Names.{among_cases, sub_left}
+use Rattle.smith_validate.proofs.Opened.{live_known}
 
-pub exposed_grown : (place : Id) (table new : List Surface) (s : Exposed) (ids : List Id) → IsGrown place table new
-    → ((id : Id) → is_among ids id ≡ true → IsBefore 0 place id) → IsExposed table s [] ids → IsExposed new s [] ids
-exposed_grown place table new s ids g before x = record {
-  opened = λ n id l a i. by_length n id l a i (ltb n (length table)) refl;
-  names = λ n e.
-      let h = x.names n e in
-      (grown_long place table new g n h.0, λ id a. h.1 id (subst (λ xs. is_among (names_of xs) id ≡ true) (grown_externs place table new g n h.0) a));
-}
-  where
-    by_length : (n : ℕ) (id : Id) → IsLive new n → is_among ids id ≡ true → IsInside id (place_of new n) → (t : Bool) → ltb n (length table) ≡ t
-        → (is_exposed s n ≡ true) ⊎ IsOpening [] n
-    by_length n id l a i true e =
-        let h = ltb-true n (length table) e in
-        x.opened n id (grown_live place table new g n h l) a (subst (λ p. IsInside id p) (grown_place place table new g n h) i)
-    by_length n id l a i false e =
-        let h = ltb-false n (length table) e in
-        absurd (not_under 0 place id (before id a)
-        (under_then id (place_of new n) place (inside_under id (place_of new n) i) (g.places n (omega (arith, h)) l)))
+module _ (place : Id) (table new : List Surface) (e : Exposure) (ids : List Id) (added : AreAdded place table) (g : IsGrown place table new)
+    (before : (id : Id) → is_among ids id ≡ true → IsBefore 0 place id) (x : IsExposure table e ids) where
+  -- it is one of those before, of which that holds
+  was_before : {P : Type 0} (n : ℕ) → IsLive new n → (n < length table → P) → (IsUnder (place_of new n) place → P) → P
+  was_before {P} n l earlier later = by_length (ltb n (length table)) refl
+    where
+      by_length : (t : Bool) → ltb n (length table) ≡ t → P
+      by_length true e = earlier (ltb-true n (length table) e)
+      by_length false e = let h = ltb-false n (length table) e in later (g.places n (omega (arith, h)) l)
+
+  not_within : {P : Type 0} (n : ℕ) (id : Id) → is_among ids id ≡ true → IsInside id (place_of new n) → IsUnder (place_of new n) place → P
+  not_within n id a i u = absurd (not_under 0 place id (before id a) (under_then id (place_of new n) place (inside_under id (place_of new n) i) u))
+
+  -- what it names, and where it was added
+  named_was : (n : ℕ) (id : Id) → n < length table → is_among (names_of (externs_of new n)) id ≡ true → is_among (names_of (externs_of table n)) id ≡ true
+  named_was n id h a = subst (λ xs. is_among (names_of xs) id ≡ true) (grown_externs place table new g n h) a
+
+  named_is : (n : ℕ) (id : Id) → n < length table → is_among (names_of (externs_of table n)) id ≡ true → is_among (names_of (externs_of new n)) id ≡ true
+  named_is n id h a = subst (λ xs. is_among (names_of xs) id ≡ true) (sym (grown_externs place table new g n h)) a
+
+  inside_was : (n : ℕ) (id : Id) → n < length table → IsInside id (place_of new n) → IsInside id (place_of table n)
+  inside_was n id h i = subst (λ p. IsInside id p) (grown_place place table new g n h) i
+
+  listed_short : (m : ℕ) → IsListed e.later.items m → m < length table
+  listed_short m l = live_known table m (x.live m l)
+
+  pub exposure_grown : IsExposure new e ids
+  exposure_grown = record {
+    opened = λ n id l a i.
+        was_before n l
+        (λ h. elim (x.opened n id (grown_live place table new g n h l) a (inside_was n id h i)) [
+          | inl y ↦ inl y
+          | inr y ↦ inr (record { by = y.by; exposed = y.exposed; names = named_is y.by id (x.names y.by y.exposed).0 y.names })
+        ])
+        (not_within n id a i);
+    within = λ m n id s l a i.
+        let k = x.names m s in
+        let was = named_was m id k.0 a in
+        was_before n l
+        (λ h. elim (x.within m n id s (grown_live place table new g n h l) was (inside_was n id h i)) [
+          | inl y ↦ inl y
+          | inr y ↦ inr (record { by = y.by; listed = y.listed; before = y.before; names = named_is y.by id (listed_short y.by y.listed) y.names })
+        ])
+        (not_within n id (k.1 id was) i);
+    reached = λ m n s l u.
+        let was = subst (λ p. IsUnder p (place_of new n)) (grown_place place table new g m (listed_short m s)) u in
+        was_before n l
+        (λ h. x.reached m n s (grown_live place table new g n h l) (subst (λ p. IsUnder (place_of table m) p) (grown_place place table new g n h) was))
+        (λ v. absurd (not_under 0 place (place_of table m) (added.before m (x.live m s)) (under_then (place_of table m) (place_of new n) place was v)));
+    live = λ m s. subst (λ p. ¬ (p ≡ [])) (sym (grown_place place table new g m (listed_short m s))) (x.live m s);
+    names = λ n s. let k = x.names n s in (grown_long place table new g n k.0, λ id a. k.1 id (named_was n id k.0 a));
+  }
 
 module _ (table new : List Surface) (old place around : Id) (named more : List Id) (m : Moves old place)
     (n : Names old named more) (g : IsGrown old table new) where
@@ -92,10 +127,11 @@ module _ (asks : Bool) (k : Known) (o : KeptBody) (b : Body) (outer : List FactS
   role_moves new next m g (Naming s) r own at c i e w = (
     r.0,
     (
-      subst (λ xs. IsExposed new s.imported [] (names_of xs)) (sym i) (exposed_grown place table new s.imported (imported b) g imports_before r.1.0),
-      subst (λ xs. IsExposed new s.exported [] (names_of xs ++ names_of c.exports)) (sym i)
-          (subst (λ xs. IsExposed new s.exported [] (names_of b.imports ++ names_of xs)) (sym e)
-          (exposed_grown place table new s.exported (exported b) g exported_before r.1.1)),
+      subst (λ xs. IsExposure new s.imported (names_of xs)) (sym i)
+          (exposure_grown place table new s.imported (imported b) h.known.added g imports_before r.1.0),
+      subst (λ xs. IsExposure new s.exported (names_of xs ++ names_of c.exports)) (sym i)
+          (subst (λ xs. IsExposure new s.exported (names_of b.imports ++ names_of xs)) (sym e)
+          (exposure_grown place table new s.exported (exported b) h.known.added g exported_before r.1.1)),
     ),
   )
   role_moves new next m g (Exporting x) r own at c i e w = (

@@ -12,7 +12,8 @@ use Rattle.smith_syntax.specs.declared.deftype.ComponentTypeRef.TheVariants as t
 use Rattle.smith_tree.specs.Bodies.{Body, after_export, after_import, equal_extern, equal_facts, exported_facts, externs_at, function_extern}
 use Rattle.smith_tree.specs.Facts.{Extern, FactScope, Facts, Id, id_at}
 use Rattle.smith_tree.specs.Validates.{names_of}
-use Rattle.smith_validate.specs.Exact.{AreExportsExactly, AreKnown, IsExposed, IsKeptExactly, IsNumberOf, IsRoleExactly}
+use Rattle.smith_validate.specs.Deferring.{IsExposure}
+use Rattle.smith_validate.specs.Exact.{AreExportsExactly, AreKnown, IsKeptExactly, IsNumberOf, IsRoleExactly}
 use Rattle.smith_validate.specs.Exact.{IsRoleExported, IsKeptBody}
 use Rattle.smith_validate.specs.Externs.{exported_of}
 use Rattle.smith_validate.specs.Instances.{Surface}
@@ -112,9 +113,9 @@ module _ (asks : Bool) (k : Known) (r : Role) (b : Body) (outer : List FactScope
     role_after next m n (Naming s) c i e at w = (
       w.0,
       (
-        subst (λ ys. IsExposed table s.imported [] (names_of ys)) (sym i) w.1.0,
-        subst (λ ys. IsExposed table s.exported [] (names_of ys ++ names_of c.exports)) (sym i)
-            (subst (λ ys. IsExposed table s.exported [] (names_of b.imports ++ names_of ys)) (sym e) w.1.1),
+        subst (λ ys. IsExposure table s.imported (names_of ys)) (sym i) w.1.0,
+        subst (λ ys. IsExposure table s.exported (names_of ys ++ names_of c.exports)) (sym i)
+            (subst (λ ys. IsExposure table s.exported (names_of b.imports ++ names_of ys)) (sym e) w.1.1),
       ),
     )
     role_after next m n (Exporting x) c i e at w = (

@@ -9,7 +9,8 @@ use Rattle.smith_tree.specs.Bodies.{Body, after_import, externs_at}
 use Rattle.smith_tree.specs.Facts.{Extern, FactScope, Id, id_at}
 use Rattle.smith_tree.specs.Validates.{names_of}
 use Rattle.smith_validate.specs.Attained.{Attains}
-use Rattle.smith_validate.specs.Exact.{AreExportsExactly, AreNamedFor, IsExposed, IsPieceExactly, IsRoleExactly}
+use Rattle.smith_validate.specs.Deferring.{IsExposure}
+use Rattle.smith_validate.specs.Exact.{AreExportsExactly, AreNamedFor, IsPieceExactly, IsRoleExactly}
 use Rattle.smith_validate.specs.Exact.{IsRoleExported, IsKeptBody}
 use Rattle.smith_validate.specs.Externs.{extern_of}
 use Rattle.smith_validate.specs.Instances.{Surface, externs_in, refers_of, uses_in}
@@ -93,8 +94,8 @@ module _ (asks : Bool) (k : Known) (r : Role) (b : Body) (outer : List FactScope
       by_role (Names s) y = (
         y.0,
         (
-          subst (λ xs. IsExposed table s.imported [] (names_of xs)) (sym same) y.1.0,
-          subst (λ xs. IsExposed table s.exported [] (names_of xs ++ names_of b.exports)) (sym same) y.1.1,
+          subst (λ xs. IsExposure table s.imported (names_of xs)) (sym same) y.1.0,
+          subst (λ xs. IsExposure table s.exported (names_of xs ++ names_of b.exports)) (sym same) y.1.1,
         ),
       )
       by_role (Exporting x) y = y
@@ -107,6 +108,6 @@ module _ (asks : Bool) (k : Known) (r : Role) (b : Body) (outer : List FactScope
       same = ap (λ xs. b.exports ++ xs) e ∙ append-nil b.exports
 
       by_role : (x : Role) → IsRoleExactly table outer named asks x b → IsRoleExported table outer named asks x b (externs_at b.own outer to)
-      by_role (Names s) y = (y.0, (y.1.0, subst (λ xs. IsExposed table s.exported [] (names_of b.imports ++ names_of xs)) (sym same) y.1.1))
+      by_role (Names s) y = (y.0, (y.1.0, subst (λ xs. IsExposure table s.exported (names_of b.imports ++ names_of xs)) (sym same) y.1.1))
       by_role (Exporting x) y =
           (y.0, subst (λ xs. AreExportsExactly table place (id_at outer) full x xs) (sym same) y.1)

@@ -284,7 +284,7 @@ use_missing (Some u) i e = absurd (let z : None ≡ Some (with_next i u) = e in 
 
 -- All uses are done.
 pub reached : (table : List Surface) (all : List InstanceType) (u : Use) (before : List Id) (s : Exposed) → IsOnTheWay table all u before s []
-    → Meets table u s before
+    → Meets table u (IsSettled table s) before
 reached table all u before s on = record {
   met = on.pending.met;
   settled = subst (λ ids. IsSettled table s ids) on.pending.named_is on.settled;

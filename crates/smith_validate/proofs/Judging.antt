@@ -44,6 +44,11 @@ pub on_all : {A : Type 0} (r : Result A Stop) {P Q R S : Type 0} → (P → Q �
 on_all (Ok x) {P} {Q} {R} {S} f p q s = f p q s
 on_all (Err e) {P} {Q} {R} {S} f p q s = tt
 
+pub on_five : {A : Type 0} (r : Result A Stop) {P Q R S T V : Type 0} → (P → Q → R → S → T → V)
+    → OnOk r P → OnOk r Q → OnOk r R → OnOk r S → OnOk r T → OnOk r V
+on_five (Ok x) {P} {Q} {R} {S} {T} {V} f p q s t v = f p q s t v
+on_five (Err e) {P} {Q} {R} {S} {T} {V} f p q s t v = tt
+
 pub on_judged : {A : Type 0} (r : Result A Stop) (R : Demands → Type 0) {P Q S : Type 0} → (P → Q → R everything → S)
     → OnOk r P → OnOk r Q → Judges r R → OnOk r S
 on_judged (Ok x) R {P} {Q} {S} f p q j = f p q j

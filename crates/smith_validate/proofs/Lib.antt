@@ -16,6 +16,7 @@ pub mod Sets
 pub mod TypeSteps
 pub mod Ids
 pub mod Opened
+pub mod Deferring
 pub mod Attaining
 pub mod Knowing
 pub mod Typing

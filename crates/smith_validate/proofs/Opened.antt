@@ -48,7 +48,7 @@ live_known (e ∷ table) zero l = omega arith
 live_known (e ∷ table) (suc n) l = let h = live_known table n l in omega (arith, h)
 
 module _ (table : List Surface) where
-  seen_live : (bound n : ℕ) (around : Id) → IsSeen table bound around n → IsLive table n
+  pub seen_live : (bound n : ℕ) (around : Id) → IsSeen table bound around n → IsLive table n
   seen_live bound n around s = λ e. let z : (s.index ∷ s.scope) ≡ [] = sym s.place_is ∙ e in cc
 
   pub exposed_sub : (s : Exposed) (us : List (Use × ℕ)) (a b : List Id) → Sub a b → Sub b a → IsExposed table s us a → IsExposed table s us b

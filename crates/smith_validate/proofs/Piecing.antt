@@ -11,7 +11,8 @@ use Rattle.smith_tree.specs.Bodies.{externs_at}
 use Rattle.smith_tree.specs.Facts.{Extern, FactScope, Facts, Id, id_at}
 use Rattle.smith_tree.specs.Validates.{RefersTo, names_of}
 use Rattle.smith_validate.specs.Attained.{Attains, AttainsOuter}
-use Rattle.smith_validate.specs.Exact.{IsExposed, IsKeptExactly, IsNumberOf, IsPieceExactly, placed_by}
+use Rattle.smith_validate.specs.Deferring.{IsExposure}
+use Rattle.smith_validate.specs.Exact.{IsKeptExactly, IsNumberOf, IsPieceExactly, placed_by}
 use Rattle.smith_validate.specs.Exposing.{IsMet, named_after, number_of}
 use Rattle.smith_validate.specs.Externs.{extern_of, kept_extern, kept_instance}
 use Rattle.smith_validate.specs.Instances.{Surface, Piece, equal, externs_in, externs_of, place_of, refers_of, single, uses_in, whole}
@@ -23,6 +24,7 @@ use Rattle.smith_validate.specs.declared.body.Extern.{Extern as KeptExtern}
 use Rattle.smith_validate.specs.declared.facts.Facts.{Facts as KeptFacts}
 use Rattle.smith_validate.specs.declared.facts.Outermost.{Outermost}
 use Rattle.smith_validate.specs.declared.facts.Outermost.TheVariants.{Unnamed, Scope, Nothing}
+use Rattle.smith_validate.specs.declared.exposure.Exposure.{Exposure}
 use Rattle.smith_validate.specs.declared.instances.Exposed.{Exposed}
 use Rattle.smith_validate.specs.declared.instances.Use.{Use}
 use Rattle.smith_validate.specs.declared.instances.Use.TheVariants.{Instance, Equal}
@@ -180,39 +182,51 @@ module _ (table : List Surface) (place around : Id) (full : List Id) (k : KeptEx
       by_piece (equal n ns) is h = let z : Equal n ≡ u = cc in subst (λ v. IsMet table v named) z h.0
 
   -- what is named at the place is in no type of instances
-  at_place : (s : Exposed) (named : List Id) (more : List Id) → ((id : Id) → is_among more id ≡ true → id ≡ place)
-      → IsExposed table s [] named → IsExposed table s [] (named ++ more)
-  at_place s named more one x = grind (arith, among_cases, not_around, inside_under, sub_left)
+  at_place : (s : Exposure) (named : List Id) (more : List Id) → ((id : Id) → is_among more id ≡ true → id ≡ place)
+      → IsExposure table s named → IsExposure table s (named ++ more)
+  at_place s named more one x = record {
+    opened = λ n id l h w.
+        elim (among_cases named more id h) [
+          | inl y ↦ x.opened n id l y w
+          | inr y ↦ absurd
+              (not_around 0 place (place_of table n) (added.before n l)
+              (subst (λ p. IsUnder p (place_of table n)) (one id y) (inside_under id (place_of table n) w)))
+        ];
+    within = x.within;
+    reached = x.reached;
+    live = x.live;
+    names = λ n h. let y = x.names n h in (y.0, λ id a. sub_left named more id (y.1 id a));
+  }
 
   -- what is named with it, if it is of no type of instances
-  pub single_exposed : (s : Exposed) (named : List Id) → k.used ≡ None → IsExposed table s [] named → IsExposed table s [] (named ++ names_of xs)
+  pub single_exposed : (s : Exposure) (named : List Id) → k.used ≡ None → IsExposure table s named → IsExposure table s (named ++ names_of xs)
   single_exposed s named e x =
       let is = i.used_is ∙ ap option_to_list e in
-      subst (λ ys. IsExposed table s [] (named ++ names_of ys)) (sym i.externs_are) (by_piece i.piece is i.placed)
+      subst (λ ys. IsExposure table s (named ++ names_of ys)) (sym i.externs_are) (by_piece i.piece is i.placed)
     where
       by_piece : (p : Piece) → uses_in (p ∷ []) ≡ [] → ((id : Id) → is_among (placed_by p) id ≡ true → id ≡ place)
-          → IsExposed table s [] (named ++ names_of (externs_in table (p ∷ [])))
+          → IsExposure table s (named ++ names_of (externs_in table (p ∷ [])))
       by_piece (single y) is f = at_place s named (y.names ++ []) (λ id h. f id (subst (λ ys. is_among ys id ≡ true) (append-nil y.names) h)) x
       by_piece (whole n) is f = absurd (let z : Instance n ∷ [] ≡ [] = is in cc)
       by_piece (equal n ns) is f = absurd (let z : Equal n ∷ [] ≡ [] = is in cc)
 
   -- if it is of one
-  pub used_exposed : (s : Exposed) (named : List Id) (u : Use) → k.used ≡ Some u → IsExposed table s [] (named_after table u named)
-      → IsExposed table s [] (named ++ names_of xs)
+  pub used_exposed : (s : Exposure) (named : List Id) (u : Use) → k.used ≡ Some u → IsExposure table s (named_after table u named)
+      → IsExposure table s (named ++ names_of xs)
   used_exposed s named u e x =
-      subst (λ ys. IsExposed table s [] (named ++ names_of ys)) (sym i.externs_are)
+      subst (λ ys. IsExposure table s (named ++ names_of ys)) (sym i.externs_are)
       (by_piece i.piece (i.used_is ∙ ap option_to_list e) i.placed)
     where
       by_piece : (p : Piece) → uses_in (p ∷ []) ≡ u ∷ [] → ((id : Id) → is_among (placed_by p) id ≡ true → id ≡ place)
-          → IsExposed table s [] (named ++ names_of (externs_in table (p ∷ [])))
+          → IsExposure table s (named ++ names_of (externs_in table (p ∷ [])))
       by_piece (single y) is f = absurd (let z : [] ≡ u ∷ [] = is in cc)
       by_piece (whole n) is f =
           let z : Instance n ≡ u = cc in
-          let y = subst (λ v. IsExposed table s [] (named_after table v named)) (sym z) x in
-          subst (λ ys. IsExposed table s [] (named ++ names_of ys)) (sym (append-nil (externs_of table n))) y
+          let y = subst (λ v. IsExposure table s (named_after table v named)) (sym z) x in
+          subst (λ ys. IsExposure table s (named ++ names_of ys)) (sym (append-nil (externs_of table n))) y
       by_piece (equal n ns) is f =
           let z : Equal n ≡ u = cc in
-          let y = subst (λ v. IsExposed table s [] (named_after table v named)) (sym z) x in
+          let y = subst (λ v. IsExposure table s (named_after table v named)) (sym z) x in
           at_place s named (ns ++ []) (λ id h. f id (subst (λ ys. is_among ys id ≡ true) (append-nil ns) h)) y
 
   -- a child of the scope that types of instances name was closed there

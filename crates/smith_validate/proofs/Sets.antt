@@ -6,18 +6,19 @@ use Rattle.smith_tree.specs.Bodies.{Body}
 use Rattle.smith_tree.specs.Facts.{Extern, Id}
 use Rattle.smith_tree.specs.Validates.{RefersTo, exported, imported, names_of}
 use Rattle.smith_validate.specs.Bodies.{AreSets}
+use Rattle.smith_validate.specs.Deferring.{AreSettled}
 use Rattle.smith_validate.specs.Exposing.{Meets, named_after, number_of}
 use Rattle.smith_validate.specs.Externs.{IsPiece, with_exports, with_imports}
 use Rattle.smith_validate.specs.Instances.{Surface, outside_of, reach}
 use Rattle.smith_validate.specs.Marks.{Within, is_nothing, is_within}
 use Rattle.smith_validate.specs.declared.body.Extern.{Extern as KeptExtern}
 use Rattle.smith_validate.specs.declared.body.Sets.{Sets}
-use Rattle.smith_validate.specs.declared.instances.Exposed.{Exposed}
+use Rattle.smith_validate.specs.declared.exposure.Exposure.{Exposure}
 use Rattle.smith_validate.specs.declared.instances.Use.{Use}
 use Rattle.smith_validate.proofs.Covering.{covers_nothing, covers_within}
 use Rattle.smith_validate.proofs.Names.{Sub, sub_both, sub_left, sub_right, sub_same, sub_then, within_sub}
 use Rattle.smith_validate.proofs.Roles.{UseOf, single_met, use_of}
-use Rattle.smith_validate.proofs.Tables.{settled_sub}
+use Rattle.smith_validate.proofs.Deferring.{are_sub}
 use Rattle.smith_tree.proofs.Named.{names_of_both as names_append}
 
 module _ (b : Body) (xs : List Extern) where
@@ -43,8 +44,8 @@ module _ (table : List Surface) (names : List (List Id)) (k : KeptExtern) (xs : 
     pub outside_within : Within named (reach table i.piece) → Within named (outside_of table (number_of u))
     outside_within w = subst (λ ids. Within named ids) (use_is u e).reach_is w
 
-    pub refers_met : (s : Exposed) → Meets table u s named → RefersTo named xs
-    refers_met s m = subst (λ ys. RefersTo named ys) (sym i.externs_are) ((use_is u e).met named m.met)
+    pub refers_met : (S : List Id → Type 0) → Meets table u S named → RefersTo named xs
+    refers_met S m = subst (λ ys. RefersTo named ys) (sym i.externs_are) ((use_is u e).met named m.met)
 
     pub after_met : Sub (named_after table u named) (named ++ names_of xs)
     after_met = subst (λ ys. Sub (named_after table u named) (named ++ names_of ys)) (sym i.externs_are) ((use_is u e).after named)
@@ -56,10 +57,10 @@ module _ (table : List Surface) (names : List (List Id)) (s : Sets) (b : Body) (
     import_single e = (
       refers_single table names k xs i (imported b) e (covers_nothing names k.refers (imported b) (reach table i.piece) none i.covered),
       record {
-        imported_are = settled_sub table s.imported (imported b) (imported (with_imports b xs))
+        imported_are = are_sub table s.imported (imported b) (imported (with_imports b xs))
             (sub_then (imported b) (imported b ++ names_of xs) (imported (with_imports b xs)) (sub_left (imported b) (names_of xs)) (imports_grow b xs))
             sets.imported_are;
-        exported_are = settled_sub table s.exported (exported b) (exported (with_imports b xs))
+        exported_are = are_sub table s.exported (exported b) (exported (with_imports b xs))
             (sub_then (exported b) (exported b ++ names_of xs) (exported (with_imports b xs)) (sub_left (exported b) (names_of xs)) (imports_export b xs))
             sets.exported_are;
       },
@@ -69,15 +70,16 @@ module _ (table : List Surface) (names : List (List Id)) (s : Sets) (b : Body) (
     import_within u e named =
         outside_within table names k xs i named u e (covers_nothing names k.refers named (reach table i.piece) none i.covered)
 
-    pub import_met : (u : Use) (e : k.used ≡ Some u) (n : Sets) → Meets table u n.imported (imported b) → Meets table u n.exported (exported b)
+    pub import_met : (u : Use) (e : k.used ≡ Some u) (n : Sets) → Meets table u (AreSettled table n.imported) (imported b)
+        → Meets table u (AreSettled table n.exported) (exported b)
         → RefersTo (imported b) xs × AreSets table n (with_imports b xs)
     import_met u e n m o = (
-      refers_met table names k xs i (imported b) u e n.imported m,
+      refers_met table names k xs i (imported b) u e (AreSettled table n.imported) m,
       record {
-        imported_are = settled_sub table n.imported (named_after table u (imported b)) (imported (with_imports b xs))
+        imported_are = are_sub table n.imported (named_after table u (imported b)) (imported (with_imports b xs))
             (sub_then (named_after table u (imported b)) (imported b ++ names_of xs) (imported (with_imports b xs))
             (after_met table names k xs i (imported b) u e) (imports_grow b xs)) m.settled;
-        exported_are = settled_sub table n.exported (named_after table u (exported b)) (exported (with_imports b xs))
+        exported_are = are_sub table n.exported (named_after table u (exported b)) (exported (with_imports b xs))
             (sub_then (named_after table u (exported b)) (exported b ++ names_of xs) (exported (with_imports b xs))
             (after_met table names k xs i (exported b) u e) (imports_export b xs)) o.settled;
       },
@@ -96,7 +98,7 @@ module _ (table : List Surface) (names : List (List Id)) (s : Sets) (b : Body) (
       refers_single table all k xs i (exported b) e export_reach,
       record {
         imported_are = sets.imported_are;
-        exported_are = settled_sub table s.exported (exported b) (exported (with_exports b xs))
+        exported_are = are_sub table s.exported (exported b) (exported (with_exports b xs))
             (sub_then (exported b) (exported b ++ names_of xs) (exported (with_exports b xs)) (sub_left (exported b) (names_of xs)) (exports_grow b xs))
             sets.exported_are;
       },
@@ -105,13 +107,13 @@ module _ (table : List Surface) (names : List (List Id)) (s : Sets) (b : Body) (
     pub export_within : (u : Use) (e : k.used ≡ Some u) → Within (exported b) (outside_of table (number_of u))
     export_within u e = outside_within table all k xs i (exported b) u e export_reach
 
-    pub export_met : (u : Use) (e : k.used ≡ Some u) (n : Exposed) → Meets table u n (exported b)
+    pub export_met : (u : Use) (e : k.used ≡ Some u) (n : Exposure) → Meets table u (AreSettled table n) (exported b)
         → RefersTo (exported b) xs × AreSets table (record { imported = s.imported; exported = n }) (with_exports b xs)
     export_met u e n m = (
-      refers_met table all k xs i (exported b) u e n m,
+      refers_met table all k xs i (exported b) u e (AreSettled table n) m,
       record {
         imported_are = sets.imported_are;
-        exported_are = settled_sub table n (named_after table u (exported b)) (exported (with_exports b xs))
+        exported_are = are_sub table n (named_after table u (exported b)) (exported (with_exports b xs))
             (sub_then (named_after table u (exported b)) (exported b ++ names_of xs) (exported (with_exports b xs))
             (after_met table all k xs i (exported b) u e) (exports_grow b xs)) m.settled;
       },

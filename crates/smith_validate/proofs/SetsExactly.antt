@@ -6,7 +6,8 @@ use Rattle.smith_input.specs.NewNames.{is_among}
 use Rattle.smith_tree.specs.Bodies.{Body}
 use Rattle.smith_tree.specs.Facts.{Extern, Id}
 use Rattle.smith_tree.specs.Validates.{RefersTo, exported, imported, names_of}
-use Rattle.smith_validate.specs.Exact.{AreNamedFor, AreSetsExactly, IsExposed, IsPieceExactly}
+use Rattle.smith_validate.specs.Deferring.{IsExposure}
+use Rattle.smith_validate.specs.Exact.{AreNamedFor, AreSetsExactly, IsPieceExactly}
 use Rattle.smith_validate.specs.Exposing.{IsMet, named_after}
 use Rattle.smith_validate.specs.Externs.{with_exports, with_imports}
 use Rattle.smith_validate.specs.Instances.{Surface}
@@ -16,29 +17,29 @@ use Rattle.smith_validate.specs.declared.body.Extern.{Extern as KeptExtern}
 use Rattle.smith_validate.specs.declared.body.Sets.{Sets}
 use Rattle.smith_validate.specs.declared.facts.Outermost.{Outermost}
 use Rattle.smith_validate.specs.declared.facts.Outermost.TheVariants.{Unnamed, Scope, Nothing}
-use Rattle.smith_validate.specs.declared.instances.Exposed.{Exposed}
+use Rattle.smith_validate.specs.declared.exposure.Exposure.{Exposure}
 use Rattle.smith_validate.specs.declared.instances.Use.{Use}
 use Rattle.smith_validate.proofs.Attaining.{not_both}
 use Rattle.smith_validate.proofs.Names.{Sub, among_cases, refers_sub, sub_left, sub_right}
-use Rattle.smith_validate.proofs.Opened.{exposed_sub}
+use Rattle.smith_validate.proofs.Deferring.{exposure_sub}
 use Rattle.smith_validate.proofs.Piecing.{AttainedBy, not_closed, not_referred, piece_met, single_exposed, used_exposed}
 use Rattle.smith_validate.proofs.Sets.{imports_export}
 use Rattle.smith_tree.proofs.Named.{names_of_both as names_append}
 
-module _ (table : List Surface) (s : Exposed) (b : Body) (xs : List Extern) where
+module _ (table : List Surface) (s : Exposure) (b : Body) (xs : List Extern) where
   -- for imports
-  after_import : IsExposed table s [] (imported b ++ names_of xs) → IsExposed table s [] (imported (with_imports b xs))
-  after_import x = subst (λ ids. IsExposed table s [] ids) (sym (names_append b.imports xs)) x
+  after_import : IsExposure table s (imported b ++ names_of xs) → IsExposure table s (imported (with_imports b xs))
+  after_import x = subst (λ ids. IsExposure table s ids) (sym (names_append b.imports xs)) x
 
   -- for exports, after an import
   import_back : Sub (exported (with_imports b xs)) (exported b ++ names_of xs)
   import_back = grind (arith, among_cases, names_append, sub_left, sub_right)
 
-  after_import_too : IsExposed table s [] (exported b ++ names_of xs) → IsExposed table s [] (exported (with_imports b xs))
-  after_import_too x = exposed_sub table s [] (exported b ++ names_of xs) (exported (with_imports b xs)) (imports_export b xs) import_back x
+  after_import_too : IsExposure table s (exported b ++ names_of xs) → IsExposure table s (exported (with_imports b xs))
+  after_import_too x = exposure_sub table s (exported b ++ names_of xs) (exported (with_imports b xs)) (imports_export b xs) import_back x
 
   -- for exports, after an export
-  also_exported : IsExposed table s [] (exported b ++ names_of xs) → IsExposed table s [] (exported (with_exports b xs))
+  also_exported : IsExposure table s (exported b ++ names_of xs) → IsExposure table s (exported (with_exports b xs))
   also_exported x = grind (arith, append_assoc, names_append)
 
 module _ (table : List Surface) (place around : Id) (full : List Id) (k : KeptExtern) (xs : List Extern) (added : AreAdded place table)
@@ -49,8 +50,8 @@ module _ (table : List Surface) (place around : Id) (full : List Id) (k : KeptEx
     after_import_too table s.exported b xs (single_exposed table place around full k xs added i s.exported (exported b) e a.1),
   )
 
-  pub import_used : (s : Sets) (u : Use) → k.used ≡ Some u → IsExposed table s.imported [] (named_after table u (imported b))
-      → IsExposed table s.exported [] (named_after table u (exported b)) → AreSetsExactly table s (with_imports b xs)
+  pub import_used : (s : Sets) (u : Use) → k.used ≡ Some u → IsExposure table s.imported (named_after table u (imported b))
+      → IsExposure table s.exported (named_after table u (exported b)) → AreSetsExactly table s (with_imports b xs)
   import_used s u e x y = (
     after_import table s.imported b xs (used_exposed table place around full k xs added i s.imported (imported b) u e x),
     after_import_too table s.exported b xs (used_exposed table place around full k xs added i s.exported (exported b) u e y),
@@ -59,7 +60,7 @@ module _ (table : List Surface) (place around : Id) (full : List Id) (k : KeptEx
   pub export_alone : (s : Sets) → AreSetsExactly table s b → k.used ≡ None → AreSetsExactly table s (with_exports b xs)
   export_alone s a e = (a.0, also_exported table s.exported b xs (single_exposed table place around full k xs added i s.exported (exported b) e a.1))
 
-  pub export_used : (s : Sets) (n : Exposed) (u : Use) → AreSetsExactly table s b → k.used ≡ Some u → IsExposed table n [] (named_after table u (exported b))
+  pub export_used : (s : Sets) (n : Exposure) (u : Use) → AreSetsExactly table s b → k.used ≡ Some u → IsExposure table n (named_after table u (exported b))
       → AreSetsExactly table (record { imported = s.imported; exported = n }) (with_exports b xs)
   export_used s n u a e x = (a.0, also_exported table n b xs (used_exposed table place around full k xs added i n (exported b) u e x))
 

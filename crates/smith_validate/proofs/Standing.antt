@@ -1,20 +1,23 @@
 -- What is known after a step.
 use Rattle.std.proofs.Common.{◌≡◌, suc, ◌+◌, true, List, [], ◌∷◌, ◌++◌, length, map, reverse, refl, sym, ap, ◌∙◌, subst, arith, append-nil, append_assoc}
-use Rattle.std.proofs.Common.{length-append, Result, Ok}
+use Rattle.std.proofs.Common.{ℕ, length-append, Result, Ok}
 use Rattle.std.proofs.lemmas.List.{length-reverse, reverse-append, reverse-reverse}
-use Rattle.std.specs.Prelude.{OnOk}
+use Rattle.std.specs.Prelude.{IfErr, OnOk}
 use Rattle.smith_syntax.specs.Scope.{empty_scope}
-use Rattle.smith_tree.specs.Counts.{ValidCounts, with_component}
+use Rattle.smith_tree.specs.CoreModules.{HasFewMemories}
+use Rattle.smith_tree.specs.Counts.{ValidCounts, with_component, with_module}
+use Rattle.smith_tree.specs.Demands.{Keeps}
 use Rattle.smith_tree.specs.Facts.{FactScope, Id}
-use Rattle.smith_tree.specs.Tree.{Part}
-use Rattle.smith_tree.specs.Validates.{names_of}
+use Rattle.smith_tree.specs.Tree.{Part, core_module}
+use Rattle.smith_tree.specs.Validates.{ValidPart, names_of}
 use Rattle.smith_read.specs.Walk.{closes, one, opens}
 use Rattle.smith_validate.specs.Bodies.{IsIn}
 use Rattle.smith_validate.specs.Counted.{counted}
 use Rattle.smith_validate.specs.Exact.{IsBodyExactly}
 use Rattle.smith_validate.specs.Instances.{IsTable, ScopesKept, Surface}
 use Rattle.smith_validate.specs.Kept.{kept_of, outer_in, own_in}
-use Rattle.smith_validate.specs.Parts.{IsNew, IsOpen, IsOpenBoth, StepsPart, StepsPartExactly}
+use Rattle.smith_validate.specs.Judges.{IsUnnamed, Judges}
+use Rattle.smith_validate.specs.Parts.{after_section, IsNew, IsOpen, IsOpenBoth, StepsPart, StepsPartExactly}
 use Rattle.smith_validate.specs.Stepping.{AreHeld, AreHeldExactly, Goes, IsEven, IsHeld, Stands, StandsExactly, State, closed, named_around, names_around}
 use Rattle.smith_validate.specs.Stepping.{next, root, scopes_of, with_nested}
 use Rattle.smith_validate.specs.Steps.{At, Later}
@@ -27,7 +30,7 @@ use Rattle.smith_validate.specs.declared.known.Known.{Known}
 use Rattle.smith_validate.specs.declared.known.Scope.{Scope}
 use Rattle.smith_validate.specs.declared.open.Open.{Open}
 use Rattle.smith_validate.proofs.DeclSteps.{in_entered, in_start, outer_kept, outer_sizes}
-use Rattle.smith_validate.proofs.Judging.{on_all, on_by}
+use Rattle.smith_validate.proofs.Judging.{later_none, never_unnamed, on_all, on_any, on_by, on_judged}
 use Rattle.smith_validate.proofs.PartsExactly.{begun_both, body_after_component, entered_begun, exactly_counted, open_begin}
 use Rattle.smith_validate.proofs.PartsExactly.{recounted, start_known, with_counts}
 use Rattle.smith_validate.proofs.Roles.{role_more, role_of}
@@ -133,6 +136,54 @@ module _ {A : Type 0} (r : Result A Stop) (c : Check) (known : Known) (o : Open)
 
 abbrev counted_in : Open → Counts → Open
 counted_in o m = record o { body = with_counts o.body m }
+
+-- ---- a core module
+
+module _ (r : Result (Unit {0}) Stop) (c : Check) (m : Counts) (text : List ℕ) (bound : IfErr r IsUnnamed)
+    (judged : ValidCounts (counted c.opens.own.body.counts) → Judges r (λ d. Keeps d.counts (ValidCounts (with_module (counted c.opens.own.body.counts)))
+    × Keeps d.memories (HasFewMemories text)))
+    (added : OnOk r (counted m ≡ with_module (counted c.opens.own.body.counts))) where
+  abbrev module_part : Part
+  module_part = core_module text
+
+  abbrev counted_now : Open
+  counted_now = counted_in c.opens.own m
+
+  module_judged : (at : At) (outer : List FactScope) (names : List (List Id)) (table : List Surface) → IsOpen c.known c.opens.own at outer names table
+      → Judges r (λ d. ValidPart d module_part at.0 outer at.1)
+  module_judged at outer names table h =
+      subst (λ n. Judges r (λ d. Keeps d.counts (ValidCounts (with_module n)) × Keeps d.memories (HasFewMemories text))) h.body.counts_are
+      (judged (subst ValidCounts (sym h.body.counts_are) h.body.small.1))
+
+  module_added : StepsPart r c.known c.opens.own c.known counted_now module_part
+  module_added = record {
+    judged = module_judged;
+    added = λ at outer names table h.
+        on_judged r (λ d. ValidPart d module_part at.0 outer at.1)
+        (λ e same v. later_none (IsOpen c.known counted_now) (after_section module_part at outer) outer names table (record {
+          body = record {
+            scopes = h.body.scopes;
+            size_is = h.body.size_is;
+            counts_are = e ∙ ap with_module h.body.counts_are;
+            small = (h.body.small.0, v.0);
+            role_is = role_of table names true c.opens.own.body.role at.1 (recounted at.1 (with_module at.1.counts)) refl refl h.body.role_is;
+          };
+          functions_are = h.functions_are;
+        }))
+        added added (module_judged at outer names table h);
+  }
+
+  module_exactly : StepsPartExactly r c.known c.opens.own c.known counted_now module_part
+  module_exactly = never_unnamed r (after_section module_part) bound (λ at outer named table h.
+      let then = recounted at.1 (with_module at.1.counts) in
+      on_any r (
+        [],
+        subst (λ t. IsBodyExactly true c.known (with_counts c.opens.own.body m) then outer named t) (sym (append-nil table))
+            (exactly_counted c.known c.opens.own.body at.1 outer named table m (with_module at.1.counts) h.exact),
+      ))
+
+  pub module_goes : Goes r c (with_here c c.known counted_now) (one module_part)
+  module_goes = one_goes r c c.known counted_now module_part module_added module_exactly (on_any r refl)
 
 -- ---- a component that begins
 

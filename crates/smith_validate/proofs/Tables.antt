@@ -5,7 +5,7 @@ use Rattle.std.proofs.lemmas.List.{get_or_append_left}
 use Rattle.smith_tree.specs.Facts.{FactScope, Facts, Id}
 use Rattle.smith_tree.specs.Validates.{names_of}
 use Rattle.smith_validate.specs.Exposing.{IsSettled}
-use Rattle.smith_validate.specs.Instances.{AreKept, Surface, Follow, IsInstanceType, IsKept, IsKnown, IsNumbered, IsTable}
+use Rattle.smith_validate.specs.Instances.{AreKept, AreOutward, Surface, Follow, IsInstanceType, IsKept, IsKnown, IsNumbered, IsTable}
 use Rattle.smith_validate.specs.Instances.{Piece, Rest, ScopesKept, equal, externs_in}
 use Rattle.smith_validate.specs.Instances.{externs_of, named_by, no_surface, outside_of, place_of, reach, reach_of, refers_of, single, whole}
 use Rattle.smith_validate.specs.Marks.{Covers, Within}
@@ -68,6 +68,16 @@ module _ (table more : List Surface) where
   pub rest_more : (named : List Id) (ps : List Piece) → Rest table named ps → Rest (table ++ more) named ps
   rest_more named [] f = tt
   rest_more named (p ∷ ps) f = (known_more p f.0, subst (λ ids. Within named ids) (sym (reach_more p f.0)) f.1, rest_more named ps f.2)
+
+  outside_still : (n : ℕ) → n < length table → Within (outside_of table n) (refers_of (externs_of table n))
+      → Within (outside_of (table ++ more) n) (refers_of (externs_of (table ++ more) n))
+  outside_still n h w = subst (λ e. Within e.outside (refers_of e.externs)) (sym (at_more n h)) w
+
+  pub outward_more : (named : List Id) (ps : List Piece) → Follow table named ps → AreOutward table ps → AreOutward (table ++ more) ps
+  outward_more named [] f o = tt
+  outward_more named (single x ∷ ps) f o = outward_more (named ++ x.names) ps f.2 o
+  outward_more named (whole n ∷ ps) f o = (outside_still n f.0 o.0, outward_more (named ++ named_by table (whole n)) ps f.2 o.1)
+  outward_more named (equal n names ∷ ps) f o = (outside_still n f.0 o.0, outward_more (named ++ names) ps f.2 o.1)
 
   pub type_more : (t : InstanceType) (e : Surface) → IsInstanceType table t e → IsInstanceType (table ++ more) t e
   type_more t e i = grind (arith, externs_in_more, follow_more, rest_more)

@@ -4,11 +4,10 @@ use Rattle.smith_tree.specs.Bodies.{Body, IsSmall}
 use Rattle.smith_tree.specs.Counts.{no_counts}
 use Rattle.smith_tree.specs.Demands.{everything}
 use Rattle.smith_tree.specs.Facts.{Extern, FactScope, Id}
-use Rattle.smith_tree.specs.Validates.{exported, imported, names_of}
+use Rattle.smith_tree.specs.Validates.{RefersTo, exported, imported, names_of}
 use Rattle.smith_validate.specs.Counted.{counted}
-use Rattle.smith_validate.specs.Exposure.{IsExposed}
-use Rattle.smith_validate.specs.Exposing.{IsSettled}
-use Rattle.smith_validate.specs.Instances.{Surface, Follow, IsTable, Piece, Rest, ScopesKept, externs_in, uses_in}
+use Rattle.smith_validate.specs.Deferring.{AreSettled, IsExposure}
+use Rattle.smith_validate.specs.Instances.{Surface, AreOutward, Follow, IsTable, Piece, Rest, ScopesKept, externs_in, uses_in}
 use Rattle.smith_validate.specs.Judges.{IsPassed}
 use Rattle.smith_validate.specs.Kept.{kept_of, outer_in, own_in, types_in}
 use Rattle.smith_validate.specs.Marks.{Covers, IsAbove, no_needs}
@@ -34,8 +33,8 @@ pub record IsIn (k : Known) (own : FactScope) (outer : List FactScope) (here : L
 
 -- What is named for imports and for exports is that.
 pub record AreSets (table : List Surface) (s : Sets) (b : Body) : Type 0 where
-  pub imported_are : IsSettled table s.imported (imported b)
-  pub exported_are : IsSettled table s.exported (exported b)
+  pub imported_are : AreSettled table s.imported (imported b)
+  pub exported_are : AreSettled table s.exported (exported b)
 
 -- What an instance type exports in these scopes is that.
 pub record AreExports (table : List Surface) (names : List (List Id)) (e : Exported) (xs : List Extern) : Type 0 where
@@ -46,6 +45,8 @@ pub record AreExports (table : List Surface) (names : List (List Id)) (e : Expor
   pub follow : Follow table outside pieces
   pub covered : Covers names e.refers outside
   pub rest : IsAbove e.refers.innermost (length names) → Rest table outside pieces
+  pub outward : e.refers_outside ≡ true → AreOutward table pieces
+  pub first : e.names_first ≡ true → RefersTo outside xs × AreSettled table e.named (outside ++ names_of xs)
   pub none : e.any ≡ false → xs ≡ []
 
 -- What is kept of imports and exports is of that. Names are asked but in an instance type.
@@ -55,9 +56,10 @@ IsRole table names asks (Exporting e) b = (asks ≡ false) × AreExports table n
 
 -- Nothing is imported or exported.
 abbrev pub IsFresh : Bool → Role → Type 0
-IsFresh asks (Names s) = (asks ≡ true) × ((table : List Surface) (named : List Id) → IsSettled table s.imported named × IsSettled table s.exported named)
-    × ((table : List Surface) → IsExposed table s.imported [] [] × IsExposed table s.exported [] [])
+IsFresh asks (Names s) = (asks ≡ true) × ((table : List Surface) (named : List Id) → AreSettled table s.imported named × AreSettled table s.exported named)
+    × ((table : List Surface) → IsExposure table s.imported [] × IsExposure table s.exported [])
 IsFresh asks (Exporting e) = (asks ≡ false) × (e.refers ≡ no_needs) × (e.uses.items ≡ []) × (e.any ≡ false)
+    × ((table : List Surface) (named : List Id) → AreSettled table e.named named)
 
 -- What is kept is of that, which is below the bounds.
 pub record IsBody (asks : Bool) (k : Known) (o : Kept) (b : Body) (outer : List FactScope) (names : List (List Id)) (table : List Surface) : Type 0 where

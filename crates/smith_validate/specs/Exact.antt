@@ -7,6 +7,7 @@ use Rattle.smith_tree.specs.Bodies.{Body}
 use Rattle.smith_tree.specs.Facts.{Extern, FactScope, Facts, Id, id_at, needs}
 use Rattle.smith_tree.specs.Validates.{exported, imported, names_of}
 use Rattle.smith_validate.specs.Attained.{Attains}
+use Rattle.smith_validate.specs.Deferring.{IsExposure}
 use Rattle.smith_validate.specs.Exposing.{number_of}
 pub use Rattle.smith_validate.specs.Exposure.{IsExposed, IsOpening, is_exposed}
 use Rattle.smith_validate.specs.Externs.{with_exports}
@@ -54,7 +55,7 @@ pub record AreKnown (kept : List (List KeptFacts)) (all : List InstanceType) (sc
 
 -- What is exposed for imports and for exports is that.
 abbrev pub AreSetsExactly : List Surface → Sets → Body → Type 0
-AreSetsExactly table s b = IsExposed table s.imported [] (imported b) × IsExposed table s.exported [] (exported b)
+AreSetsExactly table s b = IsExposure table s.imported (imported b) × IsExposure table s.exported (exported b)
 
 -- what an instance type in that scope exports
 pub record AreExportsExactly (table : List Surface) (place around : Id) (named : List Id) (e : Exported) (xs : List Extern) : Type 0 where

@@ -26,6 +26,12 @@ uses_of all n = elim (slice_get all n) [ None ↦ [] | Some t ↦ t.uses.items ]
 abbrev pub refers_own : List InstanceType → ℕ → Bool
 refers_own all n = elim (slice_get all n) [ None ↦ false | Some t ↦ t.refers_to_own ]
 
+abbrev pub outside_at : List InstanceType → ℕ → Bool
+outside_at all n = elim (slice_get all n) [ None ↦ false | Some t ↦ t.refers_outside ]
+
+abbrev pub first_at : List InstanceType → ℕ → Bool
+first_at all n = elim (slice_get all n) [ None ↦ false | Some t ↦ t.names_first ]
+
 abbrev pub is_settled : Exposed → ℕ → Bool
 is_settled s n = contains nat_cmp s.named n || contains nat_cmp s.settled n
 
@@ -68,10 +74,10 @@ module _ (table : List Surface) where
         × Fit u.0 named ps
         × (AreMet u.0 named ps → Within (named_past u.0 named ps) (refers_of (externs_of table (number_of u.0))) × IsPending us (named_past u.0 named ps))
 
--- A use is met, and what is settled then refers to what is named then.
-pub record Meets (table : List Surface) (u : Use) (s : Exposed) (named : List Id) : Type 0 where
+-- A use is met, and what is settled then is so by what is named then.
+pub record Meets (table : List Surface) (u : Use) (Settled : List Id → Type 0) (named : List Id) : Type 0 where
   pub met : IsMet table u named
-  pub settled : IsSettled table s (named_after table u named)
+  pub settled : Settled (named_after table u named)
 
 -- The goal of a use, if that was named before it.
 pub record IsGoal (table : List Surface) (u : Use) (before named : List Id) : Type 0 where

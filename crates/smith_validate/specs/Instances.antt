@@ -1,8 +1,8 @@
 -- Types of instances by their numbers: what they export, and what is kept of it.
-use Rattle.std.specs.Prelude.{◌≡◌, ℕ, ◌<◌, false, List, [], ◌∷◌, ◌++◌, length, get_or, Option, None, Some}
+use Rattle.std.specs.Prelude.{◌≡◌, ℕ, ◌<◌, true, false, List, [], ◌∷◌, ◌++◌, length, get_or, Option, None, Some}
 use Rattle.std.specs.List.{AllZip, flat_map}
 use Rattle.smith_tree.specs.Facts.{Extern, FactScope, Facts, Id, needs}
-use Rattle.smith_tree.specs.Validates.{names_of}
+use Rattle.smith_tree.specs.Validates.{RefersTo, names_of}
 use Rattle.smith_validate.specs.Marks.{Covers, Within}
 use Rattle.smith_validate.specs.declared.facts.Facts.{Facts as KeptFacts}
 use Rattle.smith_validate.specs.declared.instances.InstanceType.{InstanceType}
@@ -72,6 +72,13 @@ module _ (table : List Surface) where
   Rest named [] = Unit {0}
   Rest named (p ∷ ps) = IsKnown p × Within named (reach p) × Rest named ps
 
+  -- Those of types of instances are of such as refer to nothing that types of instances name.
+  abbrev pub AreOutward : List Piece → Type 0
+  AreOutward [] = Unit {0}
+  AreOutward (single x ∷ ps) = AreOutward ps
+  AreOutward (whole n ∷ ps) = Within (outside_of table n) (refers_of (externs_of table n)) × AreOutward ps
+  AreOutward (equal n names ∷ ps) = Within (outside_of table n) (refers_of (externs_of table n)) × AreOutward ps
+
 abbrev pub uses_in : List Piece → List Use
 uses_in [] = []
 uses_in (single x ∷ ps) = uses_in ps
@@ -85,6 +92,8 @@ pub record IsInstanceType (table : List Surface) (t : InstanceType) (e : Surface
   pub uses_are : t.uses.items ≡ uses_in pieces
   pub follow : Follow table e.outside pieces
   pub rest : t.refers_to_own ≡ false → Rest table e.outside pieces
+  pub outward : t.refers_outside ≡ true → Within e.outside (refers_of e.externs)
+  pub first : t.names_first ≡ true → RefersTo e.outside e.externs
 
 abbrev pub IsTable : List InstanceType → List Surface → Type 0
 IsTable all table = AllZip (IsInstanceType table) all table

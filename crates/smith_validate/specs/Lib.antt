@@ -20,5 +20,6 @@ pub mod Exact
 pub mod Opening
 pub mod Usual
 pub mod Exposure
+pub mod Deferring
 pub mod Preceding
 pub mod Stepping

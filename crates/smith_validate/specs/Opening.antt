@@ -59,9 +59,9 @@ pub record IsMidway (table : List Surface) (all : List InstanceType) (last : Use
   pub half : AreHalf table all last before s us named
 
 -- A use is found to be met, with what is exposed then; or it is not met.
-abbrev pub IsFound : List Surface → Use → Exposed → List Id → Bool → Type 0
-IsFound table u s named true = IsExposed table s [] (named_after table u named)
-IsFound table u s named false = ¬ (IsMet table u named)
+abbrev pub IsFound : List Surface → Use → (List Id → Type 0) → List Id → Bool → Type 0
+IsFound table u AreExposed named true = AreExposed (named_after table u named)
+IsFound table u AreExposed named false = ¬ (IsMet table u named)
 
 abbrev pub IsStep : List Surface → List InstanceType → Use → List Id → Exposed → List (Use × ℕ) → Bool → Type 0
 IsStep table all last before s us true = IsMidway table all last before s us

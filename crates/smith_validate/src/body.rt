@@ -1,9 +1,15 @@
 //! A component, a component type or an instance type as far as it was judged.
 
-ghost use Rattle.std.specs.Prelude.{◌≡◌, ◌+◌, ◌++◌, ◌<◌, ℕ, false, true, IfErr, OnOk, option_to_list};
+ghost use Rattle.std.specs.Prelude.{◌≡◌, ◌+◌, ◌++◌, ◌<◌, ◌&&◌, not, ℕ, List, false, true, IfErr, OnOk};
+ghost use Rattle.std.specs.Prelude.{option_to_list};
+ghost use Rattle.std.specs.List.{AllByRecursion};
 ghost use Rattle.smith_tree.specs.Demands.{Keeps};
+ghost use Rattle.smith_tree.specs.Facts.{Id};
 ghost use Rattle.smith_tree.specs.Sizes.{size_bound};
 ghost use Rattle.smith_validate.specs.Bodies.{IsEmpty, IsFresh, IsOther};
+ghost use Rattle.smith_validate.specs.Deferring.{AreSettled, IsMetBy};
+ghost use Rattle.smith_validate.specs.Exposing.{number_of, outside_at};
+ghost use Rattle.smith_validate.specs.Instances.{Surface, IsTable};
 ghost use Rattle.smith_validate.specs.Judges.{IsUnnamed, Judges};
 ghost use Rattle.smith_syntax.specs.Sizes.{capped};
 ghost use Rattle.smith_validate.specs.Marks.{both, closed_needs, is_below, not_below};
@@ -12,16 +18,17 @@ ghost use Rattle.smith_validate.specs.declared.error.Stop.TheVariants.{OutOfMemo
 
 use crate::counts::Counts;
 use crate::error::{Demand, Stop};
+use crate::exposure::{Exposure, refers_outside};
 use crate::facts::Needs;
-use crate::instances::{Exposed, InstanceType, Use};
+use crate::instances::{InstanceType, Use};
 use smith_syntax::{SIZE_BOUND, size_sum};
 use std::alloc::Global;
 
 /// What is named in a component or a component type, for its imports and for its exports.
 #[derive(Drop)]
 pub(crate) struct Sets {
-    pub(crate) imported: Exposed,
-    pub(crate) exported: Exposed,
+    pub(crate) imported: Exposure,
+    pub(crate) exported: Exposure,
 }
 
 impl Sets {
@@ -29,8 +36,8 @@ impl Sets {
         ensures { IsFresh true (Names result) }
     {
         Sets {
-            imported: Exposed::new(alloc),
-            exported: Exposed::new(alloc),
+            imported: Exposure::new(alloc),
+            exported: Exposure::new(alloc),
         }
     }
 }
@@ -51,6 +58,12 @@ pub(crate) struct Exported {
     pub(crate) any: bool,
     pub(crate) refers: Needs,
     pub(crate) uses: Vec<Use>,
+    /// Whether all that is used refers only to types that no type of instances names.
+    pub(crate) refers_outside: bool,
+    /// Whether each export refers only to such types and to what the exports before it name.
+    pub(crate) names_first: bool,
+    /// What instances among the exports name.
+    pub(crate) named: Exposure,
 }
 
 impl Exported {
@@ -61,11 +74,19 @@ impl Exported {
             any: false,
             refers: Needs::nothing(),
             uses: Vec::new(alloc),
+            refers_outside: true,
+            names_first: true,
+            named: Exposure::new(alloc),
         }
     }
 
     /// Adds an export of a function, of a type that is equal to one, or of an instance.
-    pub(crate) fn export(&mut self, what: Extern) -> Result<(), Stop>
+    pub(crate) fn export(&mut self, all: &[InstanceType], what: Extern) -> Result<(), Stop>
+        ensures outward { OnOk result (self.new.refers_outside ≡ true → (self.old.refers_outside ≡ true)
+            × AllByRecursion (λ u. outside_at all.now (number_of u) ≡ true) (option_to_list what.used)) }
+        ensures first { (table : List Surface) → IsTable all.now table
+            → OnOk result ((named : List Id) → self.new.names_first ≡ true → (self.old.names_first ≡ true)
+            × (AreSettled table self.old.named named → IsMetBy table what.used self.new.named named)) }
         ensures other { IfErr result IsOther }
         ensures memory { IfErr result (λ e. e ≡ OutOfMemory) }
         ensures any { OnOk result (self.new.any ≡ true) }
@@ -76,6 +97,10 @@ impl Exported {
         self.refers = self.refers.with(what.refers);
         if let Some(used) = what.used {
             self.uses.push(used)?;
+            self.refers_outside = self.refers_outside && refers_outside(all, used.of());
+            if self.names_first {
+                self.names_first = self.named.meets_at_once(all, used)?;
+            }
         }
         Ok(())
     }
@@ -86,14 +111,20 @@ impl Exported {
         ensures refers { result.0 ≡ closed_needs self.refers depth }
         ensures uses { result.1.uses.items ≡ self.uses.items }
         ensures own { result.1.refers_to_own ≡ is_below self.refers.innermost depth }
+        ensures outward { result.1.refers_outside
+            ≡ (self.refers_outside && not (is_below self.refers.innermost depth)) }
+        ensures first { result.1.names_first ≡ self.names_first }
     {
         let Needs {
             outermost,
             innermost,
         } = self.refers;
+        let refers_to_own = is_below(innermost, depth);
         let ty = InstanceType {
             uses: self.uses,
-            refers_to_own: is_below(innermost, depth),
+            refers_to_own,
+            refers_outside: self.refers_outside && !refers_to_own,
+            names_first: self.names_first,
         };
         let refers = Needs {
             outermost: outermost.outside(depth),

@@ -1,8 +1,10 @@
 //! What instances export that refers to types which other instances name.
 
-ghost use Rattle.std.specs.Prelude.{◌≡◌, ◌∷◌, ◌+◌, ◌<◌, [], List, length, option_map, reverse, slice_get, true, IfOk};
+ghost use Rattle.std.specs.Prelude.{◌≡◌, ◌∷◌, ◌+◌, ◌<◌, [], List, length, option_map, reverse, slice_get, true};
+ghost use Rattle.std.specs.Prelude.{false, IfOk, OnOk};
 ghost use Rattle.smith_tree.specs.Facts.{Id};
-ghost use Rattle.smith_validate.specs.Exact.{IsExposed};
+ghost use Rattle.smith_validate.specs.Deferring.{Gains};
+ghost use Rattle.smith_validate.specs.Exact.{IsExposed, is_exposed};
 ghost use Rattle.smith_validate.specs.Exposing.{IsGoal, IsMet, IsOnTheWay, IsPending, IsSettled, Meets, is_settled};
 ghost use Rattle.smith_validate.specs.Exposing.{named_after, number_of, refers_own, use_in, uses_of};
 ghost use Rattle.smith_validate.specs.Instances.{Surface, IsTable, outside_of};
@@ -21,8 +23,8 @@ pub(crate) enum Use {
 }
 
 impl Use {
-    // The number of the type.
-    fn of(self) -> usize
+    /// The number of the type.
+    pub(crate) fn of(self) -> usize
         ensures { result ≡ number_of self }
     {
         match self {
@@ -41,12 +43,17 @@ impl Use {
     }
 }
 
-/// A type of instances: what it exports of others, in order, each by its number; and whether its exports refer to types
-/// that it names.
+/// A type of instances.
 #[derive(Drop)]
 pub(crate) struct InstanceType {
+    /// What it exports of others, in order.
     pub(crate) uses: Vec<Use>,
+    /// Whether its exports refer to types that it names.
     pub(crate) refers_to_own: bool,
+    /// Whether they refer only to types that no type of instances names.
+    pub(crate) refers_outside: bool,
+    /// Whether each refers only to such types and to what the exports before it name.
+    pub(crate) names_first: bool,
 }
 
 /// The types of instances whose types are named, since an instance was imported or exported; and the ones beside them
@@ -68,7 +75,23 @@ impl Exposed {
         }
     }
 
-    fn is_settled(&self, number: usize) -> bool
+    /// Whether a type of instances is named.
+    pub(crate) fn is_named(&self, number: usize) -> bool
+        ensures { result ≡ is_exposed self.now number }
+    {
+        self.named.contains(&number)
+    }
+
+    /// Names a type of instances. Says whether it was not named before.
+    pub(crate) fn name(&mut self, number: usize) -> Result<bool, AllocError>
+        ensures gains { OnOk result (Gains self.old self.new number) }
+        ensures was { IfOk result (λ is. is ≡ false → is_exposed self.old number ≡ true) }
+    {
+        Ok(self.named.insert(number)?)
+    }
+
+    /// Whether it refers only to named types.
+    pub(crate) fn is_settled(&self, number: usize) -> bool
         ensures { result ≡ is_settled self.now number }
     {
         if self.named.contains(&number) {
@@ -88,10 +111,10 @@ impl Exposed {
     ) -> Result<bool, AllocError>
         ensures met { (table : List Surface) (named : List Id) → IsTable all.now table → IsSettled table self.old named
             → number_of used < length table → Within named (outside_of table (number_of used))
-            → IfOk result (λ is. is ≡ true → Meets table used self.new named) }
+            → IfOk result (λ is. is ≡ true → Meets table used (IsSettled table self.new) named) }
         ensures exact { (table : List Surface) (named : List Id) → AreExact all.now table → AreDistinct table
             → IsExposed table self.old [] named → IsOpenable table self.old [] used
-            → IfOk result (IsFound table used self.new named) }
+            → IfOk result (IsFound table used (IsExposed table self.new []) named) }
     {
         let mut rest = Vec::new(alloc);
         if !self.opens(all, &mut rest, used)? {

@@ -8,6 +8,7 @@ mod core_modules;
 mod core_types;
 mod counts;
 mod error;
+mod exposure;
 mod facts;
 mod instances;
 mod known;

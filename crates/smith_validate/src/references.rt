@@ -254,7 +254,7 @@ fn name_export(
     };
     match role {
         Role::Names(sets) => sets.export(alloc, &known.instances, known.depth(), what),
-        Role::Exporting(exported) => exported.export(what),
+        Role::Exporting(exported) => exported.export(&known.instances, what),
     }
 }
 

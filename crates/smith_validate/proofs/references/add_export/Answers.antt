@@ -6,6 +6,7 @@ use Rattle.smith_tree.specs.Validates.{names_of}
 use Rattle.smith_syntax.specs.Scope.{with_types}
 use Rattle.smith_validate.specs.Bodies.{IsIn, IsRole}
 use Rattle.smith_validate.specs.Counted.{counted}
+use Rattle.smith_validate.specs.Exact.{IsRoleExported}
 use Rattle.smith_validate.proofs.Judging.{judged_by, keeps_by, on_by, on_judged}
 use Rattle.smith_validate.proofs.ExportSteps.{export_exactly}
 use Rattle.smith_validate.proofs.references.add_export.Goals as goal
@@ -61,4 +62,13 @@ returns-clause-added c = λ asks b outer names table s.
     (c.add_exported.ensures.judged b.own outer here names table s.scopes valid)
 
 pub returns-clause-exact : goal.returns-clause-exact
-returns-clause-exact c = grind (arith, on_by, export_exactly)
+returns-clause-exact c = λ asks b outer named table h.
+    let to = c.args.to in
+    let role = (c.in_ok-name_export.ensures {u = tt}).exact asks b outer named table h in
+    let same = (c.in_ok-add_size.ensures {u = tt}).role in
+    let beside = c.add_exported.ensures.beside in
+    on_by c.add_exported.result
+    (λ types. export_exactly asks c.args.known.now c.args.body.now.role b outer named table h c.add_exported.new.known c.add_size.new.self.role to
+    beside.outer beside.instances types
+    (subst (λ r. IsRoleExported table outer named asks r b (externs_at b.own outer to)) (sym same) role))
+    c.add_exported.ensures.types

@@ -4,6 +4,7 @@ use Rattle.smith_tree.specs.Counts.{ValidCounts, with_import}
 use Rattle.smith_tree.specs.Facts.{sizes}
 use Rattle.smith_validate.specs.Bodies.{IsRole}
 use Rattle.smith_validate.specs.Counted.{counted}
+use Rattle.smith_validate.specs.Exact.{IsRoleExactly}
 use Rattle.smith_validate.proofs.Judging.{judged_by, keeps_by, on_any, on_judged}
 use Rattle.smith_validate.proofs.ExportSteps.{import_exactly}
 use Rattle.smith_validate.proofs.references.add_import.Goals as goal
@@ -40,4 +41,9 @@ returns-clause-added c = λ asks b outer names table s.
     (c.add_size.ensures.size n size) (c.add_size.ensures.size n size) (c.add_size.ensures.judged n size)
 
 pub returns-clause-exact : goal.returns-clause-exact
-returns-clause-exact c = grind (arith, on_any, import_exactly)
+returns-clause-exact c = λ asks b outer named table h usual.
+    let to = c.args.to in
+    let role = (c.in_ok-name_import.ensures {u = tt}).exact asks b outer named table h usual in
+    on_any c.add_size.result
+    (import_exactly asks c.args.known.now c.args.body.now.role b outer named table h c.add_size.new.self.role to usual.1
+    (subst (λ r. IsRoleExactly table outer named asks r (after_import outer b to)) (sym c.add_size.ensures.role) role))

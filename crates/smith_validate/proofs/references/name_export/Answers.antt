@@ -5,7 +5,7 @@ use Rattle.smith_validate.specs.Externs.{IsAsked, with_exports}
 use Rattle.smith_tree.specs.Facts.{id_at}
 use Rattle.smith_validate.specs.Tables.{names_in}
 use Rattle.smith_validate.proofs.Exporting.{exports_push_exactly, named_for, piece_none, piece_some, place_long, role_exported_none}
-use Rattle.smith_validate.proofs.Judging.{err_by, on_all, on_by}
+use Rattle.smith_validate.proofs.Judging.{err_by, on_all, on_by, on_five}
 use Rattle.smith_validate.proofs.Roles.{exports_push, sets_of}
 use Rattle.smith_validate.proofs.references.name_export.Goals as goal
 
@@ -26,12 +26,18 @@ returns-in-Exporting-clause-named c = λ asks b outer names table s r.
     let xs = externs_at b.own outer c.args.to in
     let role = rw c.in-Exporting.is at r in
     let found = c.in-Some.ensures.found b.own outer (names_of b.exports ∷ names) table s.types_are.0 in
-    on_all c.export-in-Exporting.result
-    (λ refers uses any. (
+    on_five c.export-in-Exporting.result
+    (λ refers uses any outward first. (
       subst (λ a. IsAsked a (exported b) xs) (sym role.0) tt,
-      (role.0, exports_push table names c.in-Exporting.exported c.export-in-Exporting.new.self b.exports xs c.in-Some.what role.1 found refers uses any),
+      (
+        role.0,
+        exports_push table names c.in-Exporting.exported c.export-in-Exporting.new.self b.exports xs c.in-Some.what c.args.known.now.instances.items
+            s.instances_are role.1 found refers uses any outward first,
+      ),
     ))
     c.export-in-Exporting.ensures.refers c.export-in-Exporting.ensures.uses c.export-in-Exporting.ensures.any
+    (rw c.deref-in-Exporting.ensures.value at c.export-in-Exporting.ensures.outward)
+    ((rw c.deref-in-Exporting.ensures.value at (c.export-in-Exporting.ensures.first table)) s.instances_are)
 
 pub returns-in_default-clause-exact : goal.returns-in_default-clause-exact
 returns-in_default-clause-exact c = grind (arith, role_exported_none, piece_none)

@@ -19,7 +19,8 @@ returns-clause-kept c = λ id b here names table ts d role.
     let number : c.len-number.result ≡ length old.instances.items = omega (arith, c.len-number.ensures, old.instances.ok.0) in
     rw (c.instance.ensures)
     (instance_closed table here names e b depth c.close-ty.result.1 c.close-ty.result.0 old new id c.args.body.size c.len-number.result are
-    (d ∙ sym c.depth.ensures) c.close-ty.ensures.refers c.close-ty.ensures.uses c.close-ty.ensures.own ts number (c.in_ok-push.ensures {u = tt}).items)
+    (d ∙ sym c.depth.ensures) c.close-ty.ensures.refers c.close-ty.ensures.uses c.close-ty.ensures.own c.close-ty.ensures.outward c.close-ty.ensures.first ts
+    number (c.in_ok-push.ensures {u = tt}).items)
 
 pub returns-then-not-exported-clause-exact : goal.returns-then-not-exported-clause-exact
 returns-then-not-exported-clause-exact c = λ b own outer named table j d.

@@ -1,5 +1,6 @@
 use Rattle.std.proofs.Common.{ap, sym, ◌∙◌, ◌∷◌, subst}
 use Rattle.smith_tree.specs.Validates.{exported, names_of}
+use Rattle.smith_validate.specs.Deferring.{IsExposure}
 use Rattle.smith_validate.specs.Opening.{IsFound}
 use Rattle.smith_validate.proofs.Judging.{err_by, on_by, refuse}
 use Rattle.smith_validate.proofs.Piecing.{piece_openable}
@@ -39,20 +40,20 @@ pub returns-clause-exact : goal.returns-clause-exact
 returns-clause-exact c = λ table place around full b xs exact added i sets.
     let u = c.in-Some.used in
     let k = c.args.what in
-    let p = piece_openable table place around full k xs added i c.args.self.now.exported u c.in-Some.is in
+    let p = piece_openable table place around full k xs added i c.args.self.now.exported.exposed u c.in-Some.is in
     let found = (c.in_ok-meets.ensures {u = tt}).exact table (exported b) exact added.distinct sets.1 p in
     on_by c.check-2.result
     (λ h. export_used table place around full k xs added i b c.args.self.now c.meets.new.self u sets c.in-Some.is
-    (subst (λ is. IsFound table u c.meets.new.self (exported b) is) h found))
+    (subst (λ is. IsFound table u (IsExposure table c.meets.new.self) (exported b) is) h found))
     c.check-2.ensures.holds
 
 pub returns-clause-refused : goal.returns-clause-refused
 returns-clause-refused c = λ table place around full b xs exact added i sets f d.
     let u = c.in-Some.used in
     let k = c.args.what in
-    let p = piece_openable table place around full k xs added i c.args.self.now.exported u c.in-Some.is in
+    let p = piece_openable table place around full k xs added i c.args.self.now.exported.exposed u c.in-Some.is in
     let found = (c.in_ok-meets.ensures {u = tt}).exact table (exported b) exact added.distinct sets.1 p in
     err_by c.check-2.result
     (λ e h _. export_unmet table place around full k xs added i b u c.in-Some.is
-    (subst (λ is. IsFound table u c.meets.new.self (exported b) is) h found))
+    (subst (λ is. IsFound table u (IsExposure table c.meets.new.self) (exported b) is) h found))
     c.check-2.ensures.named

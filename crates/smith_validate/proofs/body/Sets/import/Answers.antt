@@ -1,5 +1,6 @@
 use Rattle.std.proofs.Common.{sym, ◌∙◌, subst}
 use Rattle.smith_tree.specs.Validates.{exported, imported}
+use Rattle.smith_validate.specs.Deferring.{IsExposure}
 use Rattle.smith_validate.specs.Opening.{IsFound}
 use Rattle.smith_validate.proofs.Judging.{err_by, on_by, refuse}
 use Rattle.smith_validate.proofs.Piecing.{piece_openable}
@@ -41,32 +42,32 @@ pub returns-in_err-check-2-clause-refused : goal.returns-in_err-check-2-clause-r
 returns-in_err-check-2-clause-refused c = λ table place around full b xs exact added i sets f.
     let u = c.in-Some.used in
     let k = c.args.what in
-    let o = piece_openable table place around full k xs added i c.args.self.now.imported u c.in-Some.is in
+    let o = piece_openable table place around full k xs added i c.args.self.now.imported.exposed u c.in-Some.is in
     let found = (c.in_ok-meets.ensures {u = tt}).exact table (imported b) exact added.distinct sets.0 o in
-    let not_met = subst (λ is. IsFound table u c.meets.new.self (imported b) is) (c.in_err-check-2.ensures {u = tt}).named found in
+    let not_met = subst (λ is. IsFound table u (IsExposure table c.meets.new.self) (imported b) is) (c.in_err-check-2.ensures {u = tt}).named found in
     refuse _ (import_unmet table place around full k xs added i b u c.in-Some.is not_met)
 
 pub returns-clause-exact : goal.returns-clause-exact
 returns-clause-exact c = λ table place around full b xs exact added i sets.
     let u = c.in-Some.used in
     let k = c.args.what in
-    let o = piece_openable table place around full k xs added i c.args.self.now.imported u c.in-Some.is in
-    let p = piece_openable table place around full k xs added i c.args.self.now.exported u c.in-Some.is in
+    let o = piece_openable table place around full k xs added i c.args.self.now.imported.exposed u c.in-Some.is in
+    let p = piece_openable table place around full k xs added i c.args.self.now.exported.exposed u c.in-Some.is in
     let found = (c.in_ok-meets.ensures {u = tt}).exact table (imported b) exact added.distinct sets.0 o in
-    let met = subst (λ is. IsFound table u c.meets.new.self (imported b) is) (c.in_ok-check-2.ensures {u = tt}).holds found in
+    let met = subst (λ is. IsFound table u (IsExposure table c.meets.new.self) (imported b) is) (c.in_ok-check-2.ensures {u = tt}).holds found in
     let then = (c.in_ok-meets-2.ensures {u = tt}).exact table (exported b) exact added.distinct sets.1 p in
     let n : Sets = record { imported = c.meets.new.self; exported = c.meets-2.new.self } in
     on_by c.check-3.result
-    (λ h. import_used table place around full k xs added i b n u c.in-Some.is met (subst (λ is. IsFound table u c.meets-2.new.self (exported b) is) h then))
+    (λ h. import_used table place around full k xs added i b n u c.in-Some.is met (subst (λ is. IsFound table u (IsExposure table c.meets-2.new.self) (exported b) is) h then))
     c.check-3.ensures.holds
 
 pub returns-clause-refused : goal.returns-clause-refused
 returns-clause-refused c = λ table place around full b xs exact added i sets f.
     let u = c.in-Some.used in
     let k = c.args.what in
-    let p = piece_openable table place around full k xs added i c.args.self.now.exported u c.in-Some.is in
+    let p = piece_openable table place around full k xs added i c.args.self.now.exported.exposed u c.in-Some.is in
     let then = (c.in_ok-meets-2.ensures {u = tt}).exact table (exported b) exact added.distinct sets.1 p in
     err_by c.check-3.result
     (λ e h _. import_unmet_too table place around full k xs added i b u c.in-Some.is
-    (subst (λ is. IsFound table u c.meets-2.new.self (exported b) is) h then))
+    (subst (λ is. IsFound table u (IsExposure table c.meets-2.new.self) (exported b) is) h then))
     c.check-3.ensures.named

@@ -5,8 +5,14 @@ use Rattle.smith_read.specs.TypeNodes.{shown_type_node}
 use Rattle.smith_tree.specs.Shown.{shown_canon, shown_export}
 use Rattle.smith_tree.specs.Tree.{canons, core_types, exports, imports, types}
 use Rattle.smith_validate.proofs.Judging.{on_any}
-use Rattle.smith_validate.proofs.Standing.{one_goes}
+use Rattle.smith_validate.proofs.Standing.{module_goes, one_goes}
 use Rattle.smith_validate.proofs.check.Check.step.Goals as goal
+
+pub returns-in-CoreModule : goal.returns-in-CoreModule
+returns-in-CoreModule c =
+    let f = c.add_module in
+    rw (c.in-CoreModule.is)
+    (module_goes f.result c.args.self.now f.new.counts c.in-CoreModule.text.now f.ensures.bound f.ensures.judged f.ensures.added)
 
 pub returns-in-CoreType : goal.returns-in-CoreType
 returns-in-CoreType c =
