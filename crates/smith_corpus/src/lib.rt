@@ -3,12 +3,15 @@
 
 mod breaking;
 mod drawing;
+mod flat;
 mod samples;
 mod swarms;
 
 pub use breaking::{Difference, Finding, NearMiss, Taken, miswritten, near_miss};
+pub use flat::draw_flat;
 pub use rand_pcg::Pcg32;
 pub use samples::{Sample, SampleError, draw};
 pub use smith_format::Config;
 pub use smith_input::Error;
+pub use smith_stats::Tally;
 pub use swarms::draw_swarm;
