@@ -11,9 +11,8 @@ use crate::scripting::refuse_script;
 use rand_pcg::Pcg32;
 use rand_pcg::rand_core::SeedableRng;
 use smith_component::Config;
-use smith_corpus::{Sample, draw, draw_flat, draw_swarm};
+use smith_corpus::{Reached, Sample, draw, draw_flat, draw_swarm};
 use smith_script::{ScriptError, script};
-use smith_stats::Tally;
 use std::fmt;
 use std::io::IsTerminal;
 use std::process::ExitCode;
@@ -62,9 +61,9 @@ fn drawn_flat(
     rt: &HostRuntime,
     config: &Config,
     random: &mut Pcg32,
-    before: &mut Tally,
+    reached: &mut Reached,
 ) -> Result<Sample, ExitCode> {
-    match draw_flat(rt.alloc(), config, random, before) {
+    match draw_flat(rt.alloc(), config, random, reached) {
         Ok(Some(sample)) => Ok(sample),
         Ok(None) => Err(refuse_draw(rt, "no component that was drawn has a script")),
         Err(_) => Err(refuse_draw(rt, "out of memory")),
@@ -79,12 +78,12 @@ fn write_random(
     draw: Draw,
 ) -> Result<ExitCode, ExitCode> {
     let mut random = Pcg32::seed_from_u64(draw.seed);
-    let mut before = Tally::new(rt.alloc());
+    let mut reached = Reached::new(rt.alloc());
     let mut input_bytes: u64 = 0;
     let mut component_bytes: u64 = 0;
     for number in 0..draw.count {
         let sample = if draw.is_flat {
-            drawn_flat(rt, config, &mut random, &mut before)?
+            drawn_flat(rt, config, &mut random, &mut reached)?
         } else {
             drawn(rt, config, &mut random, draw)?
         };

@@ -3,15 +3,17 @@
 ghost use Rattle.std.specs.Prelude.{IfOk, IfSome};
 ghost use Rattle.smith_corpus.specs.Samples.{IsSample};
 
+mod counts;
 mod growing;
 
 use crate::samples::{Sample, SampleError, sample_of};
-use growing::{component_of, grown, nodes_of};
+pub use counts::Reached;
+use counts::combinations_of;
+use growing::{component_of, grown};
 use rand_pcg::Pcg32;
 use smith_format::Config;
 use smith_input::Error;
 use smith_script::{ScriptError, script};
-use smith_stats::Tally;
 use std::alloc::{AllocError, Global};
 
 /// How many components are drawn until one has a script.
@@ -44,10 +46,10 @@ fn drawn_script(
     alloc: Global,
     config: &Config,
     random: &mut Pcg32,
-    before: &Tally,
+    reached: &Reached,
 ) -> Result<Option<Vec<u8>>, AllocError> {
     let narrow = narrowed(config);
-    let Some(input) = grown(alloc, &narrow, random, before)? else {
+    let Some(input) = grown(alloc, &narrow, random, reached)? else {
         return Ok(None);
     };
     match component_of(alloc, &narrow, &input)? {
@@ -61,25 +63,17 @@ fn tried(
     alloc: Global,
     config: &Config,
     random: &mut Pcg32,
-    before: &Tally,
+    reached: &Reached,
 ) -> Result<Option<Sample>, AllocError>
     ensures { IfOk result (λ r. IfSome r (IsSample config.now)) }
 {
-    let Some(input) = drawn_script(alloc, config, random, before)? else {
+    let Some(input) = drawn_script(alloc, config, random, reached)? else {
         return Ok(None);
     };
     match sample_of(alloc, config, input) {
         Ok(sample) => Ok(Some(sample)),
         Err(SampleError::Refused(Error::OutOfMemory)) => Err(AllocError),
         Err(_) => Ok(None),
-    }
-}
-
-// Counts the combinations of a component.
-fn count(alloc: Global, before: &mut Tally, component: &[u8]) -> Result<(), AllocError> {
-    match nodes_of(alloc, component)? {
-        Some(tree) => before.add(component.len(), &tree),
-        None => Ok(()),
     }
 }
 
@@ -92,13 +86,13 @@ pub fn draw_flat(
     alloc: Global,
     config: &Config,
     random: &mut Pcg32,
-    before: &mut Tally,
+    reached: &mut Reached,
 ) -> Result<Option<Sample>, AllocError>
     ensures { IfOk result (λ r. IfSome r (IsSample config.now)) }
 {
     for _ in 0..TRIES {
-        if let Some(sample) = tried(alloc, config, random, before)? {
-            count(alloc, before, &sample.component)?;
+        if let Some(sample) = tried(alloc, config, random, reached)? {
+            reached.add(&combinations_of(alloc, &sample.component)?)?;
             return Ok(Some(sample));
         }
     }

@@ -8,10 +8,9 @@ mod samples;
 mod swarms;
 
 pub use breaking::{Difference, Finding, NearMiss, Taken, miswritten, near_miss};
-pub use flat::draw_flat;
+pub use flat::{Reached, draw_flat};
 pub use rand_pcg::Pcg32;
 pub use samples::{Sample, SampleError, draw};
 pub use smith_format::Config;
 pub use smith_input::Error;
-pub use smith_stats::Tally;
 pub use swarms::draw_swarm;

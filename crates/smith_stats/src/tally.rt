@@ -69,14 +69,6 @@ impl Tally {
         self.add_steps(Steps::new(self.alloc, component))
     }
 
-    /// How many files have that combination.
-    pub fn files_with(&self, combination: Combination) -> usize {
-        match self.reached.get(&combination) {
-            Some(reached) => reached.files,
-            None => 0,
-        }
-    }
-
     // Adds the combinations of the file whose number is that of the files so far.
     fn add_combinations(&mut self, component: &ComponentTree) -> Result<(), AllocError> {
         let first = self.files.saturating_add(self.unread);

@@ -1,17 +1,15 @@
 //! An input that grows by random bytes, as long as what it produces has enough that is rare.
 
 use crate::breaking::below;
+use crate::flat::counts::{Reached, WORTH_OF_NEW, combinations_of};
 use rand_core::Rng;
 use rand_pcg::Pcg32;
 use smith_component::{Builder, Item, Step, generate};
 use smith_format::Config;
 use smith_input::{Error, Unstructured};
-use smith_read::{ComponentTree, ReadError, read};
 use smith_script_types::{NONE_COUNTED, say_among};
-use smith_stats::{Combination, Tally, combinations};
 use smith_tree::{Turn, turn_items};
 use std::alloc::{AllocError, Global};
-use std::collections::BTreeSet;
 
 /// How often an input is tried with more bytes.
 const TRIES: u32 = 64;
@@ -19,11 +17,8 @@ const TRIES: u32 = 64;
 /// How many bytes are added at most.
 const MOST_ADDED: usize = 64;
 
-/// What a combination is worth that no component before has: as much as so many bytes cost.
-const WORTH: usize = 64;
-
-/// What a byte costs.
-const COST: usize = 64;
+/// What a byte costs: a new combination is worth so many.
+const COST: usize = WORTH_OF_NEW / 64;
 
 /// How many primitive types, from the first one on, flatten to i32.
 const I32_TYPES: u8 = 7;
@@ -36,15 +31,6 @@ fn if_any<T: Drop>(outcome: Result<T, Error>) -> Result<Option<T>, AllocError> {
     match outcome {
         Ok(value) => Ok(Some(value)),
         Err(Error::OutOfMemory) => Err(AllocError),
-        Err(_) => Ok(None),
-    }
-}
-
-/// The nodes of a component, if these bytes are one.
-pub(crate) fn nodes_of(alloc: Global, bytes: &[u8]) -> Result<Option<ComponentTree>, AllocError> {
-    match read(alloc, bytes) {
-        Ok(tree) => Ok(Some(tree)),
-        Err(ReadError::OutOfMemory) => Err(AllocError),
         Err(_) => Ok(None),
     }
 }
@@ -97,35 +83,18 @@ fn add_bytes(input: &mut Vec<u8>, random: &mut Pcg32) -> Result<(), AllocError> 
     Ok(())
 }
 
-// The combinations in the component that an input produces, if it produces one.
-fn found_in(
+// What the component is worth that an input produces.
+fn worth_of(
     alloc: Global,
     config: &Config,
     input: &[u8],
-) -> Result<BTreeSet<Combination>, AllocError> {
-    let made = generate(alloc, *config, &mut Unstructured::new(input));
-    let Some(generated) = if_any(made)? else {
-        return Ok(BTreeSet::new(alloc));
-    };
-    match nodes_of(alloc, &generated.bytes)? {
-        Some(tree) => combinations(alloc, &tree),
-        None => Ok(BTreeSet::new(alloc)),
-    }
-}
-
-// What an input is worth: each combination the less, the more components before have it.
-fn worth(
-    alloc: Global,
-    config: &Config,
-    input: &[u8],
-    before: &Tally,
+    reached: &Reached,
 ) -> Result<usize, AllocError> {
-    let mut sum: usize = 0;
-    for combination in &found_in(alloc, config, input)? {
-        let count = before.files_with(*combination).saturating_add(1);
-        sum = sum.saturating_add((WORTH * COST).checked_div(count).unwrap_or(0));
+    let made = generate(alloc, *config, &mut Unstructured::new(input));
+    match if_any(made)? {
+        Some(generated) => Ok(reached.worth(&combinations_of(alloc, &generated.bytes)?)),
+        None => Ok(0),
     }
-    Ok(sum)
 }
 
 /// An input to which random bytes are added if that is worth what they cost.
@@ -133,19 +102,19 @@ pub(crate) fn grown(
     alloc: Global,
     config: &Config,
     random: &mut Pcg32,
-    before: &Tally,
+    reached: &Reached,
 ) -> Result<Option<Vec<u8>>, AllocError> {
     let Some(mut input) = if_any(begun(alloc, config, random))? else {
         return Ok(None);
     };
-    let mut worth_so_far = worth(alloc, config, &input, before)?;
+    let mut worth = worth_of(alloc, config, &input, reached)?;
     for _ in 0..TRIES {
         let len = input.len();
         add_bytes(&mut input, random)?;
         let cost = input.len().saturating_sub(len).saturating_mul(COST);
-        let worth = worth(alloc, config, &input, before)?;
-        if worth > worth_so_far.saturating_add(cost) {
-            worth_so_far = worth;
+        let more = worth_of(alloc, config, &input, reached)?;
+        if more > worth.saturating_add(cost) {
+            worth = more;
         } else {
             input.truncate(len);
         }
