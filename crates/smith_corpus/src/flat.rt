@@ -19,11 +19,16 @@ use std::alloc::{AllocError, Global};
 /// How many components are drawn until one has a script.
 const TRIES: u32 = 16;
 
-// Limits within which inputs are drawn: names are short, and lists are long. Scripts are read alike within the others.
+/// How many sections a component has at least, so that a random choice does not end it at once.
+const SECTIONS: usize = 8;
+
+// Limits within which inputs are drawn: names are short, and lists are long. What they produce has a script within the
+// limits that are given.
 fn narrowed(config: &Config) -> Config {
     Config {
         max_name_length: config.max_name_length.min(1),
         loop_bits: 3,
+        finish_after: config.finish_after.max(SECTIONS),
         ..*config
     }
 }

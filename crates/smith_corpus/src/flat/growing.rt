@@ -50,7 +50,7 @@ fn say_turn(
 }
 
 // Turns with a function type of a parameter and a result, an import of a function of it, a lower of that, a lift of the
-// lower, to another type most often, and an export of the lift. If the limits allow less, other choices are made.
+// lower, to another type most often, and an export of the lift. If other limits allow less, other choices are made.
 fn say_lift(input: &mut Vec<u8>, config: &Config, random: &mut Pcg32) -> Result<(), Error> {
     let mut types = [0; 4];
     random.fill_bytes(&mut types);
@@ -62,6 +62,9 @@ fn say_lift(input: &mut Vec<u8>, config: &Config, random: &mut Pcg32) -> Result<
     say_turn(input, config, 0, Item::Types, &types)?;
     say_turn(input, config, 1, Item::Imports, &[1, 0, 0, 0])?;
     say_turn(input, config, 2, Item::Canonical, &canonicals)?;
+    if config.max_exports == 0 {
+        return Ok(());
+    }
     say_turn(input, config, 5, Item::Exports, &[1, 1, 0, 0])
 }
 
