@@ -244,6 +244,8 @@ fn with_draw<'a>(alloc: Global, command: Command<'a>) -> Result<Command<'a>, All
     let bytes = "How many bytes each has, including its limits [default: 1024]";
     let seed = "Where they are drawn from: the same inputs for the same seed [default: 0]";
     let swarm = "Begin each with the bytes of limits of its own, for `generate --swarm`";
+    let flat = "Write short inputs instead, of components with what is rare in those before";
+    let flat = switch(alloc, "flat", flat);
     let components = "Write the component of each beside it, with the ending .wasm";
     let count = number(alloc, "count", "COUNT", count).short('n');
     let bytes = option(alloc, "bytes", "N", bytes);
@@ -254,6 +256,7 @@ fn with_draw<'a>(alloc: Global, command: Command<'a>) -> Result<Command<'a>, All
         .arg(bytes.value_parser(value_parser!(usize).range(..=1_048_576)))?
         .arg(seed.value_parser(value_parser!(u64)))?
         .arg(switch(alloc, "swarm", swarm))?
+        .arg(flat.conflicts_with("bytes")?.conflicts_with("swarm")?)?
         .arg(switch(alloc, "components", components))
 }
 
@@ -265,11 +268,13 @@ fn corpus_command<'a>(alloc: Global) -> Result<Command<'a>, AllocError> {
         .conflicts_with("bytes")?
         .conflicts_with("seed")?
         .conflicts_with("swarm")?
+        .conflicts_with("flat")?
         .conflicts_with("components")?;
     let broken =
         "Write near misses of components that validate, and what each of them is. --bytes is 512 then";
     let broken = switch(alloc, "broken", broken)
         .conflicts_with("from")?
+        .conflicts_with("flat")?
         .conflicts_with("components")?;
     let files = with_draw(alloc, plain(alloc, "corpus", about, AFTER_CORPUS))?
         .arg(from)?

@@ -11,8 +11,9 @@ use crate::scripting::refuse_script;
 use rand_pcg::Pcg32;
 use rand_pcg::rand_core::SeedableRng;
 use smith_component::Config;
-use smith_corpus::{Sample, draw, draw_swarm};
+use smith_corpus::{Reached, Sample, draw, draw_flat, draw_swarm};
 use smith_script::{ScriptError, script};
+use std::fmt;
 use std::io::IsTerminal;
 use std::process::ExitCode;
 
@@ -31,6 +32,12 @@ pub fn show_progress(rt: &HostRuntime, done: usize, count: usize) {
     }
 }
 
+// The status after a message that says why there is no sample.
+fn refuse_draw<W: fmt::Display + Drop>(rt: &HostRuntime, why: W) -> ExitCode {
+    let _status = print_error(rt, format_args!("no input is found: {why}"));
+    ExitCode::from(REFUSED)
+}
+
 /// A sample, or the status after a message.
 pub fn drawn(
     rt: &HostRuntime,
@@ -45,10 +52,21 @@ pub fn drawn(
     };
     match sample {
         Ok(sample) => Ok(sample),
-        Err(error) => {
-            let _status = print_error(rt, format_args!("no input is found: {error}"));
-            Err(ExitCode::from(REFUSED))
-        }
+        Err(error) => Err(refuse_draw(rt, error)),
+    }
+}
+
+// A sample whose combinations few of those before have, or the status after a message.
+fn drawn_flat(
+    rt: &HostRuntime,
+    config: &Config,
+    random: &mut Pcg32,
+    reached: &mut Reached,
+) -> Result<Sample, ExitCode> {
+    match draw_flat(rt.alloc(), config, random, reached) {
+        Ok(Some(sample)) => Ok(sample),
+        Ok(None) => Err(refuse_draw(rt, "no component that was drawn has a script")),
+        Err(_) => Err(refuse_draw(rt, "out of memory")),
     }
 }
 
@@ -60,10 +78,15 @@ fn write_random(
     draw: Draw,
 ) -> Result<ExitCode, ExitCode> {
     let mut random = Pcg32::seed_from_u64(draw.seed);
+    let mut reached = Reached::new(rt.alloc());
     let mut input_bytes: u64 = 0;
     let mut component_bytes: u64 = 0;
     for number in 0..draw.count {
-        let sample = drawn(rt, config, &mut random, draw)?;
+        let sample = if draw.is_flat {
+            drawn_flat(rt, config, &mut random, &mut reached)?
+        } else {
+            drawn(rt, config, &mut random, draw)?
+        };
         write_new(rt, &path_in(rt, folder, number, "")?, &sample.input)?;
         if draw.with_components {
             let path = path_in(rt, folder, number, COMPONENT_ENDING)?;

@@ -103,6 +103,8 @@ pub struct Draw {
     pub seed: u64,
     /// Whether the first bytes of each encode limits of its own.
     pub is_swarm: bool,
+    /// Whether they are short, drawn for what is rare in those before; `len` is not used then.
+    pub is_flat: bool,
     /// Whether the component of each is written beside it.
     pub with_components: bool,
 }
@@ -212,6 +214,7 @@ fn draw_of(matches: &ArgMatches<'_>, len: usize) -> Draw {
         len: matches.get_one::<usize>("bytes").unwrap_or(len),
         seed: matches.get_one::<u64>("seed").unwrap_or(0),
         is_swarm: matches.get_flag("swarm"),
+        is_flat: matches.get_flag("flat"),
         with_components: matches.get_flag("components"),
     }
 }

@@ -109,8 +109,8 @@ impl Taken {
     }
 }
 
-// A number below that one, or 0 if there is none.
-fn below(random: &mut Pcg32, most: usize) -> usize {
+/// A number below that one, or 0 if there is none.
+pub(crate) fn below(random: &mut Pcg32, most: usize) -> usize {
     if most == 0 {
         return 0;
     }

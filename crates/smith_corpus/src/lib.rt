@@ -3,10 +3,12 @@
 
 mod breaking;
 mod drawing;
+mod flat;
 mod samples;
 mod swarms;
 
 pub use breaking::{Difference, Finding, NearMiss, Taken, miswritten, near_miss};
+pub use flat::{Reached, draw_flat};
 pub use rand_pcg::Pcg32;
 pub use samples::{Sample, SampleError, draw};
 pub use smith_format::Config;

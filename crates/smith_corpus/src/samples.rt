@@ -57,8 +57,12 @@ impl SampleError {
     }
 }
 
-// The sample of an input, if nothing of it is left.
-fn sample_of(alloc: Global, config: &Config, input: Vec<u8>) -> Result<Sample, SampleError>
+/// The sample of an input, if nothing of it is left.
+pub(crate) fn sample_of(
+    alloc: Global,
+    config: &Config,
+    input: Vec<u8>,
+) -> Result<Sample, SampleError>
     ensures made { IfOk result (λ s. IsSample config.now s × (s.input.items ≡ input.items)) }
     ensures refuses { IfErr result (IsSampleError config.now (vec_len input)) }
 {
