@@ -13,7 +13,9 @@ const AFTER: &str =
 const AFTER_GENERATE: &str = "Status:
   0  the component is written
   1  no component can be made of the input, or memory runs out: the refusal's name is on standard error
-  2  bad arguments, limits that are refused, an input that is too long, or a failed read or write";
+  2  bad arguments, limits that are refused, an input that is too long, or a failed read or write
+
+With --from no file is overwritten, and the status is the greatest that an input has.";
 
 const AFTER_LIMITS: &str = "Status:
   0  they are printed
@@ -29,7 +31,9 @@ Status with --validate:
   0  valid: each validator must accept it that has all features, and no lower bounds than wasmparser
   1  invalid: no validator may accept it
   3  outside, as no component of the grammar: a validator may accept or refuse it
-  4  bound, beyond one of wasmparser's own, or outside for another reason: the same";
+  4  bound, beyond one of wasmparser's own, or outside for another reason: the same
+
+Of several files the status is that of the worst: 2 if one has it, else 1, else 3, else 4.";
 
 const AFTER_SHOW: &str = "Status:
   0  the component is printed
@@ -157,8 +161,16 @@ fn generate_command<'a>(alloc: Global) -> Result<Command<'a>, AllocError> {
     let swarm = "Take limits from the first bytes of the input, over the given ones";
     let hex = "Write the bytes as hexadecimal digits, and how many bytes are left";
     let left = "Print on standard error how many bytes of the input are left";
+    let from =
+        "Make a component NAME.wasm of each input NAME in that folder, all in the folder OUT";
+    let from = option(alloc, "from", "FOLDER", from)
+        .conflicts_with("input")?
+        .conflicts_with("hex")?
+        .conflicts_with("left")?
+        .requires_arg("output")?;
     let files = plain(alloc, "generate", about, AFTER_GENERATE)
         .arg(input(alloc, "INPUT", bytes))?
+        .arg(from)?
         .arg(output(alloc, TO_COMPONENT))?;
     with_limits(alloc, files)?
         .arg(switch(alloc, "swarm", swarm))?
@@ -168,15 +180,21 @@ fn generate_command<'a>(alloc: Global) -> Result<Command<'a>, AllocError> {
 
 fn check_command<'a>(alloc: Global) -> Result<Command<'a>, AllocError> {
     let about = "Say whether a file is a well-formed component, and where it is not";
+    let files = "Components, and folders of them; - is standard input [default: -]";
     let validate = "Say what it is to validators: valid, invalid, bound or outside";
+    let json = "Print an object of JSON for each file, whatever it is";
     plain(alloc, "check", about, AFTER_CHECK)
-        .arg(component(alloc))?
-        .arg(switch(alloc, "validate", validate))
+        .arg(input(alloc, "FILE", files).num_args(1..))?
+        .arg(switch(alloc, "validate", validate))?
+        .arg(switch(alloc, "json", json))
 }
 
 fn show_command<'a>(alloc: Global) -> Result<Command<'a>, AllocError> {
     let about = "Print a component, a line with its offset for each section and each entry";
-    plain(alloc, "show", about, AFTER_SHOW).arg(component(alloc))
+    let json = "Print an array of JSON, with an object for each line";
+    plain(alloc, "show", about, AFTER_SHOW)
+        .arg(component(alloc))?
+        .arg(switch(alloc, "json", json))
 }
 
 fn print_command<'a>(alloc: Global) -> Result<Command<'a>, AllocError> {
@@ -257,7 +275,7 @@ fn with_draw<'a>(alloc: Global, command: Command<'a>) -> Result<Command<'a>, All
 
 fn corpus_command<'a>(alloc: Global) -> Result<Command<'a>, AllocError> {
     let about = "Write inputs that are read to their ends into a folder";
-    let from = "Write the scripts of the components *.wasm in that folder, and no random inputs";
+    let from = "Write the scripts of the components in that folder, and no random inputs";
     let to = "The folder where they go, which is made if it is missing";
     let from = option(alloc, "from", "FOLDER", from)
         .conflicts_with("bytes")?
@@ -278,7 +296,8 @@ fn corpus_command<'a>(alloc: Global) -> Result<Command<'a>, AllocError> {
 
 fn stats_command<'a>(alloc: Global) -> Result<Command<'a>, AllocError> {
     let about = "Count what is in components, by sort and by place";
-    let paths = "Components, and folders with components *.wasm";
+    let paths =
+        "Components, and folders of them: of their files *.wasm, or of all if none is named so";
     let inputs = "Count the components of inputs: each file, and in folders all but *.wasm";
     let json = "Print it as JSON";
     let listed =

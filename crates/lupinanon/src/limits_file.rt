@@ -5,9 +5,11 @@ use crate::options::{Limits, named};
 use crate::places::{STANDARD_INPUT, Source, print_fault};
 use crate::{FAULT, print_error};
 use smith_component::Config;
-use smith_limits::{Fault, limits_of, profile_text};
+use smith_limits::{Fault, KEYS, Key, limits_of, profile_text};
+use std::alloc::{AllocError, Global};
 use std::process::ExitCode;
 use std::{fmt, io};
+use strsim::jaro;
 use toml::Table;
 use toml::de::Error;
 
@@ -135,18 +137,56 @@ fn name_of<'a>(limits: &Limits<'a>) -> &'a str {
     }
 }
 
+// How much alike a word and a name are at least if the one may be meant by the other, as of a command in `clap`.
+const LEAST_ALIKE: f64 = 0.7;
+
+// What is meant by the name of no limit, if one is like it.
+#[derive(Clone, Copy)]
+struct Tip(Option<Key>);
+
+impl fmt::Display for Tip {
+    fn fmt<W: fmt::Write>(&self, f: &mut fmt::Formatter<W>) -> fmt::Result {
+        match self.0 {
+            Some(key) => write!(f, "; did you mean `{}`?", key.name()),
+            None => Ok(()),
+        }
+    }
+}
+
+// The limit whose name is most like another one.
+fn nearest(alloc: Global, name: &str) -> Result<Option<Key>, AllocError> {
+    let mut found = None;
+    let mut most = LEAST_ALIKE;
+    for key in KEYS {
+        let alike = jaro(alloc, name, key.name())?;
+        if alike > most {
+            found = Some(key);
+            most = alike;
+        }
+    }
+    Ok(found)
+}
+
+fn tip_of(alloc: Global, fault: &Fault) -> Tip {
+    match fault {
+        Fault::Unknown(name) => Tip(nearest(alloc, name).unwrap_or(None)),
+        _ => Tip(None),
+    }
+}
+
 /// Prints what is wrong with a limit, and the last setting, or the line of the file's text, that has it, if one is
 /// known. Returns the status.
 pub fn refuse_limits(rt: &HostRuntime, limits: &Limits<'_>, text: &str, fault: &Fault) -> ExitCode {
+    let tip = tip_of(rt.alloc(), fault);
     for setting in limits.settings.iter().rev() {
         if line_of_fault(setting, fault).is_some() {
-            return print_error(rt, format_args!("--limit {setting}: {fault}"));
+            return print_error(rt, format_args!("--limit {setting}: {fault}{tip}"));
         }
     }
     let name = name_of(limits);
     match line_of_fault(text, fault) {
-        Some(line) => print_error(rt, format_args!("{name}: line {line}: {fault}")),
-        None => print_error(rt, format_args!("{name}: {fault}")),
+        Some(line) => print_error(rt, format_args!("{name}: line {line}: {fault}{tip}")),
+        None => print_error(rt, format_args!("{name}: {fault}{tip}")),
     }
 }
 

@@ -3,7 +3,9 @@
 
 mod breaking;
 mod changing;
+mod checking;
 mod commands;
+mod converting;
 mod corpus;
 mod folders;
 mod generating;
@@ -11,6 +13,7 @@ mod inspecting;
 mod limits_file;
 mod options;
 mod places;
+mod progress;
 mod reducing;
 mod scripting;
 mod show;
@@ -51,9 +54,9 @@ fn run(rt: &HostRuntime) -> Result<ExitCode, ExitCode> {
     match options::task_of(rt.alloc(), words.as_slice()) {
         Ok(Task::PrintLimits) => places::status_of_print(rt, print!(rt; "{}", DEFAULT_LIMITS)),
         Ok(Task::Generate(options)) => generating::generate(rt, &options),
-        Ok(Task::Check(path, false)) => inspecting::check(rt, path),
-        Ok(Task::Check(path, true)) => inspecting::validate(rt, path),
-        Ok(Task::Show(path)) => inspecting::show(rt, path),
+        Ok(Task::GenerateEach(batch)) => converting::generate_each(rt, &batch),
+        Ok(Task::Check(checked)) => checking::check(rt, &checked),
+        Ok(Task::Show { input, is_json }) => inspecting::show(rt, input, is_json),
         Ok(Task::Print { input, output }) => inspecting::print(rt, input, output),
         Ok(Task::Script(options)) => scripting::script(rt, &options),
         Ok(Task::Smaller(options, choice)) => reducing::reduce(rt, &options, choice),

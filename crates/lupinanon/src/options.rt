@@ -13,11 +13,15 @@ pub enum Task<'a> {
     PrintLimits,
     /// Make a component.
     Generate(Options<'a>),
-    /// Say whether a file is a well-formed component, or if that is asked, what it is to validators; standard input if
-    /// it is absent.
-    Check(Option<&'a str>, bool),
+    /// Make a component of each input in a folder.
+    GenerateEach(Batch<'a>),
+    /// Say what files are.
+    Check(Checked<'a>),
     /// Print the component in a file.
-    Show(Option<&'a str>),
+    Show {
+        input: Option<&'a str>,
+        is_json: bool,
+    },
     /// Write the component in a file as text.
     Print {
         input: Option<&'a str>,
@@ -62,6 +66,28 @@ pub struct Options<'a> {
     pub is_any: bool,
     pub form: Form,
     pub prints_left: bool,
+}
+
+/// Inputs of which components are made.
+#[derive(Drop)]
+pub struct Batch<'a> {
+    /// The folder of the inputs.
+    pub from: &'a str,
+    /// The folder of the components.
+    pub folder: &'a str,
+    pub limits: Limits<'a>,
+    /// Whether the first bytes of each input encode limits that override these.
+    pub is_swarm: bool,
+}
+
+/// Files that are checked.
+#[derive(Drop)]
+pub struct Checked<'a> {
+    /// Files, of which `-` is standard input, and folders of files; standard input alone if there are none.
+    pub paths: Vec<&'a str>,
+    /// Whether they are judged as validators judge them.
+    pub validates: bool,
+    pub is_json: bool,
 }
 
 /// Which smaller component is written.
@@ -178,6 +204,28 @@ fn options_of<'a>(alloc: Global, matches: &ArgMatches<'a>) -> Result<Options<'a>
     })
 }
 
+// What `generate` is to do.
+fn generate_of<'a>(alloc: Global, matches: &ArgMatches<'a>) -> Result<Task<'a>, AllocError> {
+    let Some(from) = matches.get_str("from") else {
+        return Ok(Task::Generate(options_of(alloc, matches)?));
+    };
+    Ok(Task::GenerateEach(Batch {
+        from,
+        folder: matches.get_str("output").unwrap_or("."),
+        limits: limits_of(alloc, matches)?,
+        is_swarm: matches.get_flag("swarm"),
+    }))
+}
+
+fn checked_of<'a>(alloc: Global, matches: &ArgMatches<'a>) -> Result<Checked<'a>, AllocError> {
+    let paths = matches.get_strs("input").unwrap_or_default();
+    Ok(Checked {
+        paths: Vec::from_slice(alloc, paths)?,
+        validates: matches.get_flag("validate"),
+        is_json: matches.get_flag("json"),
+    })
+}
+
 fn choice_of(matches: &ArgMatches<'_>) -> Choice {
     match matches.get_one::<usize>("from") {
         Some(step) => Choice::From(step),
@@ -251,9 +299,12 @@ pub fn task_of<'a, S: AsStr>(alloc: Global, words: &'a [S]) -> Result<Task<'a>, 
         return Ok(Task::PrintLimits);
     };
     Ok(match name {
-        "generate" => Task::Generate(options_of(alloc, found)?),
-        "check" => Task::Check(file(found, "input"), found.get_flag("validate")),
-        "show" => Task::Show(file(found, "input")),
+        "generate" => generate_of(alloc, found)?,
+        "check" => Task::Check(checked_of(alloc, found)?),
+        "show" => Task::Show {
+            input: file(found, "input"),
+            is_json: found.get_flag("json"),
+        },
         "print" => Task::Print {
             input: file(found, "input"),
             output: file(found, "output"),

@@ -2,10 +2,12 @@
 //! its index space if it has one.
 
 mod core_types;
+mod lines;
 mod types;
 mod walk;
 
 use core_types::show_core_type;
+pub use lines::json_of;
 use smith_core::COMPONENT_PREAMBLE;
 use smith_print::next;
 use smith_read::{ComponentTree, Contents, Export, Func, ImportNode, MOST_DEPTH, Step, Steps};

@@ -1,0 +1,296 @@
+//! Saying of files what they are: components, or what they are to validators.
+
+use crate::FAULT;
+use crate::folders::{Listed, Wanted, files_at, is_folder};
+use crate::inspecting::{REFUSED, UNREAD, bytes_in, is_core_module, refuse};
+use crate::options::{Checked, named};
+use crate::places::{STANDARD_INPUT, status_of_print};
+use crate::progress::Progress;
+use serde::Serialize;
+use smith_verdict::{Answer, Outside, Verdict, answer, check as check_bytes};
+use std::alloc::{AllocError, Global};
+use std::collections::BTreeMap;
+use std::fmt;
+use std::process::ExitCode;
+
+// What `check` ends with if it is asked about validators, and one may accept or refuse the bytes, which may be read.
+const UNDECIDED: u8 = 4;
+
+// The statuses of a file, from the best to the worst.
+const FROM_BEST: [u8; 5] = [0, UNDECIDED, UNREAD, REFUSED, FAULT];
+
+const VERDICTS: [&str; 3] = ["well formed", "ill formed", "unread"];
+
+const ANSWERS: [&str; 4] = ["valid", "invalid", "bound", "outside"];
+
+// What a file is found to be.
+#[derive(Drop)]
+enum Found {
+    CoreModule,
+    Verdict(Verdict),
+    Answer(Answer),
+}
+
+impl fmt::Display for Found {
+    fn fmt<W: fmt::Write>(&self, f: &mut fmt::Formatter<W>) -> fmt::Result {
+        match self {
+            Found::CoreModule => f.write_str("a core module, not a component"),
+            Found::Verdict(verdict) => write!(f, "{verdict}"),
+            Found::Answer(answer) => write!(f, "{answer}"),
+        }
+    }
+}
+
+impl Found {
+    fn status(&self) -> u8 {
+        match self {
+            Found::Verdict(Verdict::WellFormed) | Found::Answer(Answer::Valid) => 0,
+            Found::Verdict(Verdict::IllFormed { .. }) | Found::Answer(Answer::Invalid { .. }) => {
+                REFUSED
+            }
+            Found::CoreModule
+            | Found::Verdict(Verdict::Unread { .. })
+            | Found::Answer(
+                Answer::Outside {
+                    why: Outside::Unread(_),
+                    ..
+                },
+            ) => UNREAD,
+            Found::Answer(_) => UNDECIDED,
+        }
+    }
+
+    // One of `VERDICTS` or of `ANSWERS`.
+    fn word(&self) -> &'static str {
+        match self {
+            Found::Verdict(Verdict::WellFormed) => "well formed",
+            Found::Verdict(Verdict::IllFormed { .. }) => "ill formed",
+            Found::CoreModule | Found::Verdict(Verdict::Unread { .. }) => "unread",
+            Found::Answer(Answer::Valid) => "valid",
+            Found::Answer(Answer::Invalid { .. }) => "invalid",
+            Found::Answer(Answer::Bound { .. }) => "bound",
+            Found::Answer(Answer::Outside { .. }) => "outside",
+        }
+    }
+
+    fn offset(&self) -> Option<usize> {
+        match self {
+            Found::Verdict(Verdict::WellFormed) | Found::Answer(Answer::Valid) => None,
+            Found::CoreModule => Some(0),
+            Found::Verdict(Verdict::IllFormed { offset, .. }) => *offset,
+            Found::Verdict(Verdict::Unread { offset, .. }) => Some(*offset),
+            Found::Answer(Answer::Invalid { offset, .. }) => *offset,
+            Found::Answer(Answer::Bound { offset, .. }) => *offset,
+            Found::Answer(Answer::Outside { offset, .. }) => *offset,
+        }
+    }
+
+    // What is wrong.
+    fn rule(&self, alloc: Global) -> Result<Option<String>, AllocError> {
+        let rule = match self {
+            Found::Verdict(Verdict::WellFormed) | Found::Answer(Answer::Valid) => return Ok(None),
+            Found::CoreModule => format!(in alloc; "{self}")?,
+            Found::Verdict(Verdict::IllFormed { rule, .. }) => format!(in alloc; "{rule}")?,
+            Found::Verdict(Verdict::Unread { reason, .. }) => format!(in alloc; "{reason}")?,
+            Found::Answer(Answer::Invalid { rule, .. }) => format!(in alloc; "{rule}")?,
+            Found::Answer(Answer::Bound { demand, .. }) => format!(in alloc; "{demand}")?,
+            Found::Answer(Answer::Outside { why, .. }) => format!(in alloc; "{why}")?,
+        };
+        Ok(Some(rule))
+    }
+}
+
+// What a file is found to be, as an object of JSON.
+#[derive(Drop, Serialize)]
+struct Line<'a> {
+    file: &'a str,
+    answer: &'static str,
+    rule: Option<String>,
+    offset: Option<usize>,
+}
+
+// How many files are found to be what.
+#[derive(Drop)]
+struct Counts {
+    words: BTreeMap<&'static str, usize>,
+    skipped: usize,
+    // The worst status of a file.
+    status: u8,
+}
+
+impl Counts {
+    fn new(alloc: Global, skipped: usize) -> Counts {
+        let status = if skipped == 0 { 0 } else { FAULT };
+        Counts {
+            words: BTreeMap::new(alloc),
+            skipped,
+            status,
+        }
+    }
+
+    // Adds a status, which is told if it is worse than those before it.
+    fn add_status(&mut self, status: u8) {
+        let known = self.status;
+        let worse = FROM_BEST
+            .iter()
+            .rev()
+            .find(|one| **one == status || **one == known);
+        self.status = *worse.unwrap_or(&status);
+    }
+
+    fn add(&mut self, found: &Found) -> Result<(), AllocError> {
+        let count = self.words.entry(found.word())?.or_insert(0);
+        *count = count.saturating_add(1);
+        self.add_status(found.status());
+        Ok(())
+    }
+
+    // Adds a file that is not read.
+    fn skip(&mut self) {
+        self.skipped = self.skipped.saturating_add(1);
+        self.add_status(FAULT);
+    }
+
+    // Prints how many files there are of each word.
+    fn print(&self, rt: &HostRuntime, words: &[&'static str]) -> Result<ExitCode, ExitCode> {
+        for word in words {
+            let count = self.words.get(word).copied().unwrap_or(0);
+            status_of_print(rt, print!(rt; "{word} {count}, "))?;
+        }
+        let skipped = self.skipped;
+        status_of_print(rt, println!(rt; "skipped {skipped}"))
+    }
+}
+
+// What the bytes are found to be.
+fn found_of(alloc: Global, bytes: &[u8], validates: bool) -> Result<Found, AllocError> {
+    if validates {
+        return Ok(Found::Answer(answer(alloc, bytes)?));
+    }
+    if is_core_module(bytes) {
+        return Ok(Found::CoreModule);
+    }
+    Ok(Found::Verdict(check_bytes(alloc, bytes)?))
+}
+
+// What the file is found to be, or the status after a message.
+fn found_in(rt: &HostRuntime, path: Option<&str>, validates: bool) -> Result<Found, ExitCode> {
+    let bytes = bytes_in(rt, path)?;
+    match found_of(rt.alloc(), &bytes, validates) {
+        Ok(found) => Ok(found),
+        Err(_) => Err(refuse(rt, path, &"out of memory", FAULT)),
+    }
+}
+
+fn json_of(alloc: Global, file: &str, found: &Found) -> Result<String, serde_json::Error> {
+    let line = Line {
+        file,
+        answer: found.word(),
+        rule: found.rule(alloc)?,
+        offset: found.offset(),
+    };
+    serde_json::to_string(alloc, &line)
+}
+
+// Prints a line that says what a file is found to be, if it is asked for as JSON.
+fn print_found(
+    rt: &HostRuntime,
+    path: Option<&str>,
+    found: &Found,
+    is_json: bool,
+) -> Result<ExitCode, ExitCode> {
+    let file = path.unwrap_or(STANDARD_INPUT);
+    if !is_json {
+        return status_of_print(rt, println!(rt; "{file}: {found}"));
+    }
+    match json_of(rt.alloc(), file, found) {
+        Ok(line) => status_of_print(rt, println!(rt; "{line}")),
+        Err(_) => Err(refuse(rt, path, &"out of memory", FAULT)),
+    }
+}
+
+// Says what one file is: on standard error if something is wrong with it, unless that is asked for as JSON.
+fn check_one(
+    rt: &HostRuntime,
+    path: Option<&str>,
+    checked: &Checked<'_>,
+) -> Result<ExitCode, ExitCode> {
+    let found = found_in(rt, path, checked.validates)?;
+    let status = found.status();
+    if status != 0 && !checked.is_json {
+        return Err(refuse(rt, path, &found, status));
+    }
+    print_found(rt, path, &found, checked.is_json)?;
+    Ok(ExitCode::from(status))
+}
+
+// Says what one of several files is.
+fn check_next(
+    rt: &HostRuntime,
+    path: &str,
+    checked: &Checked<'_>,
+    counts: &mut Counts,
+) -> Result<(), ExitCode> {
+    let path = named(path);
+    match found_in(rt, path, checked.validates) {
+        Ok(found) => {
+            print_found(rt, path, &found, checked.is_json)?;
+            match counts.add(&found) {
+                Ok(()) => Ok(()),
+                Err(_) => Err(refuse(rt, path, &"out of memory", FAULT)),
+            }
+        }
+        Err(_status) => {
+            counts.skip();
+            Ok(())
+        }
+    }
+}
+
+// Says what each of several files is.
+fn check_each(
+    rt: &HostRuntime,
+    paths: &[String],
+    checked: &Checked<'_>,
+    counts: &mut Counts,
+) -> Result<(), ExitCode> {
+    let mut progress = Progress::beside_lines(rt, paths.len());
+    for path in paths {
+        check_next(rt, path, checked, counts)?;
+        progress.step();
+    }
+    progress.end();
+    Ok(())
+}
+
+// Says what each of several files is, and how many there are of each sort.
+fn check_all(
+    rt: &HostRuntime,
+    listed: &Listed,
+    checked: &Checked<'_>,
+) -> Result<ExitCode, ExitCode> {
+    let mut counts = Counts::new(rt.alloc(), listed.skipped);
+    check_each(rt, &listed.paths, checked, &mut counts)?;
+    if checked.is_json {
+        return Ok(ExitCode::from(counts.status));
+    }
+    if checked.validates {
+        counts.print(rt, &ANSWERS)?;
+    } else {
+        counts.print(rt, &VERDICTS)?;
+    }
+    Ok(ExitCode::from(counts.status))
+}
+
+/// Says what files are: whether they are well-formed components, and otherwise what is wrong with them, and where; or
+/// if that is asked, what they are to validators of the standard.
+pub fn check(rt: &HostRuntime, checked: &Checked<'_>) -> Result<ExitCode, ExitCode> {
+    let paths = checked.paths.as_slice();
+    match paths.first() {
+        None => check_one(rt, None, checked),
+        Some(path) if paths.len() == 1 && !is_folder(rt, path) => {
+            check_one(rt, named(path), checked)
+        }
+        Some(_) => check_all(rt, &files_at(rt, paths, Wanted::Components)?, checked),
+    }
+}
