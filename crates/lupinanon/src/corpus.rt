@@ -2,7 +2,7 @@
 
 use crate::breaking::write_broken;
 use crate::folders::{COMPONENT_ENDING, components_in, make_folder, path_in, write_new};
-use crate::inspecting::{REFUSED, bytes_in};
+use crate::inspecting::{REFUSED, component_in};
 use crate::limits_file::config_of;
 use crate::options::{Draw, Limits, Origin};
 use crate::places::status_of_print;
@@ -88,7 +88,7 @@ fn write_script(
     path: &str,
     name: &str,
 ) -> Result<usize, ExitCode> {
-    let bytes = bytes_in(rt, Some(path))?;
+    let bytes = component_in(rt, Some(path))?;
     match script(rt.alloc(), config, &bytes) {
         Ok(input) => {
             write_new(rt, &path_in(rt, folder, name, "")?, &input)?;

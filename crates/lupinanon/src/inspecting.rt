@@ -4,9 +4,10 @@ use crate::FAULT;
 use crate::places::{STANDARD_INPUT, Source, print_fault, source_of, status_of_print};
 use crate::scripting::write_bytes;
 use crate::show::Shown;
-use smith_core::CORE_PREAMBLE;
+use crate::unread::Unread;
+use smith_core::COMPONENT_PREAMBLE;
 use smith_print::print as text_of;
-use smith_read::read;
+use smith_read::{ReadError, read};
 use smith_verdict::{Answer, Outside, Verdict, answer, check as check_bytes};
 use std::fmt;
 use std::io::{self, Read};
@@ -28,16 +29,46 @@ fn read_whole(rt: &HostRuntime, source: &mut Source) -> io::Result<Vec<u8>> {
     Ok(bytes)
 }
 
-/// The bytes of the file, or the status after a message.
-pub fn bytes_in(rt: &HostRuntime, path: Option<&str>) -> Result<Vec<u8>, ExitCode> {
-    let mut source = source_of(rt, path)?;
-    match read_whole(rt, &mut source) {
+// Reads a component. Of bytes that do not begin with its preamble, no more than so many are read.
+fn read_component(rt: &HostRuntime, source: &mut Source) -> io::Result<Vec<u8>> {
+    let mut bytes = Vec::new(rt.alloc());
+    let mut head = source.by_ref().take(COMPONENT_PREAMBLE.len() as u64);
+    head.read_to_end(&mut bytes)?;
+    if bytes.starts_with(&COMPONENT_PREAMBLE) {
+        source.read_to_end(&mut bytes)?;
+    }
+    Ok(bytes)
+}
+
+// What was read of the file, or the status after a message.
+fn settled(
+    rt: &HostRuntime,
+    path: Option<&str>,
+    source: &Source,
+    done: io::Result<Vec<u8>>,
+) -> Result<Vec<u8>, ExitCode> {
+    match done {
         Ok(bytes) => Ok(bytes),
         Err(error) => {
             let fault = source.fault().unwrap_or(&error);
             Err(print_fault(rt, path, STANDARD_INPUT, Some(fault)))
         }
     }
+}
+
+/// The bytes of the file, or the status after a message.
+pub fn bytes_in(rt: &HostRuntime, path: Option<&str>) -> Result<Vec<u8>, ExitCode> {
+    let mut source = source_of(rt, path)?;
+    let done = read_whole(rt, &mut source);
+    settled(rt, path, &source, done)
+}
+
+/// The bytes of the component in the file, or the status after a message. If the file does not begin with the preamble
+/// of a component, they are its first eight: what is said of a file then depends on nothing else.
+pub fn component_in(rt: &HostRuntime, path: Option<&str>) -> Result<Vec<u8>, ExitCode> {
+    let mut source = source_of(rt, path)?;
+    let done = read_component(rt, &mut source);
+    settled(rt, path, &source, done)
 }
 
 /// Prints what is wrong with a file, and returns the status.
@@ -53,17 +84,18 @@ pub fn refuse<W: fmt::Display>(
 }
 
 /// Prints why the bytes of a file are not read as a component, and returns the status.
-pub fn refuse_unread<W: fmt::Display>(
+pub fn refuse_unread(
     rt: &HostRuntime,
     path: Option<&str>,
     bytes: &[u8],
-    why: &W,
-    status: u8,
+    error: &ReadError,
 ) -> ExitCode {
-    if bytes.starts_with(&CORE_PREAMBLE) {
-        return refuse(rt, path, &"a core module, not a component", status);
+    match *error {
+        ReadError::OutOfMemory => refuse(rt, path, error, REFUSED),
+        ReadError::Malformed { reason, offset } => {
+            refuse(rt, path, &Unread::new(bytes, reason, offset), REFUSED)
+        }
     }
-    refuse(rt, path, why, status)
 }
 
 // The status of a component that is not well formed, or of bytes that are none.
@@ -103,10 +135,10 @@ fn report<W: fmt::Display>(
 
 /// Says whether the file is a well-formed component, and otherwise what is wrong with it, and where.
 pub fn check(rt: &HostRuntime, path: Option<&str>) -> Result<ExitCode, ExitCode> {
-    let bytes = bytes_in(rt, path)?;
+    let bytes = component_in(rt, path)?;
     match check_bytes(rt.alloc(), &bytes) {
-        Ok(verdict) if verdict_status(&verdict) == UNREAD => {
-            Err(refuse_unread(rt, path, &bytes, &verdict, UNREAD))
+        Ok(Verdict::Unread { reason, offset }) => {
+            Err(refuse(rt, path, &Unread::new(&bytes, reason, offset), UNREAD))
         }
         Ok(verdict) => report(rt, path, &verdict, verdict_status(&verdict)),
         Err(_) => Err(refuse(rt, path, &"out of memory", FAULT)),
@@ -115,8 +147,17 @@ pub fn check(rt: &HostRuntime, path: Option<&str>) -> Result<ExitCode, ExitCode>
 
 /// Says what the file is to validators of the standard.
 pub fn validate(rt: &HostRuntime, path: Option<&str>) -> Result<ExitCode, ExitCode> {
-    let bytes = bytes_in(rt, path)?;
+    let bytes = component_in(rt, path)?;
     match answer(rt.alloc(), &bytes) {
+        Ok(
+            Answer::Outside {
+                why: Outside::Unread(reason),
+                offset: Some(offset),
+            },
+        ) => {
+            let unread = Unread::new(&bytes, reason, offset);
+            Err(refuse(rt, path, &format_args!("outside: {unread}"), UNREAD))
+        }
         Ok(answer) => report(rt, path, &answer, answer_status(&answer)),
         Err(_) => Err(refuse(rt, path, &"out of memory", FAULT)),
     }
@@ -129,7 +170,7 @@ fn is_of_text(error: &io::Error) -> bool {
 
 /// Prints the component in the file, a line for each section and for each entry.
 pub fn show(rt: &HostRuntime, path: Option<&str>) -> Result<ExitCode, ExitCode> {
-    let bytes = bytes_in(rt, path)?;
+    let bytes = component_in(rt, path)?;
     match read(rt.alloc(), &bytes) {
         Ok(component) => {
             let shown = Shown {
@@ -144,7 +185,7 @@ pub fn show(rt: &HostRuntime, path: Option<&str>) -> Result<ExitCode, ExitCode> 
                 printed => status_of_print(rt, printed),
             }
         }
-        Err(error) => Err(refuse_unread(rt, path, &bytes, &error, REFUSED)),
+        Err(error) => Err(refuse_unread(rt, path, &bytes, &error)),
     }
 }
 
@@ -154,10 +195,10 @@ pub fn print(
     path: Option<&str>,
     output: Option<&str>,
 ) -> Result<ExitCode, ExitCode> {
-    let bytes = bytes_in(rt, path)?;
+    let bytes = component_in(rt, path)?;
     let component = match read(rt.alloc(), &bytes) {
         Ok(component) => component,
-        Err(error) => return Err(refuse_unread(rt, path, &bytes, &error, REFUSED)),
+        Err(error) => return Err(refuse_unread(rt, path, &bytes, &error)),
     };
     match text_of(rt.alloc(), &component) {
         Ok(text) => write_bytes(rt, output, text.as_bytes()),

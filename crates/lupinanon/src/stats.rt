@@ -1,7 +1,7 @@
 //! What is in components.
 
 use crate::folders::{COMPONENT_ENDING, components_in, inputs_in, is_folder, path_in};
-use crate::inspecting::{REFUSED, bytes_in, refuse, refuse_unread};
+use crate::inspecting::{REFUSED, bytes_in, component_in, refuse, refuse_unread};
 use crate::limits_file::config_of;
 use crate::options::{Counted, Page};
 use crate::places::status_of_print;
@@ -30,7 +30,7 @@ fn add_component(
         Ok(component) => tally.add(bytes.len(), &component),
         Err(ReadError::OutOfMemory) => Err(AllocError),
         Err(error) => {
-            let _status = refuse_unread(rt, Some(path), bytes, &error, REFUSED);
+            let _status = refuse_unread(rt, Some(path), bytes, &error);
             tally.add_unread();
             Ok(())
         }
@@ -106,11 +106,12 @@ pub fn stats(rt: &HostRuntime, counted: &Counted<'_>) -> Result<ExitCode, ExitCo
     let paths = paths_of(rt, counted)?;
     let mut tally = Tally::new(rt.alloc());
     for path in &paths {
-        let bytes = bytes_in(rt, Some(path))?;
         if counted.are_inputs {
-            add_input(rt, &mut tally, &config, path, &bytes)?;
+            let input = bytes_in(rt, Some(path))?;
+            add_input(rt, &mut tally, &config, path, &input)?;
         } else {
-            add_component(rt, &mut tally, path, &bytes)?;
+            let component = component_in(rt, Some(path))?;
+            add_component(rt, &mut tally, path, &component)?;
         }
     }
     let (tally, names) = (&tally, paths.as_slice());
