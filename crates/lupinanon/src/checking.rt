@@ -2,10 +2,11 @@
 
 use crate::FAULT;
 use crate::folders::{Listed, Wanted, files_at, is_folder};
-use crate::inspecting::{REFUSED, UNREAD, bytes_in, is_core_module, refuse};
+use crate::inspecting::{REFUSED, UNREAD, component_in, refuse};
 use crate::options::{Checked, named};
 use crate::places::{STANDARD_INPUT, status_of_print};
 use crate::progress::Progress;
+use crate::unread::Unread;
 use serde::Serialize;
 use smith_verdict::{Answer, Outside, Verdict, answer, check as check_bytes};
 use std::alloc::{AllocError, Global};
@@ -23,80 +24,112 @@ const VERDICTS: [&str; 3] = ["well formed", "ill formed", "unread"];
 
 const ANSWERS: [&str; 4] = ["valid", "invalid", "bound", "outside"];
 
-// What a file is found to be.
+// What bytes are judged to be.
 #[derive(Drop)]
-enum Found {
-    CoreModule,
+enum Judged {
     Verdict(Verdict),
     Answer(Answer),
 }
 
-impl fmt::Display for Found {
-    fn fmt<W: fmt::Write>(&self, f: &mut fmt::Formatter<W>) -> fmt::Result {
-        match self {
-            Found::CoreModule => f.write_str("a core module, not a component"),
-            Found::Verdict(verdict) => write!(f, "{verdict}"),
-            Found::Answer(answer) => write!(f, "{answer}"),
-        }
-    }
+// What the bytes of a file are found to be.
+#[derive(Drop)]
+struct Found<'a> {
+    bytes: &'a [u8],
+    judged: Judged,
 }
 
-impl Found {
+impl Judged {
     fn status(&self) -> u8 {
         match self {
-            Found::Verdict(Verdict::WellFormed) | Found::Answer(Answer::Valid) => 0,
-            Found::Verdict(Verdict::IllFormed { .. }) | Found::Answer(Answer::Invalid { .. }) => {
-                REFUSED
-            }
-            Found::CoreModule
-            | Found::Verdict(Verdict::Unread { .. })
-            | Found::Answer(
+            Judged::Verdict(Verdict::WellFormed) | Judged::Answer(Answer::Valid) => 0,
+            Judged::Verdict(Verdict::IllFormed { .. }) => REFUSED,
+            Judged::Verdict(Verdict::Unread { .. }) => UNREAD,
+            Judged::Answer(Answer::Invalid { .. }) => REFUSED,
+            Judged::Answer(
                 Answer::Outside {
                     why: Outside::Unread(_),
                     ..
                 },
             ) => UNREAD,
-            Found::Answer(_) => UNDECIDED,
+            Judged::Answer(Answer::Bound { .. } | Answer::Outside { .. }) => UNDECIDED,
         }
     }
 
     // One of `VERDICTS` or of `ANSWERS`.
     fn word(&self) -> &'static str {
         match self {
-            Found::Verdict(Verdict::WellFormed) => "well formed",
-            Found::Verdict(Verdict::IllFormed { .. }) => "ill formed",
-            Found::CoreModule | Found::Verdict(Verdict::Unread { .. }) => "unread",
-            Found::Answer(Answer::Valid) => "valid",
-            Found::Answer(Answer::Invalid { .. }) => "invalid",
-            Found::Answer(Answer::Bound { .. }) => "bound",
-            Found::Answer(Answer::Outside { .. }) => "outside",
+            Judged::Verdict(Verdict::WellFormed) => "well formed",
+            Judged::Verdict(Verdict::IllFormed { .. }) => "ill formed",
+            Judged::Verdict(Verdict::Unread { .. }) => "unread",
+            Judged::Answer(Answer::Valid) => "valid",
+            Judged::Answer(Answer::Invalid { .. }) => "invalid",
+            Judged::Answer(Answer::Bound { .. }) => "bound",
+            Judged::Answer(Answer::Outside { .. }) => "outside",
         }
     }
 
     fn offset(&self) -> Option<usize> {
         match self {
-            Found::Verdict(Verdict::WellFormed) | Found::Answer(Answer::Valid) => None,
-            Found::CoreModule => Some(0),
-            Found::Verdict(Verdict::IllFormed { offset, .. }) => *offset,
-            Found::Verdict(Verdict::Unread { offset, .. }) => Some(*offset),
-            Found::Answer(Answer::Invalid { offset, .. }) => *offset,
-            Found::Answer(Answer::Bound { offset, .. }) => *offset,
-            Found::Answer(Answer::Outside { offset, .. }) => *offset,
+            Judged::Verdict(Verdict::WellFormed) | Judged::Answer(Answer::Valid) => None,
+            Judged::Verdict(Verdict::IllFormed { offset, .. }) => *offset,
+            Judged::Verdict(Verdict::Unread { offset, .. }) => Some(*offset),
+            Judged::Answer(Answer::Invalid { offset, .. }) => *offset,
+            Judged::Answer(Answer::Bound { offset, .. }) => *offset,
+            Judged::Answer(Answer::Outside { offset, .. }) => *offset,
         }
     }
 
     // What is wrong.
     fn rule(&self, alloc: Global) -> Result<Option<String>, AllocError> {
         let rule = match self {
-            Found::Verdict(Verdict::WellFormed) | Found::Answer(Answer::Valid) => return Ok(None),
-            Found::CoreModule => format!(in alloc; "{self}")?,
-            Found::Verdict(Verdict::IllFormed { rule, .. }) => format!(in alloc; "{rule}")?,
-            Found::Verdict(Verdict::Unread { reason, .. }) => format!(in alloc; "{reason}")?,
-            Found::Answer(Answer::Invalid { rule, .. }) => format!(in alloc; "{rule}")?,
-            Found::Answer(Answer::Bound { demand, .. }) => format!(in alloc; "{demand}")?,
-            Found::Answer(Answer::Outside { why, .. }) => format!(in alloc; "{why}")?,
+            Judged::Verdict(Verdict::WellFormed) | Judged::Answer(Answer::Valid) => {
+                return Ok(None);
+            }
+            Judged::Verdict(Verdict::IllFormed { rule, .. }) => format!(in alloc; "{rule}")?,
+            Judged::Verdict(Verdict::Unread { reason, .. }) => format!(in alloc; "{reason}")?,
+            Judged::Answer(Answer::Invalid { rule, .. }) => format!(in alloc; "{rule}")?,
+            Judged::Answer(Answer::Bound { demand, .. }) => format!(in alloc; "{demand}")?,
+            Judged::Answer(Answer::Outside { why, .. }) => format!(in alloc; "{why}")?,
         };
         Ok(Some(rule))
+    }
+}
+
+impl<'a> Found<'a> {
+    // Why the bytes are not read as a component.
+    fn unread(&self) -> Option<Unread<'a>> {
+        match self.judged {
+            Judged::Verdict(Verdict::Unread { reason, offset }) => {
+                Some(Unread::new(self.bytes, reason, offset))
+            }
+            Judged::Answer(
+                Answer::Outside {
+                    why: Outside::Unread(reason),
+                    offset: Some(offset),
+                },
+            ) => Some(Unread::new(self.bytes, reason, offset)),
+            _ => None,
+        }
+    }
+
+    fn line(&self, alloc: Global, file: &'a str) -> Result<Line<'a>, AllocError> {
+        Ok(Line {
+            file,
+            answer: self.judged.word(),
+            rule: self.judged.rule(alloc)?,
+            offset: self.judged.offset(),
+        })
+    }
+}
+
+impl fmt::Display for Found<'_> {
+    fn fmt<W: fmt::Write>(&self, f: &mut fmt::Formatter<W>) -> fmt::Result {
+        match (&self.judged, self.unread()) {
+            (Judged::Verdict(_), Some(unread)) => write!(f, "{unread}"),
+            (Judged::Answer(_), Some(unread)) => write!(f, "outside: {unread}"),
+            (Judged::Verdict(verdict), None) => write!(f, "{verdict}"),
+            (Judged::Answer(answer), None) => write!(f, "{answer}"),
+        }
     }
 }
 
@@ -138,10 +171,10 @@ impl Counts {
         self.status = *worse.unwrap_or(&status);
     }
 
-    fn add(&mut self, found: &Found) -> Result<(), AllocError> {
-        let count = self.words.entry(found.word())?.or_insert(0);
+    fn add(&mut self, judged: &Judged) -> Result<(), AllocError> {
+        let count = self.words.entry(judged.word())?.or_insert(0);
         *count = count.saturating_add(1);
-        self.add_status(found.status());
+        self.add_status(judged.status());
         Ok(())
     }
 
@@ -162,33 +195,29 @@ impl Counts {
     }
 }
 
-// What the bytes are found to be.
-fn found_of(alloc: Global, bytes: &[u8], validates: bool) -> Result<Found, AllocError> {
+// What the bytes are judged to be.
+fn judged(alloc: Global, bytes: &[u8], validates: bool) -> Result<Judged, AllocError> {
     if validates {
-        return Ok(Found::Answer(answer(alloc, bytes)?));
+        return Ok(Judged::Answer(answer(alloc, bytes)?));
     }
-    if is_core_module(bytes) {
-        return Ok(Found::CoreModule);
-    }
-    Ok(Found::Verdict(check_bytes(alloc, bytes)?))
+    Ok(Judged::Verdict(check_bytes(alloc, bytes)?))
 }
 
-// What the file is found to be, or the status after a message.
-fn found_in(rt: &HostRuntime, path: Option<&str>, validates: bool) -> Result<Found, ExitCode> {
-    let bytes = bytes_in(rt, path)?;
-    match found_of(rt.alloc(), &bytes, validates) {
-        Ok(found) => Ok(found),
+// What the bytes of a file are found to be, or the status after a message.
+fn found_in<'a>(
+    rt: &HostRuntime,
+    path: Option<&str>,
+    bytes: &'a [u8],
+    validates: bool,
+) -> Result<Found<'a>, ExitCode> {
+    match judged(rt.alloc(), bytes, validates) {
+        Ok(judged) => Ok(Found { bytes, judged }),
         Err(_) => Err(refuse(rt, path, &"out of memory", FAULT)),
     }
 }
 
-fn json_of(alloc: Global, file: &str, found: &Found) -> Result<String, serde_json::Error> {
-    let line = Line {
-        file,
-        answer: found.word(),
-        rule: found.rule(alloc)?,
-        offset: found.offset(),
-    };
+fn json_of(alloc: Global, file: &str, found: &Found<'_>) -> Result<String, serde_json::Error> {
+    let line = found.line(alloc, file)?;
     serde_json::to_string(alloc, &line)
 }
 
@@ -196,7 +225,7 @@ fn json_of(alloc: Global, file: &str, found: &Found) -> Result<String, serde_jso
 fn print_found(
     rt: &HostRuntime,
     path: Option<&str>,
-    found: &Found,
+    found: &Found<'_>,
     is_json: bool,
 ) -> Result<ExitCode, ExitCode> {
     let file = path.unwrap_or(STANDARD_INPUT);
@@ -215,8 +244,9 @@ fn check_one(
     path: Option<&str>,
     checked: &Checked<'_>,
 ) -> Result<ExitCode, ExitCode> {
-    let found = found_in(rt, path, checked.validates)?;
-    let status = found.status();
+    let bytes = component_in(rt, path)?;
+    let found = found_in(rt, path, &bytes, checked.validates)?;
+    let status = found.judged.status();
     if status != 0 && !checked.is_json {
         return Err(refuse(rt, path, &found, status));
     }
@@ -224,26 +254,19 @@ fn check_one(
     Ok(ExitCode::from(status))
 }
 
-// Says what one of several files is.
+// Says what one of several files is, and counts it. Returns the status after a message if nothing can be said.
 fn check_next(
     rt: &HostRuntime,
-    path: &str,
+    path: Option<&str>,
+    bytes: &[u8],
     checked: &Checked<'_>,
     counts: &mut Counts,
 ) -> Result<(), ExitCode> {
-    let path = named(path);
-    match found_in(rt, path, checked.validates) {
-        Ok(found) => {
-            print_found(rt, path, &found, checked.is_json)?;
-            match counts.add(&found) {
-                Ok(()) => Ok(()),
-                Err(_) => Err(refuse(rt, path, &"out of memory", FAULT)),
-            }
-        }
-        Err(_status) => {
-            counts.skip();
-            Ok(())
-        }
+    let found = found_in(rt, path, bytes, checked.validates)?;
+    print_found(rt, path, &found, checked.is_json)?;
+    match counts.add(&found.judged) {
+        Ok(()) => Ok(()),
+        Err(_) => Err(refuse(rt, path, &"out of memory", FAULT)),
     }
 }
 
@@ -256,7 +279,11 @@ fn check_each(
 ) -> Result<(), ExitCode> {
     let mut progress = Progress::beside_lines(rt, paths.len());
     for path in paths {
-        check_next(rt, path, checked, counts)?;
+        let path = named(path);
+        match component_in(rt, path) {
+            Ok(bytes) => check_next(rt, path, &bytes, checked, counts)?,
+            Err(_status) => counts.skip(),
+        }
         progress.step();
     }
     progress.end();

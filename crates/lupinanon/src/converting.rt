@@ -4,13 +4,13 @@ use crate::FAULT;
 use crate::folders::{
     COMPONENT_ENDING, Wanted, files_at, make_folder, name_at, path_in, write_new,
 };
-use crate::inspecting::refuse;
+use crate::generating::refuse_input;
 use crate::limits_file::config_of;
 use crate::options::Batch;
-use crate::places::{STANDARD_INPUT, Source, print_fault, source_of, status_of_print};
+use crate::places::{Source, source_of, status_of_print};
 use crate::progress::Progress;
 use smith_component::Config;
-use smith_run::{Form, LONGEST_INPUT, RunError, convert, convert_swarm};
+use smith_run::{Form, RunError, convert, convert_swarm};
 use std::process::ExitCode;
 
 // How many inputs there are with a component and without one.
@@ -46,23 +46,6 @@ fn made_of(
     Ok(made)
 }
 
-// Prints why there is no component of an input.
-fn refuse_input(rt: &HostRuntime, path: &str, source: &Source, error: &RunError) {
-    let status = error.status();
-    let path = Some(path);
-    let _status = match error {
-        RunError::ReadFault => print_fault(rt, path, STANDARD_INPUT, source.fault()),
-        RunError::WriteFault => refuse(rt, path, &"out of memory", status),
-        RunError::InputTooLong => {
-            let why = format_args!("the input has more than {LONGEST_INPUT} bytes");
-            refuse(rt, path, &why, status)
-        }
-        RunError::Refused(refusal) => {
-            refuse(rt, path, &format_args!("{refusal:?}: {refusal}"), status)
-        }
-    };
-}
-
 // Makes the component of an input. Returns the status after a message if that cannot be written.
 fn make_next(
     rt: &HostRuntime,
@@ -82,8 +65,8 @@ fn make_next(
             counts.made = counts.made.saturating_add(1);
         }
         Err(error) => {
-            refuse_input(rt, path, &source, &error);
             counts.skip(error.status());
+            let _status = refuse_input(rt, Some(path), &source, error);
         }
     }
     Ok(())

@@ -4,7 +4,7 @@ use crate::breaking::write_broken;
 use crate::folders::{
     COMPONENT_ENDING, Wanted, files_at, make_folder, name_at, path_in, write_new,
 };
-use crate::inspecting::{REFUSED, bytes_in};
+use crate::inspecting::{REFUSED, component_in};
 use crate::limits_file::config_of;
 use crate::options::{Draw, Limits, Origin};
 use crate::places::status_of_print;
@@ -76,7 +76,7 @@ fn write_script(
     config: &Config,
     path: &str,
 ) -> Result<usize, ExitCode> {
-    let bytes = bytes_in(rt, Some(path))?;
+    let bytes = component_in(rt, Some(path))?;
     match script(rt.alloc(), config, &bytes) {
         Ok(input) => {
             let name = name_at(path);

@@ -3,9 +3,10 @@
 use crate::places::{STANDARD_INPUT, Source, print_fault, source_of, status_of_print};
 use crate::scripting::write_bytes;
 use crate::show::{Shown, json_of};
-use smith_core::CORE_PREAMBLE;
+use crate::unread::Unread;
+use smith_core::COMPONENT_PREAMBLE;
 use smith_print::print as text_of;
-use smith_read::read;
+use smith_read::{ReadError, read};
 use std::fmt;
 use std::io::{self, Read};
 use std::process::ExitCode;
@@ -23,16 +24,46 @@ fn read_whole(rt: &HostRuntime, source: &mut Source) -> io::Result<Vec<u8>> {
     Ok(bytes)
 }
 
-/// The bytes of the file, or the status after a message.
-pub fn bytes_in(rt: &HostRuntime, path: Option<&str>) -> Result<Vec<u8>, ExitCode> {
-    let mut source = source_of(rt, path)?;
-    match read_whole(rt, &mut source) {
+// Reads a component. Of bytes that do not begin with its preamble, no more than so many are read.
+fn read_component(rt: &HostRuntime, source: &mut Source) -> io::Result<Vec<u8>> {
+    let mut bytes = Vec::new(rt.alloc());
+    let mut head = source.by_ref().take(COMPONENT_PREAMBLE.len() as u64);
+    head.read_to_end(&mut bytes)?;
+    if bytes.starts_with(&COMPONENT_PREAMBLE) {
+        source.read_to_end(&mut bytes)?;
+    }
+    Ok(bytes)
+}
+
+// What was read of the file, or the status after a message.
+fn settled(
+    rt: &HostRuntime,
+    path: Option<&str>,
+    source: &Source,
+    done: io::Result<Vec<u8>>,
+) -> Result<Vec<u8>, ExitCode> {
+    match done {
         Ok(bytes) => Ok(bytes),
         Err(error) => {
             let fault = source.fault().unwrap_or(&error);
             Err(print_fault(rt, path, STANDARD_INPUT, Some(fault)))
         }
     }
+}
+
+/// The bytes of the file, or the status after a message.
+pub fn bytes_in(rt: &HostRuntime, path: Option<&str>) -> Result<Vec<u8>, ExitCode> {
+    let mut source = source_of(rt, path)?;
+    let done = read_whole(rt, &mut source);
+    settled(rt, path, &source, done)
+}
+
+/// The bytes of the component in the file, or the status after a message. If the file does not begin with the preamble
+/// of a component, they are its first eight: what is said of a file then depends on nothing else.
+pub fn component_in(rt: &HostRuntime, path: Option<&str>) -> Result<Vec<u8>, ExitCode> {
+    let mut source = source_of(rt, path)?;
+    let done = read_component(rt, &mut source);
+    settled(rt, path, &source, done)
 }
 
 /// Prints what is wrong with a file, and returns the status.
@@ -47,23 +78,19 @@ pub fn refuse<W: fmt::Display>(
     ExitCode::from(status)
 }
 
-/// Whether bytes begin as those of a core module do.
-pub fn is_core_module(bytes: &[u8]) -> bool {
-    bytes.starts_with(&CORE_PREAMBLE)
-}
-
 /// Prints why the bytes of a file are not read as a component, and returns the status.
-pub fn refuse_unread<W: fmt::Display>(
+pub fn refuse_unread(
     rt: &HostRuntime,
     path: Option<&str>,
     bytes: &[u8],
-    why: &W,
-    status: u8,
+    error: &ReadError,
 ) -> ExitCode {
-    if is_core_module(bytes) {
-        return refuse(rt, path, &"a core module, not a component", status);
+    match *error {
+        ReadError::OutOfMemory => refuse(rt, path, error, REFUSED),
+        ReadError::Malformed { reason, offset } => {
+            refuse(rt, path, &Unread::new(bytes, reason, offset), REFUSED)
+        }
     }
-    refuse(rt, path, why, status)
 }
 
 // Whether the text broke off, and no write failed. The text of a component breaks off only if memory runs out.
@@ -95,7 +122,7 @@ fn print_json(
 
 /// Prints the component in the file, a line for each section and for each entry, or an array of JSON of these lines.
 pub fn show(rt: &HostRuntime, path: Option<&str>, is_json: bool) -> Result<ExitCode, ExitCode> {
-    let bytes = bytes_in(rt, path)?;
+    let bytes = component_in(rt, path)?;
     match read(rt.alloc(), &bytes) {
         Ok(component) => {
             let shown = Shown {
@@ -109,7 +136,7 @@ pub fn show(rt: &HostRuntime, path: Option<&str>, is_json: bool) -> Result<ExitC
                 print_lines(rt, path, &shown)
             }
         }
-        Err(error) => Err(refuse_unread(rt, path, &bytes, &error, REFUSED)),
+        Err(error) => Err(refuse_unread(rt, path, &bytes, &error)),
     }
 }
 
@@ -119,10 +146,10 @@ pub fn print(
     path: Option<&str>,
     output: Option<&str>,
 ) -> Result<ExitCode, ExitCode> {
-    let bytes = bytes_in(rt, path)?;
+    let bytes = component_in(rt, path)?;
     let component = match read(rt.alloc(), &bytes) {
         Ok(component) => component,
-        Err(error) => return Err(refuse_unread(rt, path, &bytes, &error, REFUSED)),
+        Err(error) => return Err(refuse_unread(rt, path, &bytes, &error)),
     };
     match text_of(rt.alloc(), &component) {
         Ok(text) => write_bytes(rt, output, text.as_bytes()),

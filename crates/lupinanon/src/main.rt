@@ -18,6 +18,7 @@ mod reducing;
 mod scripting;
 mod show;
 mod stats;
+mod unread;
 
 use options::Task;
 use smith_limits::DEFAULT_LIMITS;

@@ -1,7 +1,7 @@
 //! What is in components.
 
 use crate::folders::{Wanted, files_at};
-use crate::inspecting::{REFUSED, bytes_in, refuse, refuse_unread};
+use crate::inspecting::{REFUSED, bytes_in, component_in, refuse, refuse_unread};
 use crate::limits_file::config_of;
 use crate::options::{Counted, Page};
 use crate::places::status_of_print;
@@ -31,7 +31,7 @@ fn add_component(
         Ok(component) => tally.add(bytes.len(), &component),
         Err(ReadError::OutOfMemory) => Err(AllocError),
         Err(error) => {
-            let _status = refuse_unread(rt, Some(path), bytes, &error, REFUSED);
+            let _status = refuse_unread(rt, Some(path), bytes, &error);
             tally.add_unread();
             Ok(())
         }
@@ -68,11 +68,12 @@ fn add_files(
 ) -> Result<(), ExitCode> {
     let mut progress = Progress::new(rt, paths.len());
     for path in paths {
-        let bytes = bytes_in(rt, Some(path))?;
         if are_inputs {
-            add_input(rt, tally, config, path, &bytes)?;
+            let input = bytes_in(rt, Some(path))?;
+            add_input(rt, tally, config, path, &input)?;
         } else {
-            add_component(rt, tally, path, &bytes)?;
+            let component = component_in(rt, Some(path))?;
+            add_component(rt, tally, path, &component)?;
         }
         progress.step();
     }
