@@ -6,7 +6,7 @@ use crate::inspecting::{REFUSED, UNREAD, component_in, refuse};
 use crate::options::{Checked, named};
 use crate::places::{STANDARD_INPUT, status_of_print};
 use crate::progress::Progress;
-use crate::unread::Unread;
+use crate::unread::{CORE_MODULE, Unread};
 use serde::Serialize;
 use smith_verdict::{Answer, Outside, Verdict, answer, check as check_bytes};
 use std::alloc::{AllocError, Global};
@@ -79,7 +79,7 @@ impl Judged {
         }
     }
 
-    // What is wrong.
+    // What is wrong, in general words.
     fn rule(&self, alloc: Global) -> Result<Option<String>, AllocError> {
         let rule = match self {
             Judged::Verdict(Verdict::WellFormed) | Judged::Answer(Answer::Valid) => {
@@ -112,11 +112,21 @@ impl<'a> Found<'a> {
         }
     }
 
+    // What is wrong.
+    fn rule(&self, alloc: Global) -> Result<Option<String>, AllocError> {
+        match self.unread() {
+            Some(unread) if unread.is_core_module() => {
+                Ok(Some(String::from_str(alloc, CORE_MODULE)?))
+            }
+            _ => self.judged.rule(alloc),
+        }
+    }
+
     fn line(&self, alloc: Global, file: &'a str) -> Result<Line<'a>, AllocError> {
         Ok(Line {
             file,
             answer: self.judged.word(),
-            rule: self.judged.rule(alloc)?,
+            rule: self.rule(alloc)?,
             offset: self.judged.offset(),
         })
     }

@@ -4,6 +4,9 @@ use smith_core::{COMPONENT_PREAMBLE, CORE_PREAMBLE};
 use smith_read::{Reason, frame_of};
 use std::fmt;
 
+/// What bytes that begin as a core module does are called.
+pub const CORE_MODULE: &str = "a core module, not a component";
+
 const PART: &str = "Lupinanon reads only part of the component model";
 
 // The id of a section that is a component.
@@ -58,6 +61,11 @@ impl<'a> Unread<'a> {
         }
     }
 
+    /// Whether they begin as a core module does.
+    pub fn is_core_module(&self) -> bool {
+        self.bytes.starts_with(&CORE_PREAMBLE)
+    }
+
     // How many bytes precede what is left.
     fn before(&self, rest: &[u8]) -> usize {
         self.bytes.len().saturating_sub(rest.len())
@@ -102,8 +110,8 @@ impl<'a> Unread<'a> {
 
 impl fmt::Display for Unread<'_> {
     fn fmt<W: fmt::Write>(&self, f: &mut fmt::Formatter<W>) -> fmt::Result {
-        if self.bytes.starts_with(&CORE_PREAMBLE) {
-            return f.write_str("a core module, not a component");
+        if self.is_core_module() {
+            return f.write_str(CORE_MODULE);
         }
         let Unread { reason, offset, .. } = *self;
         match (reason, self.bytes.get(offset)) {
