@@ -10,6 +10,7 @@ mod corpus;
 mod folders;
 mod generating;
 mod inspecting;
+mod judged;
 mod limits_file;
 mod options;
 mod places;
