@@ -33,8 +33,8 @@ Status with --validate:
   3  outside, as no component of the grammar: a validator may accept or refuse it
   4  bound, beyond one of wasmparser's own, or outside for another reason: the same
 
-Of several files a line for each is on standard output, and the status is that of the worst: 2 if one
-has it, else 1, else 3, else 4.";
+Of several files, a line for each is on standard output, and one with how many there are of each sort:
+those that cannot be read are skipped. The status is the worst: 2 if a file has it, else 1, 3 or 4.";
 
 const AFTER_SHOW: &str = "Status:
   0  the component is printed
