@@ -9,6 +9,7 @@ mod folders;
 mod generating;
 mod inspecting;
 mod limits_file;
+mod mutating;
 mod options;
 mod places;
 mod reducing;
@@ -59,6 +60,7 @@ fn run(rt: &HostRuntime) -> Result<ExitCode, ExitCode> {
         Ok(Task::Script(options)) => scripting::script(rt, &options),
         Ok(Task::Smaller(options, choice)) => reducing::reduce(rt, &options, choice),
         Ok(Task::Change(change)) => changing::change(rt, &change),
+        Ok(Task::Mutate(mutation)) => mutating::mutate(rt, &mutation),
         Ok(
             Task::Corpus {
                 folder,
