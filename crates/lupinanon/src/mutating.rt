@@ -46,13 +46,14 @@ fn without_item(alloc: Global, random: &mut Pcg32, component: &[u8]) -> Option<V
     None
 }
 
-// An input of a component with an item less, or with another component's sections after its own.
-fn edited(alloc: Global, config: &Config, random: &mut Pcg32, component: &[u8]) -> Option<Vec<u8>> {
+// An input of the input's component with an item less, or with another component's sections after its own.
+fn edited(alloc: Global, config: &Config, random: &mut Pcg32, input: &[u8]) -> Option<Vec<u8>> {
+    let generated = generate(alloc, *config, &mut Unstructured::new(input)).ok()?;
     let edited = if below(random, 2) == 0 {
-        without_item(alloc, random, component)?
+        without_item(alloc, random, &generated.bytes)?
     } else {
         let other = draw(alloc, config, random, LEN).ok()?;
-        joined(alloc, component, &other.component).ok()?
+        joined(alloc, &generated.bytes, &other.component).ok()?
     };
     script(alloc, config, &edited).ok()
 }
@@ -63,7 +64,7 @@ fn with_changes(alloc: Global, random: &mut Pcg32, input: &[u8]) -> Result<Vec<u
     for _ in 0..=below(random, MOST_CHANGED) {
         let place = below(random, bytes.len());
         if let Some(byte) = bytes.get_mut(place) {
-            *byte = (random.next_u32() % 256) as u8;
+            *byte ^= (random.next_u32() % 255) as u8 + 1;
         }
     }
     Ok(bytes)
@@ -82,10 +83,8 @@ fn mutated(
         }
     }
     if below(random, 2) == 0 {
-        if let Ok(generated) = generate(alloc, *config, &mut Unstructured::new(input)) {
-            if let Some(edited) = edited(alloc, config, random, &generated.bytes) {
-                return Ok(edited);
-            }
+        if let Some(edited) = edited(alloc, config, random, input) {
+            return Ok(edited);
         }
     }
     with_changes(alloc, random, input)
