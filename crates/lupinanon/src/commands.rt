@@ -73,6 +73,15 @@ Status:
   2  bad arguments, memory runs out, or a failed read or write
   3  the bytes are not in the grammar: what is wrong, and the offset, are on standard error";
 
+const AFTER_MUTATE: &str =
+    "Each second time the component of the input loses an item, or another one's sections follow its own, and
+an input that produces it is written. Otherwise some bytes are changed. Without bytes a random input is written.
+
+Status:
+  0  the input is written
+  1  memory runs out
+  2  bad arguments, limits that are refused, or a failed read or write";
+
 const AFTER_CORPUS: &str =
     "Inputs are named by their numbers from 0, or after their components. No file is overwritten.
 
@@ -255,6 +264,18 @@ fn change_command<'a>(alloc: Global) -> Result<Command<'a>, AllocError> {
         .arg(list)
 }
 
+fn mutate_command<'a>(alloc: Global) -> Result<Command<'a>, AllocError> {
+    let about = "Write another input, for a fuzzer that asks a command for it";
+    let bytes = "The bytes; - is standard input [default: -]";
+    let to = "Where it goes, INPUT too; - is standard output [default: -, unless it is a terminal]";
+    let seed = "Where it is drawn from: the same for the same seed [default: the time]";
+    let seed = option(alloc, "seed", "SEED", seed).value_parser(value_parser!(u64));
+    let files = plain(alloc, "mutate", about, AFTER_MUTATE)
+        .arg(input(alloc, "INPUT", bytes))?
+        .arg(output(alloc, to))?;
+    with_limits(alloc, files)?.arg(seed)
+}
+
 // The command with how many inputs are drawn, from what, and of how many bytes.
 fn with_draw<'a>(alloc: Global, command: Command<'a>) -> Result<Command<'a>, AllocError> {
     let count = "How many random inputs are written";
@@ -332,6 +353,7 @@ pub fn command<'a>(alloc: Global) -> Result<Command<'a>, AllocError> {
         .subcommand(script_command(alloc)?)?
         .subcommand(smaller_command(alloc)?)?
         .subcommand(change_command(alloc)?)?
+        .subcommand(mutate_command(alloc)?)?
         .subcommand(corpus_command(alloc)?)?
         .subcommand(stats_command(alloc)?)
 }

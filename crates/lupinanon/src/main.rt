@@ -12,6 +12,7 @@ mod generating;
 mod inspecting;
 mod judged;
 mod limits_file;
+mod mutating;
 mod options;
 mod places;
 mod progress;
@@ -63,6 +64,7 @@ fn run(rt: &HostRuntime) -> Result<ExitCode, ExitCode> {
         Ok(Task::Script(options)) => scripting::script(rt, &options),
         Ok(Task::Smaller(options, choice)) => reducing::reduce(rt, &options, choice),
         Ok(Task::Change(change)) => changing::change(rt, &change),
+        Ok(Task::Mutate(mutation)) => mutating::mutate(rt, &mutation),
         Ok(
             Task::Corpus {
                 folder,

@@ -33,6 +33,8 @@ pub enum Task<'a> {
     Smaller(Options<'a>, Choice),
     /// Write the component in a file with one token or one list changed.
     Change(Change<'a>),
+    /// Write another input than the one in a file.
+    Mutate(Mutation<'a>),
     /// Write inputs into a folder.
     Corpus {
         folder: &'a str,
@@ -116,6 +118,16 @@ pub enum Which {
     From(usize),
     /// None: those that lead to something are listed.
     All,
+}
+
+/// An input that another one is made of. A file that is absent is standard input or output.
+#[derive(Drop)]
+pub struct Mutation<'a> {
+    pub input: Option<&'a str>,
+    pub output: Option<&'a str>,
+    pub limits: Limits<'a>,
+    /// Where it is drawn from; the clock if it is absent.
+    pub seed: Option<u64>,
 }
 
 /// Random inputs.
@@ -251,6 +263,15 @@ fn change_of<'a>(matches: &ArgMatches<'a>) -> Change<'a> {
     }
 }
 
+fn mutation_of<'a>(alloc: Global, matches: &ArgMatches<'a>) -> Result<Mutation<'a>, AllocError> {
+    Ok(Mutation {
+        input: file(matches, "input"),
+        output: file(matches, "output"),
+        limits: limits_of(alloc, matches)?,
+        seed: matches.get_one::<u64>("seed"),
+    })
+}
+
 // Random inputs, of that many bytes if no argument says how many.
 fn draw_of(matches: &ArgMatches<'_>, len: usize) -> Draw {
     Draw {
@@ -312,6 +333,7 @@ pub fn task_of<'a, S: AsStr>(alloc: Global, words: &'a [S]) -> Result<Task<'a>, 
         "script" => Task::Script(options_of(alloc, found)?),
         "smaller" => Task::Smaller(options_of(alloc, found)?, choice_of(found)),
         "change" => Task::Change(change_of(found)),
+        "mutate" => Task::Mutate(mutation_of(alloc, found)?),
         "corpus" => Task::Corpus {
             folder: found.get_str("output").unwrap_or("."),
             origin: origin_of(found),

@@ -7,8 +7,6 @@ use std::fmt;
 /// What bytes that begin as a core module does are called.
 pub const CORE_MODULE: &str = "a core module, not a component";
 
-const PART: &str = "Lupinanon reads only part of the component model";
-
 // The id of a section that is a component.
 const COMPONENT: u8 = 4;
 
@@ -51,6 +49,11 @@ impl fmt::Display for Section {
     }
 }
 
+// What follows the preamble of the component that begins there.
+fn contents_from(bytes: &[u8], start: usize) -> Option<&[u8]> {
+    bytes.get(start.saturating_add(COMPONENT_PREAMBLE.len())..)
+}
+
 impl<'a> Unread<'a> {
     /// Bytes that are not read, for this reason at that offset.
     pub fn new(bytes: &'a [u8], reason: Reason, offset: usize) -> Unread<'a> {
@@ -73,18 +76,16 @@ impl<'a> Unread<'a> {
 
     // The innermost section around the offset. `None` if a section begins there.
     fn section_around(&self) -> Option<Section> {
-        let mut rest = self.bytes.get(COMPONENT_PREAMBLE.len()..)?;
+        let mut rest = contents_from(self.bytes, 0)?;
         for _ in 0..self.bytes.len() {
-            let (id, framed) = rest.split_first()?;
-            let (contents, after) = frame_of(framed).ok()?;
-            if self.offset == self.before(rest) {
+            if self.offset <= self.before(rest) {
                 return None;
             }
-            if *id == COMPONENT {
-                let start = self.before(after).saturating_sub(contents.len());
-                rest = self
-                    .bytes
-                    .get(start.saturating_add(COMPONENT_PREAMBLE.len())..)?;
+            let (id, framed) = rest.split_first()?;
+            let (contents, after) = frame_of(framed).ok()?;
+            let start = self.before(after).saturating_sub(contents.len());
+            if *id == COMPONENT && start < self.offset {
+                rest = contents_from(self.bytes, start)?;
             } else if self.offset < self.before(after) {
                 return Some(Section(*id));
             } else {
@@ -94,17 +95,33 @@ impl<'a> Unread<'a> {
         None
     }
 
-    fn put_byte<W: fmt::Write>(&self, f: &mut fmt::Formatter<W>, byte: u8) -> fmt::Result {
+    // That something which the standard has is not read.
+    fn put_part<W: fmt::Write, T: fmt::Display>(
+        &self,
+        f: &mut fmt::Formatter<W>,
+        what: &T,
+    ) -> fmt::Result {
         let offset = self.offset;
+        write!(
+            f,
+            "{what} not read at offset {offset}: Lupinanon reads only part of the component model"
+        )
+    }
+
+    // That no encoding has this byte there.
+    fn put_byte<W: fmt::Write>(&self, f: &mut fmt::Formatter<W>, byte: u8) -> fmt::Result {
         match self.section_around() {
-            Some(section) => {
-                write!(
-                    f,
-                    "byte {byte:#04x} in {section} is not read at offset {offset}: {PART}"
-                )
-            }
-            None => write!(f, "no section has the id {byte} at offset {offset}"),
+            Some(section) => self.put_part(f, &format_args!("byte {byte:#04x} in {section} is")),
+            None => write!(f, "no section has the id {byte} at offset {}", self.offset),
         }
+    }
+
+    fn put_preamble<W: fmt::Write>(&self, f: &mut fmt::Formatter<W>) -> fmt::Result {
+        f.write_str("a preamble is missing")?;
+        if let Some(section) = self.section_around() {
+            write!(f, " in {section}")?;
+        }
+        write!(f, " at offset {}", self.offset)
     }
 }
 
@@ -115,17 +132,10 @@ impl fmt::Display for Unread<'_> {
         }
         let Unread { reason, offset, .. } = *self;
         match (reason, self.bytes.get(offset)) {
-            (Reason::Section, Some(id)) => {
-                let section = Section(*id);
-                write!(f, "{section} is not read at offset {offset}: {PART}")
-            }
+            (Reason::Section, Some(id)) => self.put_part(f, &format_args!("{} is", Section(*id))),
             (Reason::Byte, Some(byte)) => self.put_byte(f, *byte),
-            (Reason::Options, _) => {
-                write!(
-                    f,
-                    "canonical options are not read at offset {offset}: {PART}"
-                )
-            }
+            (Reason::Options, _) => self.put_part(f, &"canonical options are"),
+            (Reason::Preamble, _) => self.put_preamble(f),
             _ => write!(f, "{reason} at offset {offset}"),
         }
     }
