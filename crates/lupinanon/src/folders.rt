@@ -4,7 +4,7 @@ use crate::places::print_fault;
 use crate::print_error;
 use std::fmt;
 use std::fs::{self, File, Files};
-use std::io::{self, Read, Write};
+use std::io::{self, BufReader, Read, Write};
 use std::process::ExitCode;
 
 /// How the names of components end.
@@ -12,9 +12,6 @@ pub const COMPONENT_ENDING: &str = ".wasm";
 
 // How the names of files end that say something of those beside them: limits, and what near misses are.
 const ASIDE_ENDINGS: [&str; 2] = [".toml", ".json"];
-
-// How many bytes of the names in a folder are read at once.
-const CHUNK: usize = 8192;
 
 /// Which files of a folder are taken. None is taken whose name ends with `.toml` or `.json`.
 #[derive(Clone, Copy, PartialEq, Eq)]
@@ -57,16 +54,9 @@ fn joined<N: fmt::Display + Drop>(
 // The names of all that is in a folder, each ended by a zero. `fs::read_dir` does not tell those that are not UTF-8.
 fn read_names(rt: &HostRuntime, folder: &str) -> io::Result<Vec<u8>> {
     let path = joined(rt, folder, "", "")?;
-    let mut opened = rt.open_dir(&path)?;
+    let mut opened = BufReader::new(rt.alloc(), rt.open_dir(&path)?)?;
     let mut names = Vec::new(rt.alloc());
-    let mut chunk = [0u8; CHUNK];
-    for _ in 0..u64::MAX {
-        let count = opened.read(&mut chunk)?;
-        if count == 0 {
-            break;
-        }
-        names.extend_from_slice(&chunk[..count])?;
-    }
+    opened.read_to_end(&mut names)?;
     Ok(names)
 }
 
