@@ -11,8 +11,8 @@ use std::fmt;
 // What `check` ends with if it is asked about validators, and one may accept or refuse the bytes, which may be read.
 const UNDECIDED: u8 = 4;
 
-// The statuses of a file, from the best to the worst.
-const FROM_BEST: [u8; 5] = [0, UNDECIDED, UNREAD, REFUSED, FAULT];
+// The statuses of a file, from the worst to the best.
+const FROM_WORST: [u8; 5] = [FAULT, REFUSED, UNREAD, UNDECIDED, 0];
 
 /// What bytes are, in a word.
 #[derive(Clone, Copy, PartialEq, Eq, PartialOrd, Ord)]
@@ -183,9 +183,9 @@ impl fmt::Display for Found<'_> {
 
 /// The worse of two statuses of files.
 pub fn worse_of(one: u8, other: u8) -> u8 {
-    let worse = FROM_BEST
+    FROM_WORST
         .iter()
-        .rev()
-        .find(|status| **status == one || **status == other);
-    *worse.unwrap_or(&one)
+        .copied()
+        .find(|status| *status == one || *status == other)
+        .unwrap_or(one)
 }
