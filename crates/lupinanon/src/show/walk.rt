@@ -118,7 +118,8 @@ impl<'a> Walk<'a> {
         &mut self,
         f: &mut fmt::Formatter<W>,
     ) -> Result<usize, fmt::Error> {
-        self.begin_line(f, self.outer.len())?;
+        let depth = self.outer.len();
+        self.begin_line(f, depth)?;
         let number = next(&mut self.sections)?;
         write!(f, "section {number}: ")?;
         self.pass(1);
@@ -127,6 +128,7 @@ impl<'a> Walk<'a> {
 
     /// Begins the line of an entry of a list, or of a declaration of a type.
     pub(crate) fn begin_entry<W: fmt::Write>(&mut self, f: &mut fmt::Formatter<W>) -> fmt::Result {
-        self.begin_line(f, self.outer.len().saturating_add(1))
+        let depth = self.outer.len().saturating_add(1);
+        self.begin_line(f, depth)
     }
 }
