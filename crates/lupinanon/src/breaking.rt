@@ -1,11 +1,12 @@
 //! Writing near misses of generated components, with what they are to validators, as the files of a folder.
 
-use crate::corpus::{drawn, show_progress};
+use crate::corpus::drawn;
 use crate::folders::{COMPONENT_ENDING, path_in, write_new};
 use crate::inspecting::REFUSED;
 use crate::options::Draw;
 use crate::places::status_of_print;
 use crate::print_error;
+use crate::progress::Progress;
 use rand_pcg::Pcg32;
 use rand_pcg::rand_core::SeedableRng;
 use smith_change::ChangeError;
@@ -206,12 +207,14 @@ pub fn write_broken(
         bound: 0,
         outside: 0,
     };
+    let mut progress = Progress::new(rt, draw.count);
     for number in 0..draw.count {
         let found = found_of(rt, &config, draw, &mut source, number)?;
         write_found(rt, folder, number, &found, source.input.saturating_sub(1))?;
         counts.add(&found.answer);
-        show_progress(rt, number + 1, draw.count);
+        progress.step();
     }
+    progress.end();
     let Counts {
         valid,
         invalid,

@@ -1,9 +1,10 @@
 //! Writing the component in a file with one token or one list of entries changed, and what it is to validators.
 
-use crate::inspecting::{REFUSED, UNREAD, bytes_in, refuse, refuse_unread};
+use crate::inspecting::{REFUSED, UNREAD, component_in, refuse};
 use crate::options::{Change, Which};
 use crate::places::{is_terminal, status_of_print};
 use crate::scripting::write_bytes;
+use crate::unread::Unread;
 use crate::{FAULT, print_error};
 use smith_change::{
     ALTERNATIVES, Alternative, ChangeError, Step, changed_bytes, changes, next_changed, place_kind,
@@ -12,14 +13,6 @@ use smith_read::{ComponentTree, read};
 use smith_verdict::{Answer, answer};
 use std::alloc::AllocError;
 use std::process::ExitCode;
-
-// The status if no change is looked for.
-fn status_of(error: &ChangeError) -> u8 {
-    match error {
-        ChangeError::Unread { .. } => UNREAD,
-        ChangeError::OutOfMemory => FAULT,
-    }
-}
 
 // The value, or the status after a message if memory runs out.
 fn settled<T: Drop>(
@@ -42,7 +35,10 @@ fn found<T: Drop>(
 ) -> Result<T, ExitCode> {
     match done {
         Ok(value) => Ok(value),
-        Err(error) => Err(refuse_unread(rt, path, bytes, &error, status_of(&error))),
+        Err(ChangeError::Unread { reason, offset }) => {
+            Err(refuse(rt, path, &Unread::new(bytes, reason, offset), UNREAD))
+        }
+        Err(error) => Err(refuse(rt, path, &error, FAULT)),
     }
 }
 
@@ -160,7 +156,7 @@ fn refuse_bytes(rt: &HostRuntime, change: &Change<'_>) -> Result<(), ExitCode> {
 /// Writes the component after the change that is asked for, or says why there is none; or lists the changes.
 pub fn change(rt: &HostRuntime, change: &Change<'_>) -> Result<ExitCode, ExitCode> {
     refuse_bytes(rt, change)?;
-    let bytes = bytes_in(rt, change.input)?;
+    let bytes = component_in(rt, change.input)?;
     match change.which {
         Which::Numbered(number) => write_numbered(rt, change, &bytes, number),
         Which::From(from) => write_next(rt, change, &bytes, from),

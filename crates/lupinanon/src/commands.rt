@@ -13,7 +13,9 @@ const AFTER: &str =
 const AFTER_GENERATE: &str = "Status:
   0  the component is written
   1  no component can be made of the input, or memory runs out: the refusal's name is on standard error
-  2  bad arguments, limits that are refused, an input that is too long, or a failed read or write";
+  2  bad arguments, limits that are refused, an input that is too long, or a failed read or write
+
+With --from no file is overwritten, and the status is the greatest that an input has.";
 
 const AFTER_LIMITS: &str = "Status:
   0  they are printed
@@ -29,7 +31,10 @@ Status with --validate:
   0  valid: each validator must accept it that has all features, and no lower bounds than wasmparser
   1  invalid: no validator may accept it
   3  outside, as no component of the grammar: a validator may accept or refuse it
-  4  bound, beyond one of wasmparser's own, or outside for another reason: the same";
+  4  bound, beyond one of wasmparser's own, or outside for another reason: the same
+
+Of several files, a line for each is on standard output, and one with how many there are of each sort:
+those that cannot be read are skipped. The status is the worst: 2 if a file has it, else 1, 3 or 4.";
 
 const AFTER_SHOW: &str = "Status:
   0  the component is printed
@@ -67,6 +72,15 @@ Status:
   1  the change of that number, or each from it on, leads to nothing
   2  bad arguments, memory runs out, or a failed read or write
   3  the bytes are not in the grammar: what is wrong, and the offset, are on standard error";
+
+const AFTER_MUTATE: &str =
+    "Each second time the component of the input loses an item, or another one's sections follow its own, and
+an input that produces it is written. Otherwise some bytes are changed. Without bytes a random input is written.
+
+Status:
+  0  the input is written
+  1  memory runs out
+  2  bad arguments, limits that are refused, or a failed read or write";
 
 const AFTER_CORPUS: &str =
     "Inputs are named by their numbers from 0, or after their components. No file is overwritten.
@@ -157,8 +171,16 @@ fn generate_command<'a>(alloc: Global) -> Result<Command<'a>, AllocError> {
     let swarm = "Take limits from the first bytes of the input, over the given ones";
     let hex = "Write the bytes as hexadecimal digits, and how many bytes are left";
     let left = "Print on standard error how many bytes of the input are left";
+    let from =
+        "Make a component NAME.wasm of each input NAME in that folder, all in the folder OUT";
+    let from = option(alloc, "from", "FOLDER", from)
+        .conflicts_with("input")?
+        .conflicts_with("hex")?
+        .conflicts_with("left")?
+        .requires_arg("output")?;
     let files = plain(alloc, "generate", about, AFTER_GENERATE)
         .arg(input(alloc, "INPUT", bytes))?
+        .arg(from)?
         .arg(output(alloc, TO_COMPONENT))?;
     with_limits(alloc, files)?
         .arg(switch(alloc, "swarm", swarm))?
@@ -168,15 +190,21 @@ fn generate_command<'a>(alloc: Global) -> Result<Command<'a>, AllocError> {
 
 fn check_command<'a>(alloc: Global) -> Result<Command<'a>, AllocError> {
     let about = "Say whether a file is a well-formed component, and where it is not";
+    let files = "Components, and folders of them; - is standard input [default: -]";
     let validate = "Say what it is to validators: valid, invalid, bound or outside";
+    let json = "Print an object of JSON for each file, whatever it is";
     plain(alloc, "check", about, AFTER_CHECK)
-        .arg(component(alloc))?
-        .arg(switch(alloc, "validate", validate))
+        .arg(input(alloc, "FILE", files).num_args(1..))?
+        .arg(switch(alloc, "validate", validate))?
+        .arg(switch(alloc, "json", json))
 }
 
 fn show_command<'a>(alloc: Global) -> Result<Command<'a>, AllocError> {
     let about = "Print a component, a line with its offset for each section and each entry";
-    plain(alloc, "show", about, AFTER_SHOW).arg(component(alloc))
+    let json = "Print an array of JSON, with an object for each line";
+    plain(alloc, "show", about, AFTER_SHOW)
+        .arg(component(alloc))?
+        .arg(switch(alloc, "json", json))
 }
 
 fn print_command<'a>(alloc: Global) -> Result<Command<'a>, AllocError> {
@@ -238,6 +266,18 @@ fn change_command<'a>(alloc: Global) -> Result<Command<'a>, AllocError> {
         .arg(list)
 }
 
+fn mutate_command<'a>(alloc: Global) -> Result<Command<'a>, AllocError> {
+    let about = "Write another input, for a fuzzer that asks a command for it";
+    let bytes = "The bytes; - is standard input [default: -]";
+    let to = "Where it goes, INPUT too; - is standard output [default: -, unless it is a terminal]";
+    let seed = "Where it is drawn from: the same for the same seed [default: the time]";
+    let seed = option(alloc, "seed", "SEED", seed).value_parser(value_parser!(u64));
+    let files = plain(alloc, "mutate", about, AFTER_MUTATE)
+        .arg(input(alloc, "INPUT", bytes))?
+        .arg(output(alloc, to))?;
+    with_limits(alloc, files)?.arg(seed)
+}
+
 // The command with how many inputs are drawn, from what, and of how many bytes.
 fn with_draw<'a>(alloc: Global, command: Command<'a>) -> Result<Command<'a>, AllocError> {
     let count = "How many random inputs are written";
@@ -262,7 +302,7 @@ fn with_draw<'a>(alloc: Global, command: Command<'a>) -> Result<Command<'a>, All
 
 fn corpus_command<'a>(alloc: Global) -> Result<Command<'a>, AllocError> {
     let about = "Write inputs that are read to their ends into a folder";
-    let from = "Write the scripts of the components *.wasm in that folder, and no random inputs";
+    let from = "Write the scripts of the components in that folder, and no random inputs";
     let to = "The folder where they go, which is made if it is missing";
     let from = option(alloc, "from", "FOLDER", from)
         .conflicts_with("bytes")?
@@ -285,7 +325,8 @@ fn corpus_command<'a>(alloc: Global) -> Result<Command<'a>, AllocError> {
 
 fn stats_command<'a>(alloc: Global) -> Result<Command<'a>, AllocError> {
     let about = "Count what is in components, by sort and by place";
-    let paths = "Components, and folders with components *.wasm";
+    let paths =
+        "Components, and folders of them: of their files *.wasm, or of all if none is named so";
     let inputs = "Count the components of inputs: each file, and in folders all but *.wasm";
     let json = "Print it as JSON";
     let listed =
@@ -319,6 +360,7 @@ pub fn command<'a>(alloc: Global) -> Result<Command<'a>, AllocError> {
         .subcommand(script_command(alloc)?)?
         .subcommand(smaller_command(alloc)?)?
         .subcommand(change_command(alloc)?)?
+        .subcommand(mutate_command(alloc)?)?
         .subcommand(corpus_command(alloc)?)?
         .subcommand(stats_command(alloc)?)
 }

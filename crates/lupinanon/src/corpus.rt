@@ -1,12 +1,15 @@
 //! Writing a corpus: inputs that are read to their end, as the files of a folder.
 
 use crate::breaking::write_broken;
-use crate::folders::{COMPONENT_ENDING, components_in, make_folder, path_in, write_new};
-use crate::inspecting::{REFUSED, bytes_in};
+use crate::folders::{
+    COMPONENT_ENDING, Wanted, files_at, make_folder, name_at, path_in, write_new,
+};
+use crate::inspecting::{REFUSED, component_in};
 use crate::limits_file::config_of;
 use crate::options::{Draw, Limits, Origin};
 use crate::places::status_of_print;
 use crate::print_error;
+use crate::progress::Progress;
 use crate::scripting::refuse_script;
 use rand_pcg::Pcg32;
 use rand_pcg::rand_core::SeedableRng;
@@ -14,23 +17,7 @@ use smith_component::Config;
 use smith_corpus::{Reached, Sample, draw, draw_flat, draw_swarm};
 use smith_script::{ScriptError, script};
 use std::fmt;
-use std::io::IsTerminal;
 use std::process::ExitCode;
-
-// How many inputs are written from one line of progress to the next.
-const STRIDE: usize = 100;
-
-/// On a terminal, overwrites the line that says how many of the inputs are written, and ends it after the last.
-pub fn show_progress(rt: &HostRuntime, done: usize, count: usize) {
-    if !rt.stderr().is_terminal() {
-        return;
-    }
-    if done == count {
-        let _ = eprintln!(rt; "\r{done} of {count}");
-    } else if done % STRIDE == 0 {
-        let _ = eprint!(rt; "\r{done} of {count}");
-    }
-}
 
 // The status after a message that says why there is no sample.
 fn refuse_draw<W: fmt::Display + Drop>(rt: &HostRuntime, why: W) -> ExitCode {
@@ -81,6 +68,7 @@ fn write_random(
     let mut reached = Reached::new(rt.alloc());
     let mut input_bytes: u64 = 0;
     let mut component_bytes: u64 = 0;
+    let mut progress = Progress::new(rt, draw.count);
     for number in 0..draw.count {
         let sample = if draw.is_flat {
             drawn_flat(rt, config, &mut random, &mut reached)?
@@ -94,8 +82,9 @@ fn write_random(
         }
         input_bytes = input_bytes.saturating_add(sample.input.len() as u64);
         component_bytes = component_bytes.saturating_add(sample.component.len() as u64);
-        show_progress(rt, number + 1, draw.count);
+        progress.step();
     }
+    progress.end();
     let count = draw.count;
     status_of_print(
         rt,
@@ -109,12 +98,13 @@ fn write_script(
     folder: &str,
     config: &Config,
     path: &str,
-    name: &str,
 ) -> Result<usize, ExitCode> {
-    let bytes = bytes_in(rt, Some(path))?;
+    let bytes = component_in(rt, Some(path))?;
     match script(rt.alloc(), config, &bytes) {
         Ok(input) => {
-            write_new(rt, &path_in(rt, folder, name, "")?, &input)?;
+            let name = name_at(path);
+            let stem = name.strip_suffix(COMPONENT_ENDING).unwrap_or(name);
+            write_new(rt, &path_in(rt, folder, stem, "")?, &input)?;
             Ok(1)
         }
         Err(error) => {
@@ -134,15 +124,16 @@ fn write_scripts(
     config: &Config,
     from: &str,
 ) -> Result<ExitCode, ExitCode> {
-    let names = components_in(rt, from)?;
-    let count = names.len();
+    let listed = files_at(rt, &[from], Wanted::Components)?;
+    let count = listed.paths.len().saturating_add(listed.skipped);
     let mut written: usize = 0;
-    for (number, name) in names.iter().enumerate() {
-        let path = path_in(rt, from, name, COMPONENT_ENDING)?;
-        let more = write_script(rt, folder, config, &path, name)?;
+    let mut progress = Progress::new(rt, listed.paths.len());
+    for path in &listed.paths {
+        let more = write_script(rt, folder, config, path)?;
         written = written.saturating_add(more);
-        show_progress(rt, number + 1, count);
+        progress.step();
     }
+    progress.end();
     let others = count.saturating_sub(written);
     status_of_print(
         rt,

@@ -5,12 +5,12 @@ ghost use Rattle.toml.specs.View.{table_view};
 ghost use Rattle.smith_run.specs.Running.{GivesTooMuch};
 ghost use Rattle.lupinanon.specs.Converting.{IsOfLimits, IsWithinError, WritesWithin};
 
+use crate::inspecting::refuse;
 use crate::limits_file::{LimitsTable, config_of, refuse_both, refuse_limits, table_of};
 use crate::options::Options;
 use crate::places::{
     STANDARD_INPUT, Sink, Source, print_fault, refuse_terminal, source_of, status_of_fault,
 };
-use crate::print_error;
 use smith_limits::{Fault, limits_of};
 use smith_run::{Form, LONGEST_INPUT, RunError, convert, convert_swarm};
 use std::alloc::Global;
@@ -56,6 +56,29 @@ pub fn convert_within<R: Read, W: Write>(
     }
 }
 
+/// Prints why no component is made of an input, and returns the status. A component that cannot be written is one that
+/// there is not enough memory for.
+pub fn refuse_input(
+    rt: &HostRuntime,
+    path: Option<&str>,
+    source: &Source,
+    error: RunError,
+) -> ExitCode {
+    let status = error.status();
+    match error {
+        RunError::ReadFault => print_fault(rt, path, STANDARD_INPUT, source.fault()),
+        RunError::WriteFault => refuse(rt, path, &"out of memory", status),
+        RunError::InputTooLong => {
+            let why = format_args!("the input has more than {LONGEST_INPUT} bytes");
+            refuse(rt, path, &why, status)
+        }
+        RunError::Refused(refusal) => {
+            let why = format_args!("{refusal:?}: {refusal}");
+            refuse(rt, path, &why, status)
+        }
+    }
+}
+
 // The status that a failed run ends with, after a message that says why it failed, unless nothing reads the output.
 fn status_of_run(
     rt: &HostRuntime,
@@ -64,17 +87,10 @@ fn status_of_run(
     source: &Source,
     sink: &Sink<'_>,
 ) -> ExitCode {
-    let status = error.status();
-    let _status = match error {
-        RunError::ReadFault => print_fault(rt, options.input, STANDARD_INPUT, source.fault()),
-        RunError::WriteFault => return status_of_fault(rt, options.output, sink.fault()),
-        RunError::InputTooLong => {
-            let why = format_args!("the input has more than {LONGEST_INPUT} bytes");
-            print_error(rt, why)
-        }
-        RunError::Refused(refusal) => print_error(rt, format_args!("{refusal:?}: {refusal}")),
-    };
-    ExitCode::from(status)
+    match error {
+        RunError::WriteFault => status_of_fault(rt, options.output, sink.fault()),
+        _ => refuse_input(rt, options.input, source, error),
+    }
 }
 
 // The status of a run that left that many bytes, which are printed if that is asked for, or failed.

@@ -1,13 +1,12 @@
-//! Looking at a component in a file: whether it is well formed, and what is in it.
+//! Looking at a component in a file: what is in it.
 
-use crate::FAULT;
 use crate::places::{STANDARD_INPUT, Source, print_fault, source_of, status_of_print};
 use crate::scripting::write_bytes;
-use crate::show::Shown;
-use smith_core::CORE_PREAMBLE;
+use crate::show::{Shown, json_of};
+use crate::unread::Unread;
+use smith_core::COMPONENT_PREAMBLE;
 use smith_print::{print as text_of, print_with_offsets};
-use smith_read::read;
-use smith_verdict::{Answer, Outside, Verdict, answer, check as check_bytes};
+use smith_read::{ReadError, read};
 use std::fmt;
 use std::io::{self, Read};
 use std::process::ExitCode;
@@ -19,25 +18,52 @@ pub const REFUSED: u8 = 1;
 /// What `check` and `smaller` end with if the bytes are not in the grammar.
 pub const UNREAD: u8 = 3;
 
-// What `check` ends with if it is asked about validators, and one may accept or refuse the bytes, which may be read.
-const UNDECIDED: u8 = 4;
-
 fn read_whole(rt: &HostRuntime, source: &mut Source) -> io::Result<Vec<u8>> {
     let mut bytes = Vec::new(rt.alloc());
     source.read_to_end(&mut bytes)?;
     Ok(bytes)
 }
 
-/// The bytes of the file, or the status after a message.
-pub fn bytes_in(rt: &HostRuntime, path: Option<&str>) -> Result<Vec<u8>, ExitCode> {
-    let mut source = source_of(rt, path)?;
-    match read_whole(rt, &mut source) {
+// Reads a component. Of bytes that do not begin with its preamble, no more than so many are read.
+fn read_component(rt: &HostRuntime, source: &mut Source) -> io::Result<Vec<u8>> {
+    let mut bytes = Vec::new(rt.alloc());
+    let mut head = source.by_ref().take(COMPONENT_PREAMBLE.len() as u64);
+    head.read_to_end(&mut bytes)?;
+    if bytes.starts_with(&COMPONENT_PREAMBLE) {
+        source.read_to_end(&mut bytes)?;
+    }
+    Ok(bytes)
+}
+
+// What was read of the file, or the status after a message.
+fn settled(
+    rt: &HostRuntime,
+    path: Option<&str>,
+    source: &Source,
+    done: io::Result<Vec<u8>>,
+) -> Result<Vec<u8>, ExitCode> {
+    match done {
         Ok(bytes) => Ok(bytes),
         Err(error) => {
             let fault = source.fault().unwrap_or(&error);
             Err(print_fault(rt, path, STANDARD_INPUT, Some(fault)))
         }
     }
+}
+
+/// The bytes of the file, or the status after a message.
+pub fn bytes_in(rt: &HostRuntime, path: Option<&str>) -> Result<Vec<u8>, ExitCode> {
+    let mut source = source_of(rt, path)?;
+    let done = read_whole(rt, &mut source);
+    settled(rt, path, &source, done)
+}
+
+/// The bytes of the component in the file, or the status after a message. If the file does not begin with the preamble
+/// of a component, they are its first eight: what is said of a file then depends on nothing else.
+pub fn component_in(rt: &HostRuntime, path: Option<&str>) -> Result<Vec<u8>, ExitCode> {
+    let mut source = source_of(rt, path)?;
+    let done = read_component(rt, &mut source);
+    settled(rt, path, &source, done)
 }
 
 /// Prints what is wrong with a file, and returns the status.
@@ -53,72 +79,17 @@ pub fn refuse<W: fmt::Display>(
 }
 
 /// Prints why the bytes of a file are not read as a component, and returns the status.
-pub fn refuse_unread<W: fmt::Display>(
+pub fn refuse_unread(
     rt: &HostRuntime,
     path: Option<&str>,
     bytes: &[u8],
-    why: &W,
-    status: u8,
+    error: &ReadError,
 ) -> ExitCode {
-    if bytes.starts_with(&CORE_PREAMBLE) {
-        return refuse(rt, path, &"a core module, not a component", status);
-    }
-    refuse(rt, path, why, status)
-}
-
-// The status of a component that is not well formed, or of bytes that are none.
-fn verdict_status(verdict: &Verdict) -> u8 {
-    match verdict {
-        Verdict::WellFormed => 0,
-        Verdict::IllFormed { .. } => REFUSED,
-        Verdict::Unread { .. } => UNREAD,
-    }
-}
-
-fn answer_status(answer: &Answer) -> u8 {
-    match answer {
-        Answer::Valid => 0,
-        Answer::Invalid { .. } => REFUSED,
-        Answer::Outside {
-            why: Outside::Unread(_),
-            ..
-        } => UNREAD,
-        Answer::Bound { .. } | Answer::Outside { .. } => UNDECIDED,
-    }
-}
-
-// Prints what a file is, and returns the status, which is an error unless it is 0.
-fn report<W: fmt::Display>(
-    rt: &HostRuntime,
-    path: Option<&str>,
-    found: &W,
-    status: u8,
-) -> Result<ExitCode, ExitCode> {
-    if status != 0 {
-        return Err(refuse(rt, path, found, status));
-    }
-    let path = path.unwrap_or(STANDARD_INPUT);
-    status_of_print(rt, println!(rt; "{path}: {found}"))
-}
-
-/// Says whether the file is a well-formed component, and otherwise what is wrong with it, and where.
-pub fn check(rt: &HostRuntime, path: Option<&str>) -> Result<ExitCode, ExitCode> {
-    let bytes = bytes_in(rt, path)?;
-    match check_bytes(rt.alloc(), &bytes) {
-        Ok(verdict) if verdict_status(&verdict) == UNREAD => {
-            Err(refuse_unread(rt, path, &bytes, &verdict, UNREAD))
+    match *error {
+        ReadError::OutOfMemory => refuse(rt, path, error, REFUSED),
+        ReadError::Malformed { reason, offset } => {
+            refuse(rt, path, &Unread::new(bytes, reason, offset), REFUSED)
         }
-        Ok(verdict) => report(rt, path, &verdict, verdict_status(&verdict)),
-        Err(_) => Err(refuse(rt, path, &"out of memory", FAULT)),
-    }
-}
-
-/// Says what the file is to validators of the standard.
-pub fn validate(rt: &HostRuntime, path: Option<&str>) -> Result<ExitCode, ExitCode> {
-    let bytes = bytes_in(rt, path)?;
-    match answer(rt.alloc(), &bytes) {
-        Ok(answer) => report(rt, path, &answer, answer_status(&answer)),
-        Err(_) => Err(refuse(rt, path, &"out of memory", FAULT)),
     }
 }
 
@@ -127,9 +98,31 @@ fn is_of_text(error: &io::Error) -> bool {
     error.kind() == io::ErrorKind::Uncategorized && error.raw_os_error().is_none()
 }
 
-/// Prints the component in the file, a line for each section and for each entry.
-pub fn show(rt: &HostRuntime, path: Option<&str>) -> Result<ExitCode, ExitCode> {
-    let bytes = bytes_in(rt, path)?;
+fn print_lines(
+    rt: &HostRuntime,
+    path: Option<&str>,
+    shown: &Shown<'_>,
+) -> Result<ExitCode, ExitCode> {
+    match print!(rt; "{shown}") {
+        Err(error) if is_of_text(&error) => Err(refuse(rt, path, &"out of memory", REFUSED)),
+        printed => status_of_print(rt, printed),
+    }
+}
+
+fn print_json(
+    rt: &HostRuntime,
+    path: Option<&str>,
+    shown: &Shown<'_>,
+) -> Result<ExitCode, ExitCode> {
+    match json_of(shown) {
+        Ok(lines) => status_of_print(rt, println!(rt; "{lines}")),
+        Err(_) => Err(refuse(rt, path, &"out of memory", REFUSED)),
+    }
+}
+
+/// Prints the component in the file, a line for each section and for each entry, or an array of JSON of these lines.
+pub fn show(rt: &HostRuntime, path: Option<&str>, is_json: bool) -> Result<ExitCode, ExitCode> {
+    let bytes = component_in(rt, path)?;
     match read(rt.alloc(), &bytes) {
         Ok(component) => {
             let shown = Shown {
@@ -137,14 +130,13 @@ pub fn show(rt: &HostRuntime, path: Option<&str>) -> Result<ExitCode, ExitCode> 
                 component: &component,
                 bytes: &bytes,
             };
-            match print!(rt; "{shown}") {
-                Err(error) if is_of_text(&error) => {
-                    Err(refuse(rt, path, &"out of memory", REFUSED))
-                }
-                printed => status_of_print(rt, printed),
+            if is_json {
+                print_json(rt, path, &shown)
+            } else {
+                print_lines(rt, path, &shown)
             }
         }
-        Err(error) => Err(refuse_unread(rt, path, &bytes, &error, REFUSED)),
+        Err(error) => Err(refuse_unread(rt, path, &bytes, &error)),
     }
 }
 
@@ -155,10 +147,10 @@ pub fn print(
     output: Option<&str>,
     with_offsets: bool,
 ) -> Result<ExitCode, ExitCode> {
-    let bytes = bytes_in(rt, path)?;
+    let bytes = component_in(rt, path)?;
     let component = match read(rt.alloc(), &bytes) {
         Ok(component) => component,
-        Err(error) => return Err(refuse_unread(rt, path, &bytes, &error, REFUSED)),
+        Err(error) => return Err(refuse_unread(rt, path, &bytes, &error)),
     };
     let text = if with_offsets {
         print_with_offsets(rt.alloc(), &component, &bytes)

@@ -1,13 +1,16 @@
 //! Limits of profiles, from a file over them, and settings of the command line over both; and why they are refused, in
 //! words: of which line of the file, or of which setting.
 
+use crate::inspecting::{bytes_in, refuse};
 use crate::options::{Limits, named};
-use crate::places::{STANDARD_INPUT, Source, print_fault};
+use crate::places::STANDARD_INPUT;
 use crate::{FAULT, print_error};
 use smith_component::Config;
-use smith_limits::{Fault, limits_of, profile_text};
+use smith_limits::{Fault, KEYS, Key, limits_of, profile_text};
+use std::alloc::{AllocError, Global};
+use std::fmt;
 use std::process::ExitCode;
-use std::{fmt, io};
+use strsim::jaro;
 use toml::Table;
 use toml::de::Error;
 
@@ -20,27 +23,35 @@ pub struct LimitsTable {
     pub table: Table,
 }
 
-fn read_file(rt: &HostRuntime, path: Option<&str>) -> io::Result<String> {
-    let source = Source::open(rt, path)?;
-    io::read_to_string(rt.alloc(), source)
-}
-
 // The text of the file of limits, or the status after a message.
 fn text_in_file(rt: &HostRuntime, path: Option<&str>) -> Result<String, ExitCode> {
     let Some(path) = path else {
         return Ok(String::new(rt.alloc()));
     };
-    match read_file(rt, named(path)) {
+    let bytes = bytes_in(rt, named(path))?;
+    match String::from_utf8(bytes) {
         Ok(text) => Ok(text),
-        Err(error) => Err(print_fault(rt, named(path), STANDARD_INPUT, Some(&error))),
+        Err(_) => Err(refuse(rt, named(path), &"not UTF-8", FAULT)),
     }
 }
 
-// Prints why a text of that name is not TOML, and returns the status.
-fn refuse_toml<N: fmt::Display + Drop>(rt: &HostRuntime, name: N, error: &Error) -> ExitCode {
-    // The text of the error has its lines, and ends the last one.
-    let _ = eprint!(rt; "lupinanon: {name}: {error}");
-    ExitCode::from(FAULT)
+// Prints why an argument is not TOML, and returns the status.
+fn refuse_argument(rt: &HostRuntime, option: &str, value: &str, error: &Error) -> ExitCode {
+    let why = error.message();
+    print_error(rt, format_args!("{option} {value}: {why}"))
+}
+
+// Prints why the text of a file is not TOML, and from which of its lines on, and returns the status.
+fn refuse_text(rt: &HostRuntime, name: &str, text: &str, error: &Error) -> ExitCode {
+    let start = error.span().map_or(0, |span| span.start);
+    let line = text
+        .bytes()
+        .take(start)
+        .filter(|byte| *byte == b'\n')
+        .count();
+    let line = line.saturating_add(1);
+    let why = error.message();
+    print_error(rt, format_args!("{name}: line {line}: {why}"))
 }
 
 // The table of a profile, or the status after a message.
@@ -50,7 +61,7 @@ fn table_of_profile(rt: &HostRuntime, name: &str) -> Result<Table, ExitCode> {
     };
     match toml::table_from_str(rt.alloc(), text) {
         Ok(table) => Ok(table),
-        Err(error) => Err(refuse_toml(rt, format_args!("--profile {name}"), &error)),
+        Err(error) => Err(refuse_argument(rt, "--profile", name, &error)),
     }
 }
 
@@ -77,7 +88,7 @@ fn table_of_setting(rt: &HostRuntime, setting: &str) -> Result<Table, ExitCode> 
     match toml::table_from_str(rt.alloc(), setting) {
         Ok(table) if table.len() == 1 => Ok(table),
         Err(error) if setting.contains('=') => {
-            Err(refuse_toml(rt, format_args!("--limit {setting}"), &error))
+            Err(refuse_argument(rt, "--limit", setting, &error))
         }
         _ => Err(print_error(rt, format_args!("--limit {setting}: must be KEY=VALUE"))),
     }
@@ -135,18 +146,56 @@ fn name_of<'a>(limits: &Limits<'a>) -> &'a str {
     }
 }
 
+// How much alike a word and a name are at least if the one may be meant by the other, as of a command in `clap`.
+const LEAST_ALIKE: f64 = 0.7;
+
+// What is meant by the name of no limit, if one is like it.
+#[derive(Clone, Copy)]
+struct Tip(Option<Key>);
+
+impl fmt::Display for Tip {
+    fn fmt<W: fmt::Write>(&self, f: &mut fmt::Formatter<W>) -> fmt::Result {
+        match self.0 {
+            Some(key) => write!(f, "; did you mean `{}`?", key.name()),
+            None => Ok(()),
+        }
+    }
+}
+
+// The limit whose name is most like another one.
+fn nearest(alloc: Global, name: &str) -> Result<Option<Key>, AllocError> {
+    let mut found = None;
+    let mut most = LEAST_ALIKE;
+    for key in KEYS {
+        let alike = jaro(alloc, name, key.name())?;
+        if alike > most {
+            found = Some(key);
+            most = alike;
+        }
+    }
+    Ok(found)
+}
+
+fn tip_of(alloc: Global, fault: &Fault) -> Tip {
+    match fault {
+        Fault::Unknown(name) => Tip(nearest(alloc, name).unwrap_or(None)),
+        _ => Tip(None),
+    }
+}
+
 /// Prints what is wrong with a limit, and the last setting, or the line of the file's text, that has it, if one is
 /// known. Returns the status.
 pub fn refuse_limits(rt: &HostRuntime, limits: &Limits<'_>, text: &str, fault: &Fault) -> ExitCode {
+    let tip = tip_of(rt.alloc(), fault);
     for setting in limits.settings.iter().rev() {
         if line_of_fault(setting, fault).is_some() {
-            return print_error(rt, format_args!("--limit {setting}: {fault}"));
+            return print_error(rt, format_args!("--limit {setting}: {fault}{tip}"));
         }
     }
     let name = name_of(limits);
     match line_of_fault(text, fault) {
-        Some(line) => print_error(rt, format_args!("{name}: line {line}: {fault}")),
-        None => print_error(rt, format_args!("{name}: {fault}")),
+        Some(line) => print_error(rt, format_args!("{name}: line {line}: {fault}{tip}")),
+        None => print_error(rt, format_args!("{name}: {fault}{tip}")),
     }
 }
 
@@ -161,7 +210,7 @@ pub fn table_of(rt: &HostRuntime, limits: &Limits<'_>) -> Result<LimitsTable, Ex
             Ok(LimitsTable { in_file, table })
         }
         Err(error) if error.is_memory() => Err(print_error(rt, "out of memory")),
-        Err(error) => Err(refuse_toml(rt, name_of(limits), &error)),
+        Err(error) => Err(refuse_text(rt, name_of(limits), &in_file, &error)),
     }
 }
 

@@ -3,18 +3,24 @@
 
 mod breaking;
 mod changing;
+mod checking;
 mod commands;
+mod converting;
 mod corpus;
 mod folders;
 mod generating;
 mod inspecting;
+mod judged;
 mod limits_file;
+mod mutating;
 mod options;
 mod places;
+mod progress;
 mod reducing;
 mod scripting;
 mod show;
 mod stats;
+mod unread;
 
 use options::Task;
 use smith_limits::DEFAULT_LIMITS;
@@ -51,9 +57,9 @@ fn run(rt: &HostRuntime) -> Result<ExitCode, ExitCode> {
     match options::task_of(rt.alloc(), words.as_slice()) {
         Ok(Task::PrintLimits) => places::status_of_print(rt, print!(rt; "{}", DEFAULT_LIMITS)),
         Ok(Task::Generate(options)) => generating::generate(rt, &options),
-        Ok(Task::Check(path, false)) => inspecting::check(rt, path),
-        Ok(Task::Check(path, true)) => inspecting::validate(rt, path),
-        Ok(Task::Show(path)) => inspecting::show(rt, path),
+        Ok(Task::GenerateEach(batch)) => converting::generate_each(rt, &batch),
+        Ok(Task::Check(checked)) => checking::check(rt, &checked),
+        Ok(Task::Show { input, is_json }) => inspecting::show(rt, input, is_json),
         Ok(
             Task::Print {
                 input,
@@ -64,6 +70,7 @@ fn run(rt: &HostRuntime) -> Result<ExitCode, ExitCode> {
         Ok(Task::Script(options)) => scripting::script(rt, &options),
         Ok(Task::Smaller(options, choice)) => reducing::reduce(rt, &options, choice),
         Ok(Task::Change(change)) => changing::change(rt, &change),
+        Ok(Task::Mutate(mutation)) => mutating::mutate(rt, &mutation),
         Ok(
             Task::Corpus {
                 folder,

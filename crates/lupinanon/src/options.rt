@@ -13,11 +13,15 @@ pub enum Task<'a> {
     PrintLimits,
     /// Make a component.
     Generate(Options<'a>),
-    /// Say whether a file is a well-formed component, or if that is asked, what it is to validators; standard input if
-    /// it is absent.
-    Check(Option<&'a str>, bool),
+    /// Make a component of each input in a folder.
+    GenerateEach(Batch<'a>),
+    /// Say what files are.
+    Check(Checked<'a>),
     /// Print the component in a file.
-    Show(Option<&'a str>),
+    Show {
+        input: Option<&'a str>,
+        is_json: bool,
+    },
     /// Write the component in a file as text.
     Print {
         input: Option<&'a str>,
@@ -31,6 +35,8 @@ pub enum Task<'a> {
     Smaller(Options<'a>, Choice),
     /// Write the component in a file with one token or one list changed.
     Change(Change<'a>),
+    /// Write another input than the one in a file.
+    Mutate(Mutation<'a>),
     /// Write inputs into a folder.
     Corpus {
         folder: &'a str,
@@ -66,6 +72,28 @@ pub struct Options<'a> {
     pub prints_left: bool,
 }
 
+/// Inputs of which components are made.
+#[derive(Drop)]
+pub struct Batch<'a> {
+    /// The folder of the inputs.
+    pub from: &'a str,
+    /// The folder of the components.
+    pub folder: &'a str,
+    pub limits: Limits<'a>,
+    /// Whether the first bytes of each input encode limits that override these.
+    pub is_swarm: bool,
+}
+
+/// Files that are checked.
+#[derive(Drop)]
+pub struct Checked<'a> {
+    /// Files, of which `-` is standard input, and folders of files; standard input alone if there are none.
+    pub paths: Vec<&'a str>,
+    /// Whether they are judged as validators judge them.
+    pub validates: bool,
+    pub is_json: bool,
+}
+
 /// Which smaller component is written.
 #[derive(Clone, Copy)]
 pub enum Choice {
@@ -92,6 +120,16 @@ pub enum Which {
     From(usize),
     /// None: those that lead to something are listed.
     All,
+}
+
+/// An input that another one is made of. A file that is absent is standard input or output.
+#[derive(Drop)]
+pub struct Mutation<'a> {
+    pub input: Option<&'a str>,
+    pub output: Option<&'a str>,
+    pub limits: Limits<'a>,
+    /// Where it is drawn from; the clock if it is absent.
+    pub seed: Option<u64>,
 }
 
 /// Random inputs.
@@ -182,6 +220,28 @@ fn options_of<'a>(alloc: Global, matches: &ArgMatches<'a>) -> Result<Options<'a>
     })
 }
 
+// What `generate` is to do.
+fn generate_of<'a>(alloc: Global, matches: &ArgMatches<'a>) -> Result<Task<'a>, AllocError> {
+    let Some(from) = matches.get_str("from") else {
+        return Ok(Task::Generate(options_of(alloc, matches)?));
+    };
+    Ok(Task::GenerateEach(Batch {
+        from,
+        folder: matches.get_str("output").unwrap_or("."),
+        limits: limits_of(alloc, matches)?,
+        is_swarm: matches.get_flag("swarm"),
+    }))
+}
+
+fn checked_of<'a>(alloc: Global, matches: &ArgMatches<'a>) -> Result<Checked<'a>, AllocError> {
+    let paths = matches.get_strs("input").unwrap_or_default();
+    Ok(Checked {
+        paths: Vec::from_slice(alloc, paths)?,
+        validates: matches.get_flag("validate"),
+        is_json: matches.get_flag("json"),
+    })
+}
+
 fn choice_of(matches: &ArgMatches<'_>) -> Choice {
     match matches.get_one::<usize>("from") {
         Some(step) => Choice::From(step),
@@ -205,6 +265,15 @@ fn change_of<'a>(matches: &ArgMatches<'a>) -> Change<'a> {
         output: file(matches, "output"),
         which: which_of(matches),
     }
+}
+
+fn mutation_of<'a>(alloc: Global, matches: &ArgMatches<'a>) -> Result<Mutation<'a>, AllocError> {
+    Ok(Mutation {
+        input: file(matches, "input"),
+        output: file(matches, "output"),
+        limits: limits_of(alloc, matches)?,
+        seed: matches.get_one::<u64>("seed"),
+    })
 }
 
 // Random inputs, of that many bytes if no argument says how many.
@@ -256,9 +325,12 @@ pub fn task_of<'a, S: AsStr>(alloc: Global, words: &'a [S]) -> Result<Task<'a>, 
         return Ok(Task::PrintLimits);
     };
     Ok(match name {
-        "generate" => Task::Generate(options_of(alloc, found)?),
-        "check" => Task::Check(file(found, "input"), found.get_flag("validate")),
-        "show" => Task::Show(file(found, "input")),
+        "generate" => generate_of(alloc, found)?,
+        "check" => Task::Check(checked_of(alloc, found)?),
+        "show" => Task::Show {
+            input: file(found, "input"),
+            is_json: found.get_flag("json"),
+        },
         "print" => Task::Print {
             input: file(found, "input"),
             output: file(found, "output"),
@@ -267,6 +339,7 @@ pub fn task_of<'a, S: AsStr>(alloc: Global, words: &'a [S]) -> Result<Task<'a>, 
         "script" => Task::Script(options_of(alloc, found)?),
         "smaller" => Task::Smaller(options_of(alloc, found)?, choice_of(found)),
         "change" => Task::Change(change_of(found)),
+        "mutate" => Task::Mutate(mutation_of(alloc, found)?),
         "corpus" => Task::Corpus {
             folder: found.get_str("output").unwrap_or("."),
             origin: origin_of(found),

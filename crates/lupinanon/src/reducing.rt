@@ -1,19 +1,27 @@
 //! Writing a component that is smaller than the one in a file.
 
-use crate::inspecting::{REFUSED, UNREAD, bytes_in, refuse, refuse_unread};
+use crate::inspecting::{REFUSED, UNREAD, component_in, refuse};
 use crate::limits_file::{config_of, refuse_both};
 use crate::options::{Choice, Options};
 use crate::places::is_terminal;
 use crate::scripting::write_bytes;
+use crate::unread::Unread;
 use crate::{FAULT, print_error};
 use smith_reduce::{ReduceError, Wanted, next_smaller, smaller};
 use std::process::ExitCode;
 
-// The status if no smaller component is looked for.
-fn status_of(error: &ReduceError) -> u8 {
-    match error {
-        ReduceError::Unread { .. } => UNREAD,
-        _ => FAULT,
+// Prints why no smaller component is looked for, and returns the status.
+fn refuse_search(
+    rt: &HostRuntime,
+    path: Option<&str>,
+    bytes: &[u8],
+    error: &ReduceError,
+) -> ExitCode {
+    match *error {
+        ReduceError::Unread { reason, offset } => {
+            refuse(rt, path, &Unread::new(bytes, reason, offset), UNREAD)
+        }
+        _ => refuse(rt, path, error, FAULT),
     }
 }
 
@@ -31,7 +39,7 @@ fn write_numbered(
             let why = "there is no smaller component of that number";
             Err(refuse(rt, options.input, &why, REFUSED))
         }
-        Err(error) => Err(refuse_unread(rt, options.input, bytes, &error, status_of(&error))),
+        Err(error) => Err(refuse_search(rt, options.input, bytes, &error)),
     }
 }
 
@@ -53,7 +61,7 @@ fn write_next(
             let why = "there is no smaller component from that step on";
             Err(refuse(rt, options.input, &why, REFUSED))
         }
-        Err(error) => Err(refuse_unread(rt, options.input, bytes, &error, status_of(&error))),
+        Err(error) => Err(refuse_search(rt, options.input, bytes, &error)),
     }
 }
 
@@ -64,7 +72,7 @@ fn write_chosen(
     choice: Choice,
     wanted: Wanted<'_>,
 ) -> Result<ExitCode, ExitCode> {
-    let bytes = bytes_in(rt, options.input)?;
+    let bytes = component_in(rt, options.input)?;
     match choice {
         Choice::Numbered(number) => write_numbered(rt, options, wanted, &bytes, number),
         Choice::From(step) => write_next(rt, options, wanted, &bytes, step),

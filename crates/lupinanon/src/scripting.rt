@@ -1,10 +1,11 @@
 //! Writing the script of a component in a file: the input that produces it.
 
 use crate::FAULT;
-use crate::inspecting::{REFUSED, bytes_in, refuse, refuse_unread};
+use crate::inspecting::{REFUSED, component_in, refuse};
 use crate::limits_file::{config_of, refuse_both};
 use crate::options::Options;
 use crate::places::{Sink, refuse_terminal, status_of_fault};
+use crate::unread::Unread;
 use smith_component::Config;
 use smith_read::offset_of;
 use smith_run::{Form, page};
@@ -30,7 +31,9 @@ pub fn refuse_script(
             Err(_) => refuse(rt, path, &"out of memory", REFUSED),
         },
         ScriptError::InconsistentLimits => refuse(rt, path, error, FAULT),
-        ScriptError::Unread { .. } => refuse_unread(rt, path, bytes, error, REFUSED),
+        ScriptError::Unread { reason, offset } => {
+            refuse(rt, path, &Unread::new(bytes, *reason, *offset), REFUSED)
+        }
         _ => refuse(rt, path, error, REFUSED),
     }
 }
@@ -68,7 +71,7 @@ pub fn script(rt: &HostRuntime, options: &Options<'_>) -> Result<ExitCode, ExitC
     refuse_terminal(rt, options.output, options.form)?;
     refuse_both(rt, &options.limits, "the component", path)?;
     let config = config_of(rt, &options.limits)?;
-    let bytes = bytes_in(rt, path)?;
+    let bytes = component_in(rt, path)?;
     match script_text(rt.alloc(), &config, &bytes, options.form) {
         Ok(text) => write_bytes(rt, options.output, &text),
         Err(error) => Err(refuse_script(rt, path, &bytes, &error)),

@@ -1,11 +1,17 @@
 //! A component as a text for people: a line for each section and for each entry, with its offset, and with its index in
 //! its index space if it has one.
 
+mod amounts;
+mod core_modules;
 mod core_types;
+mod lines;
 mod types;
 mod walk;
 
+use amounts::Size;
+use core_modules::{show_custom, show_sections};
 use core_types::show_core_type;
+pub use lines::json_of;
 use smith_core::COMPONENT_PREAMBLE;
 use smith_print::next;
 use smith_read::{ComponentTree, Contents, Export, Func, ImportNode, MOST_DEPTH, Step, Steps};
@@ -153,14 +159,12 @@ fn show_step<W: fmt::Write>(
     match step {
         Step::Custom(section) => {
             walk.pass(len);
-            let name = section.name.as_str();
-            let count = section.bytes.len();
-            writeln!(f, "custom {name:?} of {count} bytes")
+            show_custom(f, &section.name, &section.bytes)
         }
-        Step::CoreModule(_) => {
-            walk.pass(len);
+        Step::CoreModule(module) => {
             let index = next(&mut walk.spaces.modules)?;
-            writeln!(f, "core module {index} of {len} bytes")
+            writeln!(f, "core module {index} of {}", Size(len))?;
+            show_sections(f, walk, module)
         }
         Step::Begin(contents) => show_contents(f, walk, contents),
         Step::End(Contents::Parts(_)) => {

@@ -1,10 +1,11 @@
 //! What is in components.
 
-use crate::folders::{COMPONENT_ENDING, components_in, inputs_in, is_folder, path_in};
-use crate::inspecting::{REFUSED, bytes_in, refuse, refuse_unread};
+use crate::folders::{Wanted, files_at};
+use crate::inspecting::{REFUSED, bytes_in, component_in, refuse, refuse_unread};
 use crate::limits_file::config_of;
 use crate::options::{Counted, Page};
 use crate::places::status_of_print;
+use crate::progress::Progress;
 use smith_component::{Config, Error, Unstructured, generate};
 use smith_read::{ReadError, read};
 use smith_stats::{Json, Listed, Tally};
@@ -30,7 +31,7 @@ fn add_component(
         Ok(component) => tally.add(bytes.len(), &component),
         Err(ReadError::OutOfMemory) => Err(AllocError),
         Err(error) => {
-            let _status = refuse_unread(rt, Some(path), bytes, &error, REFUSED);
+            let _status = refuse_unread(rt, Some(path), bytes, &error);
             tally.add_unread();
             Ok(())
         }
@@ -57,63 +58,41 @@ fn add_input(
     }
 }
 
-// Adds a path.
-fn push(paths: &mut Vec<String>, path: String) -> Result<(), AllocError> {
-    paths.push(path)?;
-    Ok(())
-}
-
-// Adds a path that is given.
-fn push_given(alloc: Global, paths: &mut Vec<String>, path: &str) -> Result<(), AllocError> {
-    push(paths, String::from_str(alloc, path)?)
-}
-
-// Adds the paths of the files in a folder that are counted.
-fn add_folder(
+// Adds what is in the files.
+fn add_files(
     rt: &HostRuntime,
-    paths: &mut Vec<String>,
-    folder: &str,
+    tally: &mut Tally,
+    paths: &[String],
+    config: &Config,
     are_inputs: bool,
 ) -> Result<(), ExitCode> {
-    let (names, ending) = if are_inputs {
-        (inputs_in(rt, folder)?, "")
-    } else {
-        (components_in(rt, folder)?, COMPONENT_ENDING)
-    };
-    for name in &names {
-        let path = path_in(rt, folder, name, ending)?;
-        settled(rt, folder, push(paths, path))?;
-    }
-    Ok(())
-}
-
-// The paths of the files that are counted.
-fn paths_of(rt: &HostRuntime, counted: &Counted<'_>) -> Result<Vec<String>, ExitCode> {
-    let mut paths = Vec::new(rt.alloc());
-    for path in &counted.paths {
-        if is_folder(rt, path)? {
-            add_folder(rt, &mut paths, path, counted.are_inputs)?;
+    let mut progress = Progress::new(rt, paths.len());
+    for path in paths {
+        if are_inputs {
+            let input = bytes_in(rt, Some(path))?;
+            add_input(rt, tally, config, path, &input)?;
         } else {
-            settled(rt, path, push_given(rt.alloc(), &mut paths, path))?;
+            let component = component_in(rt, Some(path))?;
+            add_component(rt, tally, path, &component)?;
         }
+        progress.step();
     }
-    Ok(paths)
+    progress.end();
+    Ok(())
 }
 
 /// Prints how much there is in components, by sort and by place, or the combinations in them.
 pub fn stats(rt: &HostRuntime, counted: &Counted<'_>) -> Result<ExitCode, ExitCode> {
     let config = config_of(rt, &counted.limits)?;
-    let paths = paths_of(rt, counted)?;
+    let wanted = if counted.are_inputs {
+        Wanted::Inputs
+    } else {
+        Wanted::Components
+    };
+    let listed = files_at(rt, &counted.paths, wanted)?;
     let mut tally = Tally::new(rt.alloc());
-    for path in &paths {
-        let bytes = bytes_in(rt, Some(path))?;
-        if counted.are_inputs {
-            add_input(rt, &mut tally, &config, path, &bytes)?;
-        } else {
-            add_component(rt, &mut tally, path, &bytes)?;
-        }
-    }
-    let (tally, names) = (&tally, paths.as_slice());
+    add_files(rt, &mut tally, &listed.paths, &config, counted.are_inputs)?;
+    let (tally, names) = (&tally, listed.paths.as_slice());
     let printed = match counted.page {
         Page::Lines => print!(rt; "{tally}"),
         Page::Json => println!(rt; "{}", Json(tally)),

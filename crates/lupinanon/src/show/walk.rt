@@ -8,6 +8,15 @@ use std::fmt;
 // Deeper lines are indented as at this level: so a line is at most 64 times as long as its bytes, whatever the depth.
 const MOST_LEVELS: usize = 14;
 
+/// Where the bytes are that a line is of.
+#[derive(Clone, Copy)]
+pub(crate) struct Place {
+    /// How many bytes precede them.
+    pub(crate) offset: usize,
+    /// How many sections, components and types they are in.
+    pub(crate) depth: usize,
+}
+
 /// The place of a walk.
 #[derive(Drop)]
 pub(crate) struct Walk<'a> {
@@ -21,6 +30,8 @@ pub(crate) struct Walk<'a> {
     pub(crate) spaces: IndexSpaces,
     // The sections and the index spaces of the components and types around it, outermost first.
     outer: Vec<(usize, IndexSpaces)>,
+    /// The places of the lines so far, if they are kept. The lines begin without them then.
+    pub(crate) places: Option<Vec<Place>>,
 }
 
 impl<'a> Walk<'a> {
@@ -33,6 +44,7 @@ impl<'a> Walk<'a> {
             sections: 0,
             spaces: IndexSpaces::new(),
             outer: Vec::new(alloc),
+            places: None,
         }
     }
 
@@ -75,11 +87,27 @@ impl<'a> Walk<'a> {
         Ok(())
     }
 
+    // Keeps the place of a line, if places are kept. Returns whether they are.
+    fn keep_place(&mut self, place: Place) -> Result<bool, AllocError> {
+        match &mut self.places {
+            Some(places) => places.push(place)?,
+            None => return Ok(false),
+        }
+        Ok(true)
+    }
+
     // The beginning of a line: the offset of what is next, and the indent.
-    fn begin_line<W: fmt::Write>(&self, f: &mut fmt::Formatter<W>, level: usize) -> fmt::Result {
+    fn begin_line<W: fmt::Write>(
+        &mut self,
+        f: &mut fmt::Formatter<W>,
+        depth: usize,
+    ) -> fmt::Result {
         let offset = self.bytes.len().saturating_sub(self.rest.len());
+        if self.keep_place(Place { offset, depth })? {
+            return Ok(());
+        }
         write!(f, "{offset:>8}  ")?;
-        for _ in 0..level.min(MOST_LEVELS) {
+        for _ in 0..depth.min(MOST_LEVELS) {
             f.write_str("  ")?;
         }
         Ok(())
@@ -90,7 +118,8 @@ impl<'a> Walk<'a> {
         &mut self,
         f: &mut fmt::Formatter<W>,
     ) -> Result<usize, fmt::Error> {
-        self.begin_line(f, self.outer.len())?;
+        let depth = self.outer.len();
+        self.begin_line(f, depth)?;
         let number = next(&mut self.sections)?;
         write!(f, "section {number}: ")?;
         self.pass(1);
@@ -98,7 +127,8 @@ impl<'a> Walk<'a> {
     }
 
     /// Begins the line of an entry of a list, or of a declaration of a type.
-    pub(crate) fn begin_entry<W: fmt::Write>(&self, f: &mut fmt::Formatter<W>) -> fmt::Result {
-        self.begin_line(f, self.outer.len().saturating_add(1))
+    pub(crate) fn begin_entry<W: fmt::Write>(&mut self, f: &mut fmt::Formatter<W>) -> fmt::Result {
+        let depth = self.outer.len().saturating_add(1);
+        self.begin_line(f, depth)
     }
 }
