@@ -24,7 +24,7 @@ fn read_whole(rt: &HostRuntime, source: &mut Source) -> io::Result<Vec<u8>> {
     Ok(bytes)
 }
 
-// Reads a component. Of bytes that do not begin with its preamble, no more than so many are read.
+// Reads a component, or only as many bytes as its preamble has if they are others.
 fn read_component(rt: &HostRuntime, source: &mut Source) -> io::Result<Vec<u8>> {
     let mut bytes = Vec::new(rt.alloc());
     let mut head = source.by_ref().take(COMPONENT_PREAMBLE.len() as u64);
