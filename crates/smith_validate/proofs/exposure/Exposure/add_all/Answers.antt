@@ -1,13 +1,12 @@
-use Rattle.std.proofs.Common.{◌≡◌, ◌+◌, arith, drop, subst, sym}
+use Rattle.std.proofs.Common.{◌+◌, drop, subst, sym}
 use Rattle.smith_input.proofs.Rests.{drop_past, rest_at}
 use Rattle.smith_validate.specs.Deferring.{Adds}
-use Rattle.smith_validate.specs.Exposing.{uses_of}
 use Rattle.smith_validate.proofs.Deferring.{adds_none, adds_then}
-use Rattle.smith_validate.proofs.exposure.Exposure.add_uses.Goals as goal
+use Rattle.smith_validate.proofs.exposure.Exposure.add_all.Goals as goal
 
 pub loop-used-preserved : goal.loop-used-preserved
 loop-used-preserved c = λ newer a.
-    let us = c.deref-used-items.result.now in
+    let us = c.args.uses.now in
     let i = c.loop-used.used-index in
     let u = c.used-item.result in
     let s = c.loop-used.self in
@@ -16,8 +15,6 @@ loop-used-preserved c = λ newer a.
 
 pub returns : goal.returns
 returns c =
-    let us = c.deref-used-items.result.now in
+    let us = c.args.uses.now in
     let s = c.loop-used.self in
-    let all = c.loop-used.invariant s (subst (λ vs. Adds s s vs) (sym (drop_past us c.loop-used.used-index c.loop-used-test.false)) (adds_none s)) in
-    let same : us ≡ uses_of c.args.all.now c.args.number = grind arith in
-    subst (λ vs. Adds c.args.self.now s vs) same all
+    c.loop-used.invariant s (subst (λ vs. Adds s s vs) (sym (drop_past us c.loop-used.used-index c.loop-used-test.false)) (adds_none s))
