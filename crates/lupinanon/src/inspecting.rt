@@ -140,7 +140,8 @@ pub fn show(rt: &HostRuntime, path: Option<&str>, is_json: bool) -> Result<ExitC
     }
 }
 
-/// Writes the component in the file as text, with offsets or without, to a file, or to standard output if there is none.
+/// Writes the component in the file as text, with offsets or without, to a file, or to standard output if there is
+/// none.
 pub fn print(
     rt: &HostRuntime,
     path: Option<&str>,

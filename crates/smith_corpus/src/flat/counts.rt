@@ -8,8 +8,8 @@ use std::collections::{BTreeMap, BTreeSet};
 /// What a combination is worth that no component has, in the beginning.
 pub(crate) const WORTH_OF_NEW: usize = 4096;
 
-/// How much more that is for each component that has a combination on average. So what is rarer than the rest stays worth
-/// its bytes, however many components there are.
+/// How much more that is for each component that has a combination on average. So what is rarer than the rest stays
+/// worth its bytes, however many components there are.
 const WORTH_OF_RARE: usize = WORTH_OF_NEW / 16;
 
 /// How many components have each combination, and how many they are together.
