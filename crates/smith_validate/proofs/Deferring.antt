@@ -1,6 +1,7 @@
 -- Types of instances that are named at once, and what they name later.
-use Rattle.std.proofs.Common.{◌≡◌, ◌⊎◌, inl, inr, ℕ, ◌+◌, ◌<◌, Bool, true, false, List, [], ◌∷◌, ◌++◌, length, get_or}
+use Rattle.std.proofs.Common.{◌≡◌, ◌⊎◌, inl, inr, ℕ, suc, add-one, drop, ◌+◌, ◌<◌, Bool, true, false, List, [], ◌∷◌, ◌++◌, length, get_or}
 use Rattle.std.proofs.Common.{refl, sym, ap, ◌∙◌, subst, arith, None, Some, Err, IfOk, Ok, Result}
+use Rattle.std.proofs.Math.Seq.{drop-cons}
 use Rattle.std.specs.BTreeSet.{contains}
 use Rattle.std.specs.List.{AllByRecursion}
 use Rattle.std.specs.Ordering.{nat_cmp}
@@ -124,6 +125,13 @@ adds_then a b c u us x y = record {
   where
     first : (n : ℕ) → IsUsed (u ∷ []) n → IsUsed (u ∷ us) n
     first n h = elim h [ inl e ↦ inl e | inr r ↦ absurd r ]
+
+-- the use at an index, and those after it
+pub adds_at : (a b c : Exposure) (us : List Use) (i : ℕ) (d : Use) → i < length us → Adds a b (get_or us i d ∷ []) → Adds b c (drop (i + 1) us)
+    → Adds a c (drop i us)
+adds_at a b c us i d h x y =
+    let next = subst (λ n. Adds b c (drop n us)) (add-one i) y in
+    subst (λ vs. Adds a c vs) (sym (drop-cons us i d h)) (adds_then a b c (get_or us i d) (drop (suc i) us) x next)
 
 -- What is settled.
 

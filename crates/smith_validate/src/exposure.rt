@@ -124,20 +124,27 @@ impl Exposure {
     fn add_uses(&mut self, all: &[InstanceType], number: usize) -> Result<(), AllocError>
         ensures { OnOk result (Adds self.old self.new (uses_of all.now number)) }
     {
-        let Some(ty) = all.get(number) else {
-            return Ok(());
-        };
-        for used in &ty.uses {
-            self.add_use(*used)?;
+        match all.get(number) {
+            Some(ty) => self.add_all(&ty.uses),
+            None => Ok(()),
+        }
+    }
+
+    // Names the types that uses are instances of.
+    fn add_all(&mut self, uses: &[Use]) -> Result<(), AllocError>
+        ensures { OnOk result (Adds self.old self.new uses.now) }
+    {
+        for used in uses {
+            self.add_use(used)?;
         }
         Ok(())
     }
 
     // Names the type that a use is an instance of.
-    fn add_use(&mut self, used: Use) -> Result<(), AllocError>
-        ensures { OnOk result (Adds self.old self.new (used ∷ [])) }
+    fn add_use(&mut self, used: &Use) -> Result<(), AllocError>
+        ensures { OnOk result (Adds self.old self.new (used.now ∷ [])) }
     {
-        match used {
+        match *used {
             Use::Instance(number) => self.add(number),
             Use::Equal(_) => Ok(()),
         }

@@ -1,7 +1,7 @@
 use Rattle.std.proofs.Common.{drop}
 use Rattle.smith_validate.specs.Deferring.{Adds}
 use Rattle.smith_validate.specs.declared.exposure.Exposure.{Exposure}
-use Rattle.smith_validate.proofs.exposure.Exposure.add_uses.Given as goal
+use Rattle.smith_validate.proofs.exposure.Exposure.add_all.Given as goal
 
 abbrev pub invariant-loop-used : goal.invariant-loop-used
-invariant-loop-used l = (newer : Exposure) → Adds l.self newer (drop l.used-index l.used-items) → Adds l.fn.self newer l.used-items
+invariant-loop-used l = (newer : Exposure) → Adds l.self newer (drop l.used-index l.uses) → Adds l.fn.self newer l.uses
