@@ -6,17 +6,17 @@ use Rattle.std.specs.BTreeSet.{contains}
 use Rattle.std.specs.List.{AllByRecursion}
 use Rattle.std.specs.Ordering.{nat_cmp}
 use Rattle.smith_input.specs.NewNames.{is_among}
-use Rattle.smith_tree.specs.Facts.{Extern, Id}
+use Rattle.smith_tree.specs.Facts.{Id}
 use Rattle.smith_tree.specs.Validates.{RefersTo, names_of}
-use Rattle.smith_validate.specs.Deferring.{Adds, AreSettled, Gains, IsExposure, IsListed, IsNamedBy, IsOwed, IsUsed}
+use Rattle.smith_validate.specs.Deferring.{Adds, AreSettled, Gains, IsExposure, IsListed, IsOwed, IsUsed}
 use Rattle.smith_validate.specs.Exact.{IsExposed, is_exposed}
-use Rattle.smith_validate.specs.Exposing.{IsSettled, Meets, first_at, is_settled, named_after, outside_at, uses_of}
+use Rattle.smith_validate.specs.Exposing.{IsSettled, Meets, first_at, named_after, outside_at, uses_of}
 use Rattle.smith_validate.specs.Instances.{Surface, Follow, IsInstanceType, IsTable, Piece, equal, externs_in, externs_of, named_by, no_surface}
 use Rattle.smith_validate.specs.Instances.{outside_of, place_of, refers_of, single, uses_in, whole}
 use Rattle.smith_validate.specs.Marks.{Within}
 use Rattle.smith_validate.specs.Opening.{IsFound, IsOpenable, IsReached}
-use Rattle.smith_validate.specs.Places.{IsBefore, IsInside, IsUnder}
-use Rattle.smith_validate.specs.Tables.{AreDistinct, AreExact, Fits, IsGrown, IsLive, IsSeen}
+use Rattle.smith_validate.specs.Places.{IsInside, IsUnder}
+use Rattle.smith_validate.specs.Tables.{AreDistinct, AreExact, Fits, IsLive, IsSeen}
 use Rattle.smith_validate.specs.declared.exposure.Exposure.{Exposure}
 use Rattle.smith_validate.specs.declared.instances.Exposed.{Exposed}
 use Rattle.smith_validate.specs.declared.instances.InstanceType.{InstanceType}

@@ -6,7 +6,6 @@ use Rattle.std.proofs.lemmas.Bool.{ltb-false}
 use Rattle.std.proofs.lemmas.Slice.Zip.{AllZip-long}
 use Rattle.std.specs.List.{AllByRecursion}
 use Rattle.std.specs.Option.{option_to_list}
-use Rattle.std.specs.Prelude.{slice_get}
 use Rattle.smith_tree.specs.Bodies.{Body, empty_body}
 use Rattle.smith_tree.specs.Facts.{Extern, Id}
 use Rattle.smith_tree.specs.Validates.{RefersTo, exported, imported, names_of}

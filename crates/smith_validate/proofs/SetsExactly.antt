@@ -1,6 +1,6 @@
 -- What is exposed in a component or a component type after an import or an export.
-use Rattle.std.proofs.Common.{◌≡◌, inl, inr, ℕ, ◌+◌, true, false, List, [], ◌++◌, length}
-use Rattle.std.proofs.Common.{refl, sym, ◌∙◌, subst, arith, append_assoc, None, Some}
+use Rattle.std.proofs.Common.{◌≡◌, inl, inr, ℕ, ◌+◌, true, false, List, ◌++◌, length}
+use Rattle.std.proofs.Common.{refl, sym, subst, arith, append_assoc, None, Some}
 use Rattle.std.proofs.lemmas.Bool.{leb-false}
 use Rattle.smith_input.specs.NewNames.{is_among}
 use Rattle.smith_tree.specs.Bodies.{Body}

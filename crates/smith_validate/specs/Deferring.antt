@@ -1,5 +1,5 @@
 -- Types of instances that are named at once, while what they export of others is named only when it is asked for.
-use Rattle.std.specs.Prelude.{◌≡◌, ◌⊎◌, ◌+◌, ℕ, ◌<◌, true, List, [], ◌∷◌, ◌++◌, length, Option, None, Some}
+use Rattle.std.specs.Prelude.{◌≡◌, ◌⊎◌, ◌+◌, ℕ, ◌<◌, true, List, [], ◌∷◌, length, Option, None, Some}
 use Rattle.smith_input.specs.NewNames.{is_among}
 use Rattle.smith_tree.specs.Facts.{Id}
 use Rattle.smith_tree.specs.Validates.{names_of}
