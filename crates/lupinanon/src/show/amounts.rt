@@ -37,10 +37,12 @@ impl fmt::Display for Entries {
 
 impl fmt::Display for First<'_> {
     fn fmt<W: fmt::Write>(&self, f: &mut fmt::Formatter<W>) -> fmt::Result {
-        let mut separator = ": ";
-        for byte in self.0.iter().take(MOST_BYTES) {
-            write!(f, "{separator}{byte:02x}")?;
-            separator = " ";
+        let Some((first, rest)) = self.0.split_first() else {
+            return Ok(());
+        };
+        write!(f, ": {first:02x}")?;
+        for byte in rest.iter().take(MOST_BYTES - 1) {
+            write!(f, " {byte:02x}")?;
         }
         if self.0.len() > MOST_BYTES {
             f.write_str(" ..")?;
