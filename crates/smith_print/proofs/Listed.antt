@@ -25,7 +25,8 @@ module _ {A : Type 0} (f : A → ℕ → IndexSpaces → List ℕ) (g : A → In
       let line = item_line c ps in
       let count : 1 + length rest ≡ length (x ∷ rest) = omega arith in
       record {
-        printed = ap (λ q. q ++ entry_lines f g c t qs rest) (adds ∙ ap (λ z. z ++ f x c r) ends) ∙ append_assoc (a ++ line) (f x c r) (entry_lines f g c t qs rest)
+        printed = ap (λ q. q ++ entry_lines f g c t qs rest) (adds ∙ ap (λ z. z ++ f x c r) ends) ∙ append_assoc (a ++ line) (f x c r)
+            (entry_lines f g c t qs rest)
             ∙ append_assoc a line (f x c r ++ entry_lines f g c t qs rest) ∙ ap (λ q. a ++ (line ++ (f x c r ++ entry_lines f g c q qs rest))) after
             ∙ ap (λ q. a ++ (line ++ (f x c r ++ entry_lines f g c (g x r) q rest))) past
             ∙ sym (ap (λ ys. a ++ entry_lines f g c r ps ys) front ∙ refl) ∙ h.printed;

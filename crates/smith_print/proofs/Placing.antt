@@ -95,7 +95,8 @@ module _ (total : ℕ) where
   pub parts_first : (ns : List PartNode) (b old : List ℕ) → PartsReaching ns 0 b b old old
   parts_first ns b old = λ rest e low. record { spelled = e; fits = low; is = refl }
 
-  pub parts_next : (ns : List PartNode) (i : ℕ) (n : PartNode) (b r next old new more : List ℕ) → PartsReaching ns i b r old new → i < length ns → n ≡ get_or ns i n
+  pub parts_next : (ns : List PartNode) (i : ℕ) (n : PartNode) (b r next old new more : List ℕ) → PartsReaching ns i b r old new
+      → i < length ns → n ≡ get_or ns i n
       → ((rest : List ℕ) → part (shown_part_node n) ⊕ Some rest ≡ Some r → length r ≤ total
       → (next ≡ rest) × (more ≡ new ++ contents_at (total - length r + head_length (shown_part_node n)) (shown_part_node n)))
       → PartsReaching ns (i + 1) b next old more
@@ -199,11 +200,13 @@ module _ {A B : Type 0} (f : B → Piece) (v : A → B) where
       ∙ sym (each_at-map (at + piece_length (u (length (map v xs)))) xs)
 
   -- the entries of a section that is a list of them
-  pub placed_list : (total : ℕ) (xs : List A) (p : Part) (r : Result (Bor (List ℕ)) Unread) (b rest inner old new : List ℕ) (n : ℕ) → Inside p b rest inner n
+  pub placed_list : (total : ℕ) (xs : List A) (p : Part) (r : Result (Bor (List ℕ)) Unread) (b rest framed inner old new : List ℕ) (id n : ℕ)
+      → byte_at b ≡ Some (id, framed) → u_at framed ≡ Some (n, inner) → part p ⊕ Some rest ≡ Some b
       → length b ≤ total → contents_in p ≡ many f (map v xs)
       → ((rest : List ℕ) → many (λ x. f (v x)) xs ⊕ Some rest ≡ Some inner → length inner ≤ total
       → Places r rest old new (many_at (λ x. f (v x)) (total - length inner) xs))
       → Places r rest old new (many_at f (total - length b + head_length p) (map v xs))
-  placed_list total xs p r b rest inner old new n i fits is placed =
+  placed_list total xs p r b rest framed inner old new id n byte size e fits is placed =
+      let i = inside p b rest framed inner id n byte size e in
       placed_same r rest old new (ap (λ k. many_at (λ x. f (v x)) k xs) (inside_at total i fits) ∙ many_at-map (total - length b + head_length p) xs)
       (placed rest (ap (λ q. q ⊕ Some rest) (sym (is ∙ many-map f v xs)) ∙ inside_begins i) (inside_fits total i fits))

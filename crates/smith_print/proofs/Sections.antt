@@ -1,5 +1,6 @@
 -- Loops that print the sections of a component.
-use Rattle.std.proofs.Common.{◌≡◌, ℕ, ◌+◌, ◌<◌, ◌≤◌, List, [], ◌++◌, length, map, drop, get_or, refl, ap, sym, subst, ◌∙◌, Some, None, Result, Ok, Err, suc, arith}
+use Rattle.std.proofs.Common.{◌≡◌, ℕ, ◌+◌, ◌<◌, ◌≤◌, List, [], ◌++◌, length, map, drop, get_or, refl, ap, sym, subst, ◌∙◌, Some, None, Result, Ok, Err, suc}
+use Rattle.std.proofs.Common.{arith}
 use Rattle.std.proofs.Common.{IsErrAnd, IfErr}
 use Rattle.std.proofs.lemmas.List.{drop-drop, length-map}
 use Rattle.smith_input.proofs.Rests.{drop_past, rest_at}
@@ -142,7 +143,8 @@ pub text_custom : (n : CustomSection) (c : ℕ) (r : IndexSpaces) (os : List ℕ
     → part_text (shown_part_node (node.Custom n)) c r os ≡ bytes (custom_text (string_bytes n.name) n.bytes.items c os)
 text_custom n c r os = ap (λ p. part_text p c r os) (shown_custom n)
 
-pub text_module : (bs : Vec ℕ) (c : ℕ) (r : IndexSpaces) (os : List ℕ) → part_text (shown_part_node (node.CoreModule bs)) c r os ≡ core_module_text (stand_in_at bs.items) c r os
+pub text_module : (bs : Vec ℕ) (c : ℕ) (r : IndexSpaces) (os : List ℕ) → part_text (shown_part_node (node.CoreModule bs)) c r os
+    ≡ core_module_text (stand_in_at bs.items) c r os
 text_module bs c r os = ap (λ p. part_text p c r os) (shown_module bs)
 
 pub text_component : (ns : Vec PartNode) (c : ℕ) (r : IndexSpaces) (os : List ℕ)
@@ -150,7 +152,8 @@ pub text_component : (ns : Vec PartNode) (c : ℕ) (r : IndexSpaces) (os : List 
 text_component ns c r os = ap (λ p. part_text p c r os) (shown_nested ns)
 
 pub text_core_types : (ts : Vec CoreNode) (c : ℕ) (r : IndexSpaces) (os : List ℕ)
-    → part_text (shown_part_node (node.CoreTypes ts)) c r os ≡ bytes (entry_lines (λ t. core_type_text (shown_core_node t)) (λ t. after_core_type) c r os ts.items)
+    → part_text (shown_part_node (node.CoreTypes ts)) c r os
+    ≡ bytes (entry_lines (λ t. core_type_text (shown_core_node t)) (λ t. after_core_type) c r os ts.items)
 text_core_types ts c r os = ap (λ p. part_text p c r os) (shown_core_types ts)
     ∙ ap bytes (entry_lines-map core_type_text (λ t. after_core_type) shown_core_node c r os ts.items)
 
@@ -159,8 +162,10 @@ pub text_types : (ts : Vec TypeNode) (c : ℕ) (r : IndexSpaces) (os : List ℕ)
 text_types ts c r os = ap (λ p. part_text p c r os) (shown_types ts) ∙ ap bytes (entry_lines-map type_text (λ t. after_type) shown_type_node c r os ts.items)
 
 pub text_canons : (fs : Vec Func) (c : ℕ) (r : IndexSpaces) (os : List ℕ)
-    → part_text (shown_part_node (node.Canons fs)) c r os ≡ bytes (entry_lines (λ f _. canon_text (shown_canon f)) (λ f. after_canon (shown_canon f)) c r os fs.items)
-text_canons fs c r os = ap (λ p. part_text p c r os) (shown_canons fs) ∙ ap bytes (entry_lines-map (λ f _. canon_text f) after_canon shown_canon c r os fs.items)
+    → part_text (shown_part_node (node.Canons fs)) c r os
+    ≡ bytes (entry_lines (λ f _. canon_text (shown_canon f)) (λ f. after_canon (shown_canon f)) c r os fs.items)
+text_canons fs c r os = ap (λ p. part_text p c r os) (shown_canons fs)
+    ∙ ap bytes (entry_lines-map (λ f _. canon_text f) after_canon shown_canon c r os fs.items)
 
 pub text_imports : (is : Vec ImportNode) (c : ℕ) (r : IndexSpaces) (os : List ℕ) → part_text (shown_part_node (node.Imports is)) c r os
     ≡ bytes (entry_lines (λ i _. import_text (string_bytes i.name) i.to) (λ i. after_extern i.to) c r os is.items)
@@ -168,7 +173,8 @@ text_imports is c r os = ap (λ p. part_text p c r os) (shown_imports is)
     ∙ ap bytes (entry_lines-map (λ i _. import_text i.name i.to) (λ i. after_extern i.to) shown_import_node c r os is.items)
 
 pub text_exports : (es : Vec Export) (c : ℕ) (r : IndexSpaces) (os : List ℕ)
-    → part_text (shown_part_node (node.Exports es)) c r os ≡ bytes (entry_lines (λ e _. export_entry_text (shown_export e)) (λ e. after_function) c r os es.items)
+    → part_text (shown_part_node (node.Exports es)) c r os
+    ≡ bytes (entry_lines (λ e _. export_entry_text (shown_export e)) (λ e. after_function) c r os es.items)
 text_exports es c r os = ap (λ p. part_text p c r os) (shown_exports es)
     ∙ ap bytes (entry_lines-map (λ e _. export_entry_text e) (λ e. after_function) shown_export c r os es.items)
 

@@ -169,7 +169,8 @@ module _ (table : List Surface) where
       let xs = externs_of table n in
       let both = subst (λ ids. Within named ids) (refers_of_append xs (externs_in table ps)) w in
       elim u [
-        | inl e ↦ (let k : n ≡ m = cc in subst (λ j. Within named (refers_of (externs_of table j))) k (within_first named (refers_of xs) (refers_of (externs_in table ps)) both))
+        | inl e ↦ (let k : n ≡ m = cc in subst (λ j. Within named (refers_of (externs_of table j))) k (within_first named (refers_of xs)
+            (refers_of (externs_in table ps)) both))
         | inr r ↦ used_within named ps m r (within_last named (refers_of xs) (refers_of (externs_in table ps)) both)
       ]
   used_within named (equal n ns ∷ ps) m u w =
@@ -463,7 +464,8 @@ module _ (table : List Surface) where
               | inl v ↦ inr (record { by = z.by; listed = v; before = z.before; names = z.names })
               | inr e ↦ (
                   let it = exact n live in
-                  let w = subst (λ xs. is_among (names_of xs) id ≡ true) it.externs_are (subst (λ j. is_among (names_of (externs_of table j)) id ≡ true) e z.names) in
+                  let w = subst (λ xs. is_among (names_of xs) id ≡ true) it.externs_are (subst (λ j. is_among (names_of (externs_of table j)) id ≡ true) e
+                  z.names) in
                   let less = z.before in
                   elim (owed k id l i it.pieces it.fit (λ j u. subst (λ us. IsUsed us j) (sym it.uses_are) u) w) [
                     | inl v ↦ inl v

@@ -1,5 +1,6 @@
 -- What is kept of imports and exports.
-use Rattle.std.proofs.Common.{◌≡◌, ℕ, ◌+◌, ◌<◌, ◌&&◌, not, Bool, true, false, List, [], ◌∷◌, ◌++◌, length, get_or, refl, sym, ap, ◌∙◌, subst, arith, append_assoc}
+use Rattle.std.proofs.Common.{◌≡◌, ℕ, ◌+◌, ◌<◌, ◌&&◌, not, Bool, true, false, List, [], ◌∷◌, ◌++◌, length, get_or, refl, sym, ap, ◌∙◌, subst, arith}
+use Rattle.std.proofs.Common.{append_assoc}
 use Rattle.std.proofs.Common.{Option, None, Some, append-nil, length-append}
 use Rattle.std.proofs.Math.Seq.{get_or-append_seam}
 use Rattle.std.proofs.lemmas.Bool.{ltb-false}
@@ -13,7 +14,8 @@ use Rattle.smith_validate.specs.Bodies.{AreExports, AreSets, IsFresh, IsRole}
 use Rattle.smith_validate.specs.Deferring.{AreSettled, IsMetBy}
 use Rattle.smith_validate.specs.Exposing.{IsMet, named_after, number_of, outside_at}
 use Rattle.smith_validate.specs.Externs.{IsPiece}
-use Rattle.smith_validate.specs.Instances.{AreOutward, Surface, Follow, IsInstanceType, IsKnown, IsTable, Piece, Rest, equal, externs_in, externs_of, named_by, no_surface}
+use Rattle.smith_validate.specs.Instances.{AreOutward, Surface, Follow, IsInstanceType, IsKnown, IsTable, Piece, Rest, equal, externs_in, externs_of}
+use Rattle.smith_validate.specs.Instances.{named_by, no_surface}
 use Rattle.smith_validate.specs.Instances.{outside_of, reach, refers_of, single, uses_in, whole}
 use Rattle.smith_validate.specs.Marks.{Covers, IsAbove, Within, both, closed_needs, greater_of, instance_facts, is_below}
 use Rattle.smith_validate.specs.Nested.{IsDeclared, instance_plain}
@@ -208,7 +210,8 @@ module _ (table : List Surface) (names : List (List Id)) (e f : Exported) (xs ys
             (are_sub table f.named (named_after table u named) (named ++ names_of (externs_in table (i.piece ∷ []))) (of.after named) met.settled),
       )
 
-  pub exports_push : (all : List InstanceType) → IsTable all table → AreExports table names e xs → IsPiece table (names_of xs ∷ names) k ys → f.refers ≡ both e.refers k.refers
+  pub exports_push : (all : List InstanceType) → IsTable all table → AreExports table names e xs → IsPiece table (names_of xs ∷ names) k ys → f.refers ≡ both
+      e.refers k.refers
       → f.uses.items ≡ e.uses.items ++ option_to_list k.used → f.any ≡ true
       → (f.refers_outside ≡ true → (e.refers_outside ≡ true) × AllByRecursion (λ u. outside_at all (number_of u) ≡ true) (option_to_list k.used))
       → ((named : List Id) → f.names_first ≡ true

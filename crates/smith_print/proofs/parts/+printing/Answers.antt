@@ -14,7 +14,8 @@ use Rattle.smith_print.proofs.parts.+printing.Goals as goal
 
 pub print_part-returns-in_ok-print_custom-in-Custom-clause-printed : goal.print_part-returns-in_ok-print_custom-in-Custom-clause-printed
 print_part-returns-in_ok-print_custom-in-Custom-clause-printed t c =
-    rw (c.in-Custom.is, text_custom c.in-Custom.section c.args.columns c.args.spaces.now c.args.offsets.now.left.now) (adds_text ((c.in_ok-print_custom-in-Custom.ensures {u = tt}).printed))
+    rw (c.in-Custom.is, text_custom c.in-Custom.section c.args.columns c.args.spaces.now c.args.offsets.now.left.now)
+    (adds_text ((c.in_ok-print_custom-in-Custom.ensures {u = tt}).printed))
 
 pub print_part-returns-in-CoreTypes-clause-printed : goal.print_part-returns-in-CoreTypes-clause-printed
 print_part-returns-in-CoreTypes-clause-printed t c =
@@ -89,7 +90,8 @@ pub print_part-returns-in_ok-print_head-in-Component-clause-printed : goal.print
 print_part-returns-in_ok-print_head-in-Component-clause-printed t c =
     let os = c.args.offsets.now.left.now in
     rw (c.in-Component.is, text_component c.in-Component.nodes c.args.columns c.args.spaces.now os)
-    (prints_behind c.print_component.result c.args.out.now c.print_head.new.out c.print_component.new.out (bytes (head_text c.args.columns c.args.spaces.now os))
+    (prints_behind c.print_component.result c.args.out.now c.print_head.new.out c.print_component.new.out
+    (bytes (head_text c.args.columns c.args.spaces.now os))
     (closing c.args.columns (sections c.in-Component.nodes.items (deeper c.args.columns) nothing (drop 1 os)))
     (adds_text ((c.in_ok-print_head-in-Component.ensures {u = tt}).printed))
     (rw (c.deref-in-Component.ensures.value, (c.in_ok-print_head-in-Component.ensures {u = tt}).passed) at c.print_component.ensures.printed))

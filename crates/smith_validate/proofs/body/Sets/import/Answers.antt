@@ -58,7 +58,8 @@ returns-clause-exact c = λ table place around full b xs exact added i sets.
     let then = (c.in_ok-meets-2.ensures {u = tt}).exact table (exported b) exact added.distinct sets.1 p in
     let n : Sets = record { imported = c.meets.new.self; exported = c.meets-2.new.self } in
     on_by c.check-3.result
-    (λ h. import_used table place around full k xs added i b n u c.in-Some.is met (subst (λ is. IsFound table u (IsExposure table c.meets-2.new.self) (exported b) is) h then))
+    (λ h. import_used table place around full k xs added i b n u c.in-Some.is met (subst (λ is. IsFound table u (IsExposure table c.meets-2.new.self)
+    (exported b) is) h then))
     c.check-3.ensures.holds
 
 pub returns-clause-refused : goal.returns-clause-refused
