@@ -9,7 +9,7 @@ use rand_core::Rng;
 use rand_pcg::Pcg32;
 use rand_pcg::rand_core::SeedableRng;
 use smith_component::{Config, Unstructured, generate};
-use smith_corpus::draw;
+use smith_corpus::{draw, number_below};
 use smith_reduce::{joined, without};
 use smith_run::Form;
 use smith_script::script;
@@ -24,20 +24,12 @@ const LEN: usize = 256;
 // How many bytes of an input are changed at most.
 const MOST_CHANGED: usize = 4;
 
-// A number below that, if there is one, and otherwise 0.
-fn below(random: &mut Pcg32, most: usize) -> usize {
-    if most == 0 {
-        return 0;
-    }
-    (random.next_u64() % most as u64) as usize
-}
-
 // The component without an item and all that refers to it. How many items there are is not known: the number is drawn
 // below a bound, which is halved as long as there is none.
 fn without_item(alloc: Global, random: &mut Pcg32, component: &[u8]) -> Option<Vec<u8>> {
     let mut bound = component.len();
     for _ in 0..usize::BITS {
-        let item = below(random, bound);
+        let item = number_below(random, bound);
         if let Some(less) = without(alloc, component, item).ok()? {
             return Some(less);
         }
@@ -49,7 +41,7 @@ fn without_item(alloc: Global, random: &mut Pcg32, component: &[u8]) -> Option<V
 // An input of the input's component with an item less, or with another component's sections after its own.
 fn edited(alloc: Global, config: &Config, random: &mut Pcg32, input: &[u8]) -> Option<Vec<u8>> {
     let generated = generate(alloc, *config, &mut Unstructured::new(input)).ok()?;
-    let edited = if below(random, 2) == 0 {
+    let edited = if number_below(random, 2) == 0 {
         without_item(alloc, random, &generated.bytes)?
     } else {
         let other = draw(alloc, config, random, LEN).ok()?;
@@ -61,8 +53,8 @@ fn edited(alloc: Global, config: &Config, random: &mut Pcg32, input: &[u8]) -> O
 // The input with some of its bytes changed.
 fn with_changes(alloc: Global, random: &mut Pcg32, input: &[u8]) -> Result<Vec<u8>, AllocError> {
     let mut bytes = Vec::from_slice(alloc, input)?;
-    for _ in 0..=below(random, MOST_CHANGED) {
-        let place = below(random, bytes.len());
+    for _ in 0..=number_below(random, MOST_CHANGED) {
+        let place = number_below(random, bytes.len());
         if let Some(byte) = bytes.get_mut(place) {
             *byte ^= (random.next_u32() % 255) as u8 + 1;
         }
@@ -82,7 +74,7 @@ fn mutated(
             return Ok(sample.input);
         }
     }
-    if below(random, 2) == 0 {
+    if number_below(random, 2) == 0 {
         if let Some(edited) = edited(alloc, config, random, input) {
             return Ok(edited);
         }

@@ -1,6 +1,6 @@
 //! Bytes that are close to a component that validates, of each sort of answer in turn.
 
-ghost use Rattle.std.specs.Prelude.{◌≡◌, ◌⊎◌, Some, option_map, IfOk, IfErr, IfSome};
+ghost use Rattle.std.specs.Prelude.{◌≡◌, ◌<◌, ◌⊎◌, Some, option_map, IfOk, IfErr, IfSome};
 ghost use Rattle.smith_tree.specs.Grammar.{component_text};
 ghost use Rattle.smith_read.specs.PartNodes.{shown_tree};
 ghost use Rattle.smith_change.specs.Refusals.{IsRefusal};
@@ -109,8 +109,11 @@ impl Taken {
     }
 }
 
-/// A number below that one, or 0 if there is none.
-pub(crate) fn below(random: &mut Pcg32, most: usize) -> usize {
+/// A number below that one, or 0 if there is none. Public only for the crates above.
+pub fn number_below(random: &mut Pcg32, most: usize) -> usize
+    ensures below { 0 < most → result < most }
+    ensures none { most ≡ 0 → result ≡ 0 }
+{
     if most == 0 {
         return 0;
     }
@@ -160,8 +163,8 @@ fn change_of(
 
 // A number among those of the changes of that many places.
 fn random_number(random: &mut Pcg32, places: usize) -> usize {
-    let place = below(random, places);
-    let alternative = below(random, MOST_ALTERNATIVES);
+    let place = number_below(random, places);
+    let alternative = number_below(random, MOST_ALTERNATIVES);
     place
         .saturating_mul(ALTERNATIVES)
         .saturating_add(alternative)
@@ -269,7 +272,7 @@ pub fn miswritten(
     ensures { IfOk result (IsSomeMiswritten bytes.now) }
 {
     // Beside the cuts, there are hardly more candidates than bytes.
-    let from = below(random, bytes.len().saturating_mul(2));
+    let from = number_below(random, bytes.len().saturating_mul(2));
     let Some(found) = misstep(alloc, bytes, from)? else {
         return Ok(None);
     };

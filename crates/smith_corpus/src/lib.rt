@@ -7,7 +7,7 @@ mod flat;
 mod samples;
 mod swarms;
 
-pub use breaking::{Difference, Finding, NearMiss, Taken, miswritten, near_miss};
+pub use breaking::{Difference, Finding, NearMiss, Taken, miswritten, near_miss, number_below};
 pub use flat::{Reached, draw_flat};
 pub use rand_pcg::Pcg32;
 pub use samples::{Sample, SampleError, draw};

@@ -1,6 +1,6 @@
 //! An input that grows by random bytes, as long as what it produces has enough that is rare.
 
-use crate::breaking::below;
+use crate::breaking::number_below;
 use crate::flat::counts::{Reached, WORTH_OF_NEW, combinations_of};
 use rand_core::Rng;
 use rand_pcg::Pcg32;
@@ -71,7 +71,7 @@ fn say_lift(input: &mut Vec<u8>, config: &Config, random: &mut Pcg32) -> Result<
 // An input that has nothing, or a lift.
 fn begun(alloc: Global, config: &Config, random: &mut Pcg32) -> Result<Vec<u8>, Error> {
     let mut input = Vec::new(alloc);
-    if below(random, 2) == 0 {
+    if number_below(random, 2) == 0 {
         say_lift(&mut input, config, random)?;
     }
     Ok(input)
@@ -81,7 +81,7 @@ fn begun(alloc: Global, config: &Config, random: &mut Pcg32) -> Result<Vec<u8>, 
 fn add_bytes(input: &mut Vec<u8>, random: &mut Pcg32) -> Result<(), AllocError> {
     let mut bytes = [0; MOST_ADDED];
     random.fill_bytes(&mut bytes);
-    let count = below(random, MOST_ADDED).saturating_add(1);
+    let count = number_below(random, MOST_ADDED).saturating_add(1);
     input.extend_from_slice(&bytes[..count.min(MOST_ADDED)])?;
     Ok(())
 }
