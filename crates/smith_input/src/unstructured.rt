@@ -213,7 +213,11 @@ impl<'a> Unstructured<'a> {
     fn goes_on(&mut self, bits: usize) -> bool
         ensures { GoesOn bits self.old result self.new }
     {
-        has_low_bit(self.arbitrary_u8(), bits)
+        let byte = self.arbitrary_u8();
+        if bits == 1 {
+            return byte % 2 == 1;
+        }
+        has_low_bit(byte, bits)
     }
 
     /// Whether a loop that has made `done` turns makes another, by the lowest bit of a byte: `more_of` with one bit.
