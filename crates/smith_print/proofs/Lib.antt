@@ -1,5 +1,7 @@
 -- Lemmas about printers.
 pub mod Apart
+pub mod Boundaries
+pub mod Encoded
 pub mod Following
 pub mod Listed
 pub mod Offsetting
@@ -7,3 +9,11 @@ pub mod Placing
 pub mod Printing
 pub mod Sections
 pub mod Shown
+pub mod Told
+pub mod ToldCore
+pub mod ToldExterns
+pub mod ToldLines
+pub mod ToldModules
+pub mod ToldParts
+pub mod ToldTypes
+pub mod ToldValues

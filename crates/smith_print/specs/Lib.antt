@@ -1,4 +1,5 @@
 -- What is printed of components.
+pub mod Alone
 pub mod Components
 pub mod CoreTypes
 pub mod Externs

@@ -7,6 +7,8 @@ ghost use Rattle.smith_tree.specs.Grammar.{Spells};
 ghost use Rattle.smith_tree.specs.Tree.{Tree};
 ghost use Rattle.smith_read.specs.Items.{items};
 ghost use Rattle.smith_read.specs.Places.{offset_in};
+ghost use Rattle.smith_print.specs.Alone.{alone};
+ghost use Rattle.smith_print.specs.Components.{text_of};
 ghost use Rattle.smith_print.specs.Offsets.{offsets_of};
 ghost use Rattle.smith_print.specs.Values.{primitive_text};
 ghost use Rattle.smith_print.specs.Words.{quoted};
@@ -31,4 +33,13 @@ pub fn strings_are_told_apart()
 #[tactic(auto, using(crate::proofs::Apart::primitives_apart))]
 pub fn primitive_types_are_told_apart()
     ensures { (a b : PrimitiveValType) → primitive_text a ≡ primitive_text b → a ≡ b }
+{}
+
+/// Components with one text are equal, but for where their sections begin and end: with each entry in a section of its
+/// own. That is in no text.
+#[tactic(auto, using(crate::proofs::ToldParts::components_apart, crate::proofs::Boundaries::boundaries_unsaid))]
+pub fn components_are_told_apart()
+    ensures told { (a b : Tree) (x y text : List ℕ) → Spells a x → Spells b y
+        → text_of a ≡ Some text → text_of b ≡ Some text → alone a ≡ alone b }
+    ensures boundaries { (component : Tree) → text_of (alone component) ≡ text_of component }
 {}
