@@ -1,4 +1,4 @@
--- The boundaries of sections are in no text.
+-- No text says where sections begin and end.
 use Rattle.std.proofs.Common.{◌≡◌, ℕ, zero, suc, List, [], ◌∷◌, ◌++◌, drop, Some, refl, ap, sym, ◌∙◌, append_assoc}
 use Rattle.std.specs.Prelude.{codes}
 use Rattle.smith_format.specs.Piece.{◌⊕◌, bytes}
@@ -19,7 +19,7 @@ pub no_offsets : (n : ℕ) → drop {A = ℕ} n [] ≡ []
 no_offsets zero = refl
 no_offsets (suc n) = refl
 
--- a list in one section, and in many
+-- A list has one text in one section and in many.
 module _ {A : Type 0} (of : List A → Part) (f : A → ℕ → IndexSpaces → List ℕ) (g : A → IndexSpaces → IndexSpaces)
     (text : (x : A) (c : ℕ) (s : IndexSpaces) → part_text (of (x ∷ [])) c s [] ≡ bytes (line c ++ (f x c s ++ [])))
     (after : (x : A) (s : IndexSpaces) → after_part (of (x ∷ [])) s ≡ g x s) where

@@ -1,4 +1,4 @@
--- What is in pieces that have an encoding.
+-- What follows from an encoding: its parts have one too, so numbers are below their bounds, and texts are bytes.
 use Rattle.std.proofs.Common.{◌≡◌, ℕ, Bool, true, false, List, [], ◌∷◌, Some, None, refl, sym, ◌∙◌, arith, nat_lt, inl, inr}
 use Rattle.std.proofs.lemmas.Bool.{and_parts, ltb-true}
 use Rattle.std.proofs.lemmas.Str.{IsUtf8-from_is_utf8}
@@ -13,7 +13,7 @@ use Rattle.smith_core.specs.StandInText.{listed}
 use Rattle.smith_print.proofs.Apart.{AreBytes}
 use Rattle.smith_print.proofs.Told.{IsNumber}
 
--- it has an encoding
+-- has an encoding
 abbrev pub IsEncoded : Piece → Type 0
 IsEncoded p = (b : List ℕ) × (p ≡ Some b)
 

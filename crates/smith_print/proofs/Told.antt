@@ -1,4 +1,4 @@
--- Texts that begin with the text of one value, and of no other.
+-- How texts are told apart: a text begins with the text of one value and of no other.
 use Rattle.std.proofs.Common.{◌≡◌, ℕ, zero, suc, ◌^◌, ◌/◌, ◌%◌, ◌<◌, ◌≤◌, Bool, true, false, List, [], ◌∷◌, ◌++◌, length, drop, get_or}
 use Rattle.std.proofs.Common.{Option, Some, None, refl, ap, sym, subst, ◌∙◌, append_assoc, arith, eqb, lit<, nat_lt}
 use Rattle.std.proofs.lemmas.Bool.{lt-ltb}
@@ -10,27 +10,27 @@ use Rattle.std.specs.Fmt.{digit_glyph, digits, digits_onto}
 use Rattle.std.specs.Prelude.{codes, decimal, if◌then◌else◌, ◌==◌}
 use Rattle.std.specs.Str.Parse.{AllDigits}
 
--- Texts that begin with a value's text, and go on with what may follow it, begin with no other's and go on with the same.
+-- If one text begins with the texts of two good values, and each goes on as it may, then the values are the same, and so is the rest.
 pub record Told {A : Type 0} (Good : A → Type 0) (Next : List ℕ → Type 0) (f : A → List ℕ) : Type 0 where
   pub law : (a b : A) (x y : List ℕ) → Good a → Good b → Next x → Next y → f a ++ x ≡ f b ++ y → (a ≡ b) × (x ≡ y)
 
 abbrev pub Anything : List ℕ → Type 0
 Anything x = Unit {0}
 
--- what comes after the same words
+-- Texts that begin with the same words go on alike.
 pub past : (l a b x y : List ℕ) → (l ++ a) ++ x ≡ (l ++ b) ++ y → a ++ x ≡ b ++ y
 past l a b x y e = append_cancel_left l (a ++ x) (b ++ y) (sym (append_assoc l a x) ∙ e ∙ append_assoc l b y)
 
--- what is made of both is the same too
+-- If the values are the same, so is what is made of them.
 pub same : {A B : Type 0} (g : A → B) {a b : A} {x y : List ℕ} → (a ≡ b) × (x ≡ y) → (g a ≡ g b) × (x ≡ y)
 same g r = (ap g r.0, r.1)
 
 module _ {A : Type 0} {Good : A → Type 0} {Next : List ℕ → Type 0} {f : A → List ℕ} (t : Told Good Next f) where
-  -- after these words
+  -- with words before it
   pub after : (l : List ℕ) → Told Good Next (λ a. l ++ f a)
   after l = record { law = λ a b x y p q n m e. t.law a b x y p q n m (past l (f a) (f b) x y e) }
 
-  -- before these words
+  -- with words after it
   pub before : (l : List ℕ) {Other : List ℕ → Type 0} → ((x : List ℕ) → Other x → Next (l ++ x)) → Told Good Other (λ a. f a ++ l)
   before l next = record {
     law = λ a b x y p q n m e.
@@ -38,22 +38,22 @@ module _ {A : Type 0} {Good : A → Type 0} {Next : List ℕ → Type 0} {f : A 
         (r.0, append_cancel_left l x y r.1);
   }
 
-  -- before words that end it
+  -- with words after it that end it, so that anything may follow
   pub ended : (l : List ℕ) → ((x : List ℕ) → Next (l ++ x)) → Told Good Anything (λ a. f a ++ l)
   ended l next = before l (λ x _. next x)
 
-  -- of what is as good, before what may follow
+  -- under stronger premises
   pub weaker : {Fine : A → Type 0} {Other : List ℕ → Type 0} → ((a : A) → Fine a → Good a) → ((x : List ℕ) → Other x → Next x) → Told Fine Other f
   weaker good next = record { law = λ a b x y p q n m e. t.law a b x y (good a p) (good b q) (next x n) (next y m) e }
 
-  -- of what has that as its parts
+  -- for what is made of such parts
   pub made : {B : Type 0} (h : B → A) (k : A → B) → ((b : B) → k (h b) ≡ b) → Told (λ b. Good (h b)) Next (λ b. f (h b))
   made h k back = record {
     law = λ a b x y p q n m e.
         let r = t.law (h a) (h b) x y p q n m e in (sym (back a) ∙ ap k r.0 ∙ back b, r.1);
   }
 
-  -- Several, and one that may be missing. Its first characters tell each from what comes after all of them.
+  -- Lists, and values that may be missing. A test of the first characters tells whether another value follows.
   module _ (test : List ℕ → Bool) (starts : (a : A) (x : List ℕ) → Good a → (test (f a ++ x) ≡ true) × Next (f a ++ x)) where
     abbrev Ends : List ℕ → Type 0
     Ends x = (test x ≡ false) × Next x
@@ -92,7 +92,7 @@ module _ {A : Type 0} {Good : A → Type 0} {Next : List ℕ → Type 0} {f : A 
       pub option : Told Fine Ends g
       option = record { law = option_law }
 
--- one, and then the other
+-- two values, one after the other
 pub both : {A B : Type 0} {Good : A → Type 0} {Fine : B → Type 0} {Next Other : List ℕ → Type 0} {f : A → List ℕ} {g : B → List ℕ} → Told Good Next f
     → Told Fine Other g → ((b : B) (x : List ℕ) → Fine b → Other x → Next (g b ++ x)) → Told (λ (p : A × B). Good p.0 × Fine p.1) Other (λ p. f p.0 ++ g p.1)
 both {f = f} {g = g} t s next = record {
@@ -104,7 +104,7 @@ both {f = f} {g = g} t s next = record {
 
 -- ---- words and numbers
 
--- what ends a word or a number: all of their characters come after the space, the parentheses and the ends of lines
+-- What ends a word or a number. The space, parentheses and ends of lines are below 48, digits and letters aren't.
 abbrev pub Stops : List ℕ → Type 0
 Stops x = get_or x 0 0 < 48
 
@@ -119,7 +119,7 @@ words (c ∷ a) (d ∷ b) x y p q n m e =
     let r = words a b x y p.1 q.1 n m (ap (drop 1) e) in
     (λ i. ap (λ l. get_or l 0 0) e i ∷ r.0 i, r.1)
 
--- what is written as words that differ
+-- values that have different words
 pub by_words : {A : Type 0} {Good : A → Type 0} (f : A → List ℕ) → ((a : A) → Good a → IsWord (f a)) → ((a b : A) → Good a → Good b → f a ≡ f b → a ≡ b)
     → Told Good Stops f
 by_words f word apart = record {
@@ -155,7 +155,7 @@ close = codes ")"
 abbrev pub spaced : List ℕ → Bool
 spaced l = eqb (get_or l 0 0) 32
 
--- a head, a number and the end
+-- a number between a head and a closing parenthesis
 pub numbered : (head : List ℕ) → Told IsNumber Anything (λ n. head ++ (decimal n ++ close))
 numbered head = after (ended numbers close (λ x. lit< tt)) head
 
@@ -183,7 +183,7 @@ past_digits [] (d ∷ b) x y c h p q e = absurd (omega (arith, ap (λ l. get_or 
 past_digits (d ∷ a) [] x y c h p q e = absurd (omega (arith, ap (λ l. get_or l 0 0) e, h, p.0))
 past_digits (d ∷ a) (f ∷ b) x y c h p q e = past_digits a b x y c h p.1 q.1 (ap (drop 1) e)
 
--- what follows two numbers, and a semicolon
+-- Numbers of any size that a semicolon ends are passed.
 pub past_numbers : (m n : ℕ) (x y : List ℕ) → decimal m ++ (59 ∷ x) ≡ decimal n ++ (59 ∷ y) → x ≡ y
 unfolding digits
 past_numbers m n x y e = past_digits (decimal m) (decimal n) x y 59 (lit< tt) (digits_more 64 m [] tt) (digits_more 64 n [] tt) e

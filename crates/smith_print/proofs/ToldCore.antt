@@ -1,4 +1,4 @@
--- No text begins with two core types, or with two declarations of module types.
+-- How core function types and the declarations of module types are told apart.
 use Rattle.std.proofs.Common.{◌≡◌, ℕ, ◌+◌, ◌*◌, ◌≤◌, ◌⊎◌, inl, inr, Bool, true, false, eqb, nat_lt, List, [], ◌∷◌, ◌++◌, length, drop}
 use Rattle.std.proofs.Common.{get_or, Option, Some, None, refl, ap, sym, subst, ◌∙◌, append_assoc, arith, lit<, lit≤}
 use Rattle.std.proofs.lemmas.Bool.{lt-ltb, ne_eqb}
@@ -34,7 +34,7 @@ use Rattle.smith_print.proofs.ToldValues.{groups, strings}
 
 -- ---- value types
 
--- a null reference and another: the word, or a number
+-- A nullable reference has a word where another has a number.
 null_differs : (i j : ℕ) (x y : List ℕ) → IsNumber j → codes "(ref null " ++ ((decimal i ++ close) ++ x) ≡ codes "(ref " ++ ((decimal j ++ close) ++ y) → ⊥
 null_differs i j x y low e =
     absurd (omega (arith, ap (λ l. get_or l 5 0) e, (number_head j (close ++ y) low).1, ap (λ l. get_or l 0 0) (append_assoc (decimal j) close y)))
@@ -62,7 +62,7 @@ ref_law a b x y t u _ _ e = absurd (omega (arith, ap (λ l. get_or l 0 0) e))
 refs : Told (λ r. IsEncoded (ref_val r)) Anything ref_text
 refs = record { law = ref_law }
 
--- the second character: a reference's is a letter, a number's a digit
+-- The second character is a letter in a reference type, and a digit in others.
 ref_second : (r : RefType) (x : List ℕ) → 114 ≤ get_or (ref_text r ++ x) 1 0
 ref_second FuncRef x = lit≤ tt
 ref_second ExternRef x = lit≤ tt
@@ -123,7 +123,7 @@ module _ (head : List ℕ) (test : List ℕ → Bool) (starts : (x : List ℕ) �
   core_lists : Told AreEncoded (λ x. test x ≡ false) (core_list_text head)
   core_lists = record { law = core_list_law }
 
--- what parameters begin with
+-- the beginning of parameters
 abbrev is_parameter : List ℕ → Bool
 is_parameter l = spaced l && eqb (get_or l 2 0) 112
 
@@ -146,7 +146,7 @@ core_functions =
 
 -- ---- what is imported and exported
 
--- what begins a number
+-- the beginning of a number
 abbrev Digit : List ℕ → Type 0
 Digit x = (48 ≤ get_or x 0 0) × (get_or x 0 0 ≤ 57)
 
@@ -159,7 +159,7 @@ wides = record { law = wide_law }
     wide_law true false x y _ _ n m e = absurd (omega (arith, ap (λ l. get_or l 0 0) e, m.1))
     wide_law false true x y _ _ n m e = absurd (omega (arith, ap (λ l. get_or l 0 0) e, n.1))
 
--- what ends a type
+-- the end of a type
 abbrev pub Closes : List ℕ → Type 0
 Closes x = get_or x 0 0 ≡ 41
 
@@ -290,12 +290,12 @@ entities = record { law = entity_law }
 
 -- ---- what a module type declares
 
--- its type behind a name
+-- a name, and the type of what it names
 pub named_entities : Told (λ (i : List ℕ × EntityType). AreBytes i.0 × IsEncoded (entity i.1)) Anything (λ i. quoted i.0 ++ (codes " " ++
     (entity_text i.1 ++ close)))
 named_entities = both strings (after (ended entities close (λ x. tt)) (codes " ")) (λ e x _ _. tt)
 
--- an outer alias, before the same index
+-- an outer alias, before what is the same in both
 pub outer_aliases : (behind : List ℕ) → Told (λ (a : ℕ × ℕ). IsNumber a.0 × IsNumber a.1) Anything
     (λ a. codes "(alias outer " ++ (decimal a.0 ++ (codes " " ++ (decimal a.1 ++ (32 ∷ behind)))))
 outer_aliases behind = after (both numbers (after (ended numbers (32 ∷ behind) (λ x. lit< tt)) (codes " ")) (λ i x _ _. lit< tt)) (codes "(alias outer ")

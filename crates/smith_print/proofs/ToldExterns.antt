@@ -1,4 +1,4 @@
--- No text begins with two canonical functions, imports or exports.
+-- How canonical functions, imports and exports of types are told apart.
 use Rattle.std.proofs.Common.{◌≡◌, ℕ, ◌+◌, ◌*◌, List, [], ◌∷◌, ◌++◌, get_or, ap, sym, ◌∙◌, append_assoc, arith, lit<}
 use Rattle.std.proofs.lemmas.List.{append_cancel_left}
 use Rattle.std.specs.Prelude.{codes, decimal}
@@ -30,13 +30,13 @@ extern_encoded name r t =
     let z = back (byte 0x00) (text name ⊕ externdesc r) t in
     (text_bytes name (Encoded.front (text name) (externdesc r) z), type_number r (back (text name) (externdesc r) z))
 
--- an index at the end
+-- the last index
 last : Told IsNumber Anything (λ i. decimal i ++ codes ")))")
 last = ended numbers (codes ")))") (λ x. lit< tt)
 
 -- ---- imports
 
--- what an import is of, behind its name
+-- what follows the name of an import
 abbrev import_end : ComponentTypeRef → IndexSpaces → List ℕ
 import_end r s =
     codes " (" ++ (sort_of r ++ (codes " (;" ++ (decimal (extern_index r s) ++ (codes ";) (" ++ (bound_of r ++ (decimal (type_of r) ++ codes ")))"))))))

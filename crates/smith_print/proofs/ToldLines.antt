@@ -1,4 +1,4 @@
--- No text begins with two lists of lines in parentheses.
+-- How lists of lines in parentheses are told apart.
 use Rattle.std.proofs.Common.{◌≡◌, ℕ, zero, suc, ◌⊎◌, inl, inr, List, [], ◌∷◌, ◌++◌, length, drop, get_or, refl, ap, sym, ◌∙◌, append_assoc, arith}
 use Rattle.std.proofs.lemmas.Bool.{ne_eqb}
 use Rattle.std.proofs.lemmas.List.{append_cancel_left}
@@ -9,11 +9,11 @@ use Rattle.smith_print.specs.Words.{deeper, line}
 use Rattle.smith_print.specs.declared.spaces.IndexSpaces.{IndexSpaces}
 use Rattle.smith_print.proofs.Told.{Anything, Told, close, past}
 
--- nothing, or lines
+-- lines, or nothing
 abbrev pub AreLines : List ℕ → Type 0
 AreLines k = (k ≡ []) ⊎ ((l : List ℕ) × (k ≡ 10 ∷ l))
 
--- what follows them: the closing parenthesis, on a line of its own
+-- the closing parenthesis on a line of its own, and what follows it
 abbrev pub ending : ℕ → List ℕ → List ℕ
 ending columns x = line columns ++ (41 ∷ x)
 
@@ -57,16 +57,16 @@ indents zero (suc n) x y e = absurd (omega (arith, ap (λ l. get_or l 0 0) e))
 indents (suc m) zero x y e = absurd (omega (arith, ap (λ l. get_or l 0 0) e))
 indents (suc m) (suc n) x y e = indents m n x y (ap (drop 1) e)
 
--- no line begins as the last does
+-- The last line begins as no other does.
 pub ends_here : (m n : ℕ) (x y : List ℕ) → ending m x ≡ line n ++ (40 ∷ y) → ⊥
 ends_here m n x y e = indents m n x y (ap (drop 1) e)
 
--- a line before others
+-- Equal texts are equal behind the indent of their first line.
 pub next_line : (columns : ℕ) (a b k l x y : List ℕ) → (line columns ++ (a ++ k)) ++ x ≡ (line columns ++ (b ++ l)) ++ y → a ++ (k ++ x) ≡ b ++ (l ++ y)
 next_line columns a b k l x y e =
     sym (append_assoc a k x) ∙ past (line columns) (a ++ k) (b ++ l) x y e ∙ append_assoc b l y
 
--- what is one level in
+-- lines one level in
 pub nested_law : (word : List ℕ) (columns : ℕ) (k l x y : List ℕ) → AreLines k → AreLines l
     → (line (deeper columns) ++ (word ++ (closed (deeper columns) k ++ line columns))) ++ x
     ≡ (line (deeper columns) ++ (word ++ (closed (deeper columns) l ++ line columns))) ++ y
@@ -81,7 +81,7 @@ nested_law word columns k l x y p q e =
 pub same_ending : (columns : ℕ) (x y : List ℕ) → ending columns x ≡ ending columns y → x ≡ y
 same_ending columns x y e = append_cancel_left (41 ∷ []) x y (append_cancel_left (line columns) (41 ∷ x) (41 ∷ y) e)
 
--- Entries on lines of their own, each of which begins with the same characters, and then what begins with no such line.
+-- Entries, each on a line of its own that begins with the same characters, before something that begins with no such line.
 module _ {A : Type 0} {Good : A → Type 0} (f : A → ℕ → IndexSpaces → List ℕ) (g : A → IndexSpaces → IndexSpaces) (c : ℕ) (front : List ℕ)
     (t : (s : IndexSpaces) → Told Good Anything (λ a. f a c s)) (opens : (a : A) (s : IndexSpaces) → (k : List ℕ) × (f a c s ≡ front ++ k)) where
   abbrev pub Over : List ℕ → Type 0

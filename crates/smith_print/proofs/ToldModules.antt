@@ -1,4 +1,4 @@
--- No text begins with two core modules.
+-- How core modules are told apart.
 use Rattle.std.proofs.Common.{◌≡◌, ℕ, List, [], ◌∷◌, ◌++◌, get_or, inl, inr, refl, ap, sym, ◌∙◌, append_assoc, arith}
 use Rattle.std.proofs.lemmas.List.{append_cancel_left}
 use Rattle.std.specs.List.{AllByRecursion}
@@ -42,7 +42,7 @@ are_module_lines m c = by_lists m.types m.memories
     by_lists [] (t ∷ ts) = inr (_, refl)
     by_lists (f ∷ fs) ts = inr (_, refl)
 
--- no memory, and no end, begins as a function type does
+-- Neither a memory nor the last line begins as a function type does.
 no_type : (m : StandIn) (c d : ℕ) (x k : List ℕ) → memories_of m c ++ ending d x ≡ line c ++ (codes "(t" ++ k) → ⊥
 no_type m c d x k e = by_list m.memories e
   where

@@ -1,4 +1,4 @@
--- No text is that of two components, but for the boundaries of sections.
+-- Components with one text are equal, but for the boundaries of sections.
 use Rattle.std.proofs.Common.{◌≡◌, ◌≢◌, ℕ, ◌+◌, ◌*◌, ◌⊎◌, inl, inr, List, [], ◌∷◌, ◌++◌, drop, get_or, Option, Some, None, refl, ap, sym}
 use Rattle.std.proofs.Common.{◌∙◌, append_assoc, arith, lit<}
 use Rattle.std.proofs.lemmas.List.{append_cancel_left}
@@ -40,7 +40,7 @@ use Rattle.smith_print.proofs.ToldModules.{module_law}
 use Rattle.smith_print.proofs.ToldTypes.{core_types_told, types_told}
 use Rattle.smith_print.proofs.ToldValues.{strings}
 
--- what has a text by itself: a section that is no list, or an entry
+-- An item of a component: an entry, or a section that is not a list.
 mutual
   data Item : Type 0 where
     custom_item : List ℕ → List ℕ → Item
@@ -81,7 +81,7 @@ abbrev mutual
   items_text no_items c s = []
   items_text (then_items i is) c s = line c ++ (item_text i c s ++ items_text is c (item_after i s))
 
--- ---- of good items each is told from others
+-- ---- good items are told apart
 
 abbrev mutual
   Fine : Item → Type 0
@@ -131,7 +131,7 @@ entry_exports s =
     (decimal s.functions))
     (codes "(export (;")
 
--- some of its first characters, by which an item's text tells what it is
+-- a number of the first characters, which tells what kind an item is of
 abbrev mark : List ℕ → ℕ
 mark l = get_or l 1 0 + 256 * get_or l 3 0 + 65536 * get_or l 6 0
 
@@ -214,7 +214,7 @@ abbrev mutual
   items_of ends = no_items
   items_of (first p t) = part_items p (items_of t)
 
--- the component that has them, each in a section of its own
+-- the component with these items, each in a section of its own
 abbrev mutual
   part_of : Item → Part
   part_of (custom_item n b) = custom n b
@@ -250,7 +250,7 @@ mutual
   alone_is ends = refl
   alone_is (first p t) = part_alone_is p (items_of t) (alone t) (alone_is t)
 
--- ---- their text is that of the component
+-- ---- the items have the component's text
 
 closing_some : (c : ℕ) (p : Piece) (b : List ℕ) → closing c p ≡ Some b → (k : List ℕ) × (p ≡ Some k) × (b ≡ closed c k)
 closing_some c None b e = absurd (let z : None ≡ Some b = e in cc)
@@ -261,7 +261,7 @@ module_some : (o : Option StandIn) (c : ℕ) (s : IndexSpaces) (b : List ℕ) �
 module_some None c s b e = absurd (let z : None ≡ Some b = e in cc)
 module_some (Some m) c s b e = (refl, sym (same_Some _ b e))
 
--- each entry of a list has the text of its item
+-- Each entry of a list is printed as its item is.
 module _ {A : Type 0} (of : A → Item) (f : A → ℕ → IndexSpaces → List ℕ) (g : A → IndexSpaces → IndexSpaces)
     (text : (x : A) (c : ℕ) (s : IndexSpaces) → item_text (of x) c s ≡ f x c s) (after : (x : A) (s : IndexSpaces) → item_after (of x) s ≡ g x s) where
   each_text : (xs : List A) (is : Items) (c : ℕ) (s : IndexSpaces)
@@ -312,7 +312,7 @@ mutual
       w.is ∙ part_text_is p c s w.left w.right (items_of t) w.p_is
       (text_is t c (after_part p s) w.right (ap (parts_text t c (after_part p s)) (sym (no_offsets (items_in p))) ∙ w.q_is))
 
--- ---- and they are good
+-- ---- the items are good
 
 each_fine : {A : Type 0} (of : A → Item) (f : A → Piece) → ((x : A) → IsEncoded (f x) → Fine (of x)) → (xs : List A) (is : Items)
     → AllByRecursion (λ x. IsEncoded (f x)) xs → AllFine is → AllFine (each_item of xs is)

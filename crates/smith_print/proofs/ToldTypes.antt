@@ -1,4 +1,4 @@
--- No text begins with two types, or with two declarations of a type.
+-- How types and the declarations in them are told apart.
 use Rattle.std.proofs.Common.{◌≡◌, ℕ, ◌+◌, ◌*◌, Bool, true, false, List, [], ◌∷◌, ◌++◌, Some, None, drop, get_or, inl, inr, refl, ap, sym}
 use Rattle.std.proofs.Common.{◌∙◌, append_assoc, arith, lit<}
 use Rattle.std.proofs.lemmas.List.{append_cancel_left}
@@ -61,12 +61,12 @@ core_types_told columns s = after (after (after (ended (core_entries columns) cl
 
 -- ---- types
 
--- no type of values begins as a type of functions does
+-- No type of values begins as a type of functions does.
 not_function : (t : DefValType) (x y : List ℕ) → defined_text t ++ x ≡ codes "(func" ++ y → ⊥
 not_function (primitive_type p) x y e = absurd (omega (arith, ap (λ l. get_or l 0 0) e, primitive_head p x))
 not_function t x y e = absurd (omega (arith, ap (λ l. get_or l 1 0 + 256 * get_or l 2 0) e))
 
--- outer aliases, up to what says whether they are of a type or a core type
+-- outer aliases, before the sort of what they are of
 alias_fronts : Told (λ (a : ℕ × ℕ). IsNumber a.0 × IsNumber a.1) Stops (λ a. codes "(alias outer " ++ (decimal a.0 ++ (codes " " ++ decimal a.1)))
 alias_fronts = after (both numbers (after numbers (codes " ")) (λ i x _ _. lit< tt)) (codes "(alias outer ")
 

@@ -1,4 +1,4 @@
--- No text begins with two types of values or of functions.
+-- How types of values and of functions are told apart.
 use Rattle.std.proofs.Common.{◌≡◌, ℕ, ◌+◌, ◌*◌, ◌<◌, ◌≤◌, Bool, true, false, eqb, not, nat_lt, List, [], ◌∷◌, ◌++◌, get_or, Option, Some}
 use Rattle.std.proofs.Common.{None, refl, ap, sym, append_assoc, arith, subst, lit<}
 use Rattle.std.proofs.lemmas.Bool.{and_parts, eqb-true, ltb-true}
@@ -103,7 +103,7 @@ cases front =
 labels : (front : List ℕ) → Told (λ n. IsEncoded (text n)) Anything (label_text front)
 labels front = weaker (after strings front) text_bytes (λ x n. n)
 
--- a head, members behind a space each, and the end
+-- a head, members that begin with a space, and a closing parenthesis
 pub groups : {A : Type 0} {Good : A → Type 0} {Next : List ℕ → Type 0} {f : A → List ℕ} → Told Good Next f
     → ((a : A) (x : List ℕ) → get_or (f a ++ x) 0 0 ≡ 32) → ((x : List ℕ) → Stops x → Next x) → (head : List ℕ)
     → Told (AllByRecursion Good) Anything (group head f)
@@ -113,7 +113,7 @@ groups {f = f} t space next head =
 
 -- ---- types of values
 
--- a value type behind a space, which no parenthesis opens
+-- a space before something other than a parenthesis
 abbrev plain : List ℕ → Bool
 plain l = spaced l && not (eqb (get_or l 1 0) 40)
 
@@ -151,7 +151,7 @@ results = after (both maybe_success (ended maybe_failure close (λ x. (refl, tt)
 single : (head : List ℕ) → Told (λ v. IsEncoded (valtype v)) Anything (λ v. head ++ (value_text v ++ close))
 single head = after (ended values close (λ x. lit< tt)) head
 
--- a number of the first characters, by which the types that have members are told apart
+-- a number of the first characters, which tells types that have members apart
 abbrev mark : List ℕ → ℕ
 mark l = get_or l 1 0 + 256 * get_or l 3 0
 
@@ -198,7 +198,7 @@ definitions = record { law = defined_law }
 
 -- ---- types of functions
 
--- what a parameter begins with
+-- the beginning of a parameter
 abbrev is_parameter : List ℕ → Bool
 is_parameter l = spaced l && eqb (get_or l 2 0) 112
 
