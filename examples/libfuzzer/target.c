@@ -14,7 +14,7 @@ int use_component(const uint8_t *bytes, size_t len);
 __attribute__((section("__libfuzzer_extra_counters")))
 #endif
 #endif
-static uint8_t seen[1 << 16];
+static uint8_t seen[1 << 15];
 
 /* The longest input for whose component there is always enough memory, unless the input says its limits. */
 enum { MOST_INPUT = 1 << 14 };
