@@ -3,18 +3,19 @@
 use crate::corpus::drawn;
 use crate::folders::{COMPONENT_ENDING, path_in, write_new};
 use crate::inspecting::REFUSED;
+use crate::judged::Judged;
 use crate::options::Draw;
 use crate::places::status_of_print;
 use crate::print_error;
 use crate::progress::Progress;
 use rand_pcg::Pcg32;
 use rand_pcg::rand_core::SeedableRng;
+use serde::Serialize;
 use smith_change::ChangeError;
 use smith_component::Config;
 use smith_corpus::{NearMiss, Taken, miswritten, near_miss};
 use smith_verdict::Answer;
 use std::alloc::Global;
-use std::fmt;
 use std::process::ExitCode;
 
 // How the names of files end that say what a near miss is.
@@ -29,53 +30,15 @@ const MOST_MISSES: usize = 1000;
 // What changes are drawn from begins apart from what inputs are drawn from.
 const APART: u64 = 0x9e37_79b9_7f4a_7c15;
 
-// A near miss as a line of JSON.
-#[derive(Clone, Copy)]
-struct Line<'a> {
-    found: &'a NearMiss,
-    input: usize,
-}
-
-// Puts an answer's word, what was found, and where.
-fn put_answer<W: fmt::Write, T: fmt::Display + Drop>(
-    f: &mut fmt::Formatter<W>,
-    word: &str,
-    what: T,
+// What a near miss is, as an object of JSON.
+#[derive(Drop, Serialize)]
+struct Line {
+    answer: &'static str,
+    rule: Option<String>,
     offset: Option<usize>,
-) -> fmt::Result {
-    write!(
-        f,
-        "\"answer\": \"{word}\", \"rule\": \"{what}\", \"offset\": "
-    )?;
-    match offset {
-        Some(offset) => write!(f, "{offset}"),
-        None => f.write_str("null"),
-    }
-}
-
-impl fmt::Display for Line<'_> {
-    fn fmt<W: fmt::Write>(&self, f: &mut fmt::Formatter<W>) -> fmt::Result {
-        f.write_str("{")?;
-        match &self.found.answer {
-            Answer::Valid => f.write_str(
-                "\"answer\": \"valid\", \"rule\": null, \"offset\": null",
-            )?,
-            Answer::Invalid { rule, offset } => put_answer(f, "invalid", *rule, *offset)?,
-            Answer::Bound { demand, offset } => put_answer(f, "bound", *demand, *offset)?,
-            Answer::Outside { why, offset } => put_answer(f, "outside", *why, *offset)?,
-        }
-        let NearMiss {
-            difference,
-            number,
-            ..
-        } = self.found;
-        let input = self.input;
-        write!(
-            f,
-            ", \"change\": \"{difference}\", \"number\": {number}, \"input\": {input}"
-        )?;
-        f.write_str("}\n")
-    }
+    change: String,
+    number: usize,
+    input: usize,
 }
 
 // How many near misses have each answer.
@@ -161,27 +124,43 @@ fn found_of(
     Err(ExitCode::from(REFUSED))
 }
 
+// What a near miss of the component of that input is, as a line of JSON.
+fn line_of(alloc: Global, found: NearMiss, input: usize) -> Result<String, serde_json::Error> {
+    let NearMiss {
+        difference,
+        number,
+        answer,
+        ..
+    } = found;
+    let judged = Judged::Answer(answer);
+    let line = Line {
+        answer: judged.word().name(),
+        rule: judged.rule(alloc)?,
+        offset: judged.offset(),
+        change: format!(in alloc; "{difference}")?,
+        number,
+        input,
+    };
+    let mut text = serde_json::to_string(alloc, &line)?;
+    text.push('\n')?;
+    Ok(text)
+}
+
 // Writes a near miss, and what it is.
 fn write_found(
     rt: &HostRuntime,
     folder: &str,
     number: usize,
-    found: &NearMiss,
+    found: NearMiss,
     input: usize,
 ) -> Result<(), ExitCode> {
-    write_new(
-        rt,
-        &path_in(rt, folder, number, COMPONENT_ENDING)?,
-        &found.bytes,
-    )?;
-    let Ok(line) = format!(in rt.alloc(); "{}", Line { found, input }) else {
+    let path = path_in(rt, folder, number, COMPONENT_ENDING)?;
+    write_new(rt, &path, &found.bytes)?;
+    let Ok(line) = line_of(rt.alloc(), found, input) else {
         return Err(refused(rt, &ChangeError::OutOfMemory));
     };
-    write_new(
-        rt,
-        &path_in(rt, folder, number, ANSWER_ENDING)?,
-        line.as_bytes(),
-    )
+    let path = path_in(rt, folder, number, ANSWER_ENDING)?;
+    write_new(rt, &path, line.as_bytes())
 }
 
 /// Writes near misses of components that validate, and says how many of them have each answer.
@@ -210,8 +189,8 @@ pub fn write_broken(
     let mut progress = Progress::new(rt, draw.count);
     for number in 0..draw.count {
         let found = found_of(rt, &config, draw, &mut source, number)?;
-        write_found(rt, folder, number, &found, source.input.saturating_sub(1))?;
         counts.add(&found.answer);
+        write_found(rt, folder, number, found, source.input.saturating_sub(1))?;
         progress.step();
     }
     progress.end();

@@ -80,7 +80,7 @@ an input that produces it is written. Otherwise some bytes are changed. Without 
 Status:
   0  the input is written
   1  memory runs out
-  2  bad arguments, limits that are refused, or a failed read or write";
+  2  bad arguments, limits that are refused, an input that is too long, or a failed read or write";
 
 const AFTER_CORPUS: &str =
     "Inputs are named by their numbers from 0, or after their components. No file is overwritten.
@@ -268,7 +268,7 @@ fn change_command<'a>(alloc: Global) -> Result<Command<'a>, AllocError> {
 
 fn mutate_command<'a>(alloc: Global) -> Result<Command<'a>, AllocError> {
     let about = "Write another input, for a fuzzer that asks a command for it";
-    let bytes = "The bytes; - is standard input [default: -]";
+    let bytes = "The bytes, at most 1048576 of them; - is standard input [default: -]";
     let to = "Where it goes, INPUT too; - is standard output [default: -, unless it is a terminal]";
     let seed = "Where it is drawn from: the same for the same seed [default: the time]";
     let seed = option(alloc, "seed", "SEED", seed).value_parser(value_parser!(u64));

@@ -1,5 +1,6 @@
 //! Looking at a component in a file: what is in it.
 
+use crate::FAULT;
 use crate::places::{STANDARD_INPUT, Source, print_fault, source_of, status_of_print};
 use crate::scripting::write_bytes;
 use crate::show::{Shown, json_of};
@@ -7,6 +8,7 @@ use crate::unread::Unread;
 use smith_core::COMPONENT_PREAMBLE;
 use smith_print::{print as text_of, print_with_offsets};
 use smith_read::{ReadError, read};
+use smith_run::LONGEST_INPUT;
 use std::fmt;
 use std::io::{self, Read};
 use std::process::ExitCode;
@@ -18,9 +20,11 @@ pub const REFUSED: u8 = 1;
 /// What `check` and `smaller` end with if the bytes are not in the grammar.
 pub const UNREAD: u8 = 3;
 
-fn read_whole(rt: &HostRuntime, source: &mut Source) -> io::Result<Vec<u8>> {
+// Reads a file, or one byte more than an input may have if it is longer.
+fn read_input(rt: &HostRuntime, source: &mut Source) -> io::Result<Vec<u8>> {
     let mut bytes = Vec::new(rt.alloc());
-    source.read_to_end(&mut bytes)?;
+    let mut start = source.by_ref().take(LONGEST_INPUT as u64 + 1);
+    start.read_to_end(&mut bytes)?;
     Ok(bytes)
 }
 
@@ -51,10 +55,11 @@ fn settled(
     }
 }
 
-/// The bytes of the file, or the status after a message.
+/// The bytes of the file, or the status after a message. If they are more than an input may have, `refuse_long` refuses
+/// what is read of them.
 pub fn bytes_in(rt: &HostRuntime, path: Option<&str>) -> Result<Vec<u8>, ExitCode> {
     let mut source = source_of(rt, path)?;
-    let done = read_whole(rt, &mut source);
+    let done = read_input(rt, &mut source);
     settled(rt, path, &source, done)
 }
 
@@ -76,6 +81,20 @@ pub fn refuse<W: fmt::Display>(
     let path = path.unwrap_or(STANDARD_INPUT);
     let _ = eprintln!(rt; "lupinanon: {path}: {why}");
     ExitCode::from(status)
+}
+
+/// Returns the status after a message if bytes of the file are more than an input may have. `what` begins to say so.
+pub fn refuse_long(
+    rt: &HostRuntime,
+    path: Option<&str>,
+    what: &str,
+    bytes: &[u8],
+) -> Result<(), ExitCode> {
+    if bytes.len() <= LONGEST_INPUT {
+        return Ok(());
+    }
+    let why = format_args!("{what} more than {LONGEST_INPUT} bytes");
+    Err(refuse(rt, path, &why, FAULT))
 }
 
 /// Prints why the bytes of a file are not read as a component, and returns the status.

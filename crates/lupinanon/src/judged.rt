@@ -26,9 +26,9 @@ pub enum Word {
     Outside,
 }
 
-// What bytes are judged to be.
+/// What bytes are judged to be.
 #[derive(Drop)]
-enum Judged {
+pub enum Judged {
     Verdict(Verdict),
     Answer(Answer),
 }
@@ -67,7 +67,8 @@ impl Word {
 }
 
 impl Judged {
-    fn word(&self) -> Word {
+    /// The same in a word.
+    pub fn word(&self) -> Word {
         match self {
             Judged::Verdict(Verdict::WellFormed) => Word::WellFormed,
             Judged::Verdict(Verdict::IllFormed { .. }) => Word::IllFormed,
@@ -79,7 +80,8 @@ impl Judged {
         }
     }
 
-    fn offset(&self) -> Option<usize> {
+    /// Where something is wrong, if that is known.
+    pub fn offset(&self) -> Option<usize> {
         match self {
             Judged::Verdict(Verdict::WellFormed) | Judged::Answer(Answer::Valid) => None,
             Judged::Verdict(Verdict::IllFormed { offset, .. }) => *offset,
@@ -90,8 +92,8 @@ impl Judged {
         }
     }
 
-    // What is wrong, whatever the bytes.
-    fn rule(&self, alloc: Global) -> Result<Option<String>, AllocError> {
+    /// What is wrong, whatever the bytes.
+    pub fn rule(&self, alloc: Global) -> Result<Option<String>, AllocError> {
         let rule = match self {
             Judged::Verdict(Verdict::WellFormed) | Judged::Answer(Answer::Valid) => {
                 return Ok(None);

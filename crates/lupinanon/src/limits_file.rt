@@ -1,7 +1,7 @@
 //! Limits of profiles, from a file over them, and settings of the command line over both; and why they are refused, in
 //! words: of which line of the file, or of which setting.
 
-use crate::inspecting::{bytes_in, refuse};
+use crate::inspecting::{bytes_in, refuse, refuse_long};
 use crate::options::{Limits, named};
 use crate::places::STANDARD_INPUT;
 use crate::{FAULT, print_error};
@@ -29,6 +29,7 @@ fn text_in_file(rt: &HostRuntime, path: Option<&str>) -> Result<String, ExitCode
         return Ok(String::new(rt.alloc()));
     };
     let bytes = bytes_in(rt, named(path))?;
+    refuse_long(rt, named(path), "the limits have", &bytes)?;
     match String::from_utf8(bytes) {
         Ok(text) => Ok(text),
         Err(_) => Err(refuse(rt, named(path), &"not UTF-8", FAULT)),

@@ -24,16 +24,46 @@ mod unread;
 
 use options::Task;
 use smith_limits::DEFAULT_LIMITS;
+use std::env::{Env, FillError};
 use std::process::ExitCode;
 use std::{fmt, io};
 
 // What a fault and bad arguments end with.
 const FAULT: u8 = 2;
 
+// So many bytes are enough for the path of any file.
+const LONGEST_PATH: usize = 4096;
+
 // Prints what is wrong, and returns the status.
 fn print_error<W: fmt::Display + Drop>(rt: &HostRuntime, what: W) -> ExitCode {
     let _ = eprintln!(rt; "lupinanon: {what}");
     ExitCode::from(FAULT)
+}
+
+// The word of that number, from the program's name on.
+fn word_at<'a>(
+    rt: &HostRuntime,
+    number: usize,
+    word: &'a mut [u8; LONGEST_PATH],
+) -> Result<&'a [u8], FillError> {
+    let len = rt.arg(number, word)?;
+    Ok(word.get(..len).unwrap_or_default())
+}
+
+// Names the first word that is not UTF-8, unless it is longer than a path, and returns the status.
+fn refuse_words(rt: &HostRuntime) -> ExitCode {
+    let mut room = [0u8; LONGEST_PATH];
+    for number in 0..usize::MAX {
+        match word_at(rt, number, &mut room) {
+            Ok(word) if str::from_utf8(word).is_err() => {
+                let word = word.escape_ascii();
+                return print_error(rt, format_args!("bad arguments: {word} is not UTF-8"));
+            }
+            Err(FillError::NotPresent) => break,
+            _ => {}
+        }
+    }
+    print_error(rt, "bad arguments: they are not UTF-8")
 }
 
 // The words of the command line, or the status after a message.
@@ -47,7 +77,7 @@ fn words_of(rt: &HostRuntime) -> Result<Vec<String>, ExitCode> {
         Err(error) if error.kind() == io::ErrorKind::OutOfMemory => {
             Err(print_error(rt, "out of memory"))
         }
-        Err(_) => Err(print_error(rt, "bad arguments: they are not UTF-8")),
+        Err(_) => Err(refuse_words(rt)),
     }
 }
 

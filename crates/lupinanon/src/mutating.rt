@@ -1,6 +1,6 @@
 //! Writing another input, for a fuzzer that asks a command for it.
 
-use crate::inspecting::{REFUSED, bytes_in, refuse};
+use crate::inspecting::{REFUSED, bytes_in, refuse, refuse_long};
 use crate::limits_file::{config_of, refuse_both};
 use crate::options::Mutation;
 use crate::places::{print_fault, refuse_terminal};
@@ -106,6 +106,7 @@ pub fn mutate(rt: &HostRuntime, mutation: &Mutation<'_>) -> Result<ExitCode, Exi
     refuse_both(rt, &mutation.limits, "the input", mutation.input)?;
     let config = config_of(rt, &mutation.limits)?;
     let input = bytes_in(rt, mutation.input)?;
+    refuse_long(rt, mutation.input, "the input has", &input)?;
     let mut random = Pcg32::seed_from_u64(seed_of(rt, mutation.seed)?);
     match mutated(rt.alloc(), &config, &mut random, &input) {
         Ok(other) => write_bytes(rt, mutation.output, &other),

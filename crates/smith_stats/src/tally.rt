@@ -1,14 +1,14 @@
 //! The counts.
 
-use crate::combination::Combination;
+use crate::combination::{Around, Combination};
 use crate::combining::combinations;
 use smith_read::{ComponentTree, Steps};
 use std::alloc::{AllocError, Global};
 use std::collections::BTreeMap;
 use std::fmt;
 
-/// How many things there are of each sort.
-type Counts = BTreeMap<&'static str, usize>;
+/// How many things there are of each sort, by its name.
+pub type Counts = BTreeMap<&'static str, usize>;
 
 // Where a combination is.
 #[derive(Clone, Copy)]
@@ -33,6 +33,19 @@ pub struct Tally {
     // The things, by what they are in.
     within: BTreeMap<&'static str, Counts>,
     reached: BTreeMap<Combination, Reached>,
+}
+
+/// The counts that are not by sort.
+#[derive(Clone, Copy)]
+pub struct Totals {
+    pub files: usize,
+    pub unread: usize,
+    pub bytes: usize,
+    pub components: usize,
+    pub depth: usize,
+    pub entries: usize,
+    pub shapes: usize,
+    pub combinations: usize,
 }
 
 pub(crate) fn increase(count: &mut usize, by: usize) {
@@ -111,8 +124,34 @@ impl Tally {
         shapes
     }
 
-    // The counts that are not by sort, with their names.
-    fn totals(&self) -> [(&'static str, usize); 8] {
+    /// The counts that are not by sort.
+    pub fn totals(&self) -> Totals {
+        Totals {
+            files: self.files,
+            unread: self.unread,
+            bytes: self.bytes,
+            components: self.components,
+            depth: self.depth,
+            entries: self.entries,
+            shapes: self.shapes(),
+            combinations: self.reached.len(),
+        }
+    }
+
+    /// How many types there are of each sort.
+    pub fn types(&self) -> &Counts {
+        &self.types
+    }
+
+    /// How many things there are of each sort, by what they are in.
+    pub fn within(&self) -> &BTreeMap<&'static str, Counts> {
+        &self.within
+    }
+}
+
+impl Totals {
+    // The counts with their names.
+    fn named(&self) -> [(&'static str, usize); 8] {
         [
             ("files", self.files),
             ("unread", self.unread),
@@ -120,8 +159,8 @@ impl Tally {
             ("components", self.components),
             ("depth", self.depth),
             ("entries", self.entries),
-            ("shapes", self.shapes()),
-            ("combinations", self.reached.len()),
+            ("shapes", self.shapes),
+            ("combinations", self.combinations),
         ]
     }
 }
@@ -136,7 +175,7 @@ fn show_counts<W: fmt::Write>(f: &mut fmt::Formatter<W>, counts: &Counts) -> fmt
 
 impl fmt::Display for Tally {
     fn fmt<W: fmt::Write>(&self, f: &mut fmt::Formatter<W>) -> fmt::Result {
-        for (name, count) in self.totals() {
+        for (name, count) in self.totals().named() {
             writeln!(f, "{count:>10}  {name}")?;
         }
         writeln!(f, "types")?;
@@ -146,6 +185,15 @@ impl fmt::Display for Tally {
             show_counts(f, counts)?;
         }
         Ok(())
+    }
+}
+
+// What precedes what a thing is in, if that is in a type.
+fn path_to(around: Around) -> &'static str {
+    match around {
+        Around::Component => "",
+        Around::ComponentType => "ComponentType/",
+        Around::InstanceType => "InstanceType/",
     }
 }
 
@@ -162,66 +210,23 @@ impl fmt::Display for Listed<'_> {
         for (combination, reached) in &self.tally.reached {
             let Combination {
                 within,
+                around,
                 part,
                 sort,
                 origin,
                 chain,
             } = *combination;
             let files = reached.files;
+            let path = path_to(around);
             let name = self
                 .names
                 .get(reached.first)
                 .map_or("", |name| name.as_str());
             writeln!(
                 f,
-                "{files:>10}  {within:?} {part:?} {sort:?} {origin:?} {chain:?}  {name}"
+                "{files:>10}  {path}{within:?} {part:?} {sort:?} {origin:?} {chain:?}  {name}"
             )?;
         }
         Ok(())
-    }
-}
-
-// What precedes the member of that number in a JSON object.
-fn separator(number: usize) -> &'static str {
-    if number == 0 { "" } else { "," }
-}
-
-// The counts as members of a JSON object.
-fn show_members<W: fmt::Write>(f: &mut fmt::Formatter<W>, counts: &Counts) -> fmt::Result {
-    for (number, (sort, count)) in counts.iter().enumerate() {
-        let separator = separator(number);
-        write!(f, "{separator}\"{sort}\":{count}")?;
-    }
-    Ok(())
-}
-
-/// The same as JSON.
-#[derive(Clone, Copy)]
-pub struct Json<'a>(pub &'a Tally);
-
-impl Json<'_> {
-    // The counts by what they are in, each of which is a member.
-    fn show_within<W: fmt::Write>(&self, f: &mut fmt::Formatter<W>) -> fmt::Result {
-        for (number, (within, counts)) in self.0.within.iter().enumerate() {
-            let separator = separator(number);
-            write!(f, "{separator}\"{within}\":{{")?;
-            show_members(f, counts)?;
-            f.write_str("}")?;
-        }
-        Ok(())
-    }
-}
-
-impl fmt::Display for Json<'_> {
-    fn fmt<W: fmt::Write>(&self, f: &mut fmt::Formatter<W>) -> fmt::Result {
-        f.write_str("{")?;
-        for (name, count) in self.0.totals() {
-            write!(f, "\"{name}\":{count},")?;
-        }
-        f.write_str("\"types\":{")?;
-        show_members(f, &self.0.types)?;
-        f.write_str("},\"within\":{")?;
-        self.show_within(f)?;
-        f.write_str("}}")
     }
 }
