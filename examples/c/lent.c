@@ -117,9 +117,9 @@ static int lengths_are_right(Call *call, const Entry *entry) {
     WANT(STEP < enough && enough < MOST_LENT);
     for (len = enough; len < enough + 100 * STEP; len += STEP)
         WANT(are_same(lent_outcome(call, entry, 0, len), wanted));
-    /* alignment takes at most STEP more, and 8 less */
+    /* alignment takes at most STEP more, and no less */
     for (shift = 0; shift < STEP; shift++) {
-        for (len = enough - 2 * STEP; len < enough - STEP; len++)
+        for (len = enough - STEP; len < enough; len++)
             WANT(are_same(lent_outcome(call, entry, shift, len), refused));
         for (len = enough + STEP; len < enough + 2 * STEP; len++)
             WANT(are_same(lent_outcome(call, entry, shift, len), wanted));

@@ -57,7 +57,7 @@ static int is_apart(Memory one, Memory other) {
 }
 
 /* Whether what is written is apart from what is read, and from what else is written. */
-static int are_apart(const Memory *written, size_t written_count, const Memory *read, size_t read_count) {
+static inline int are_apart(const Memory *written, size_t written_count, const Memory *read, size_t read_count) {
     size_t one, other;
     for (one = 0; one < written_count; one++) {
         for (other = 0; other < one; other++)
@@ -150,7 +150,7 @@ static int complete(LupinanonLimits *limits, Memory given) {
 
 /* The limits to pass on: the caller's own if they are whole, so that nothing is copied then, and else the ones in the
  * room. NULL if they, what else is read or what is written, an output and numbers, may not be passed on. */
-static const LupinanonLimits *good_limits(LupinanonLimits *room, const LupinanonLimits *limits, Memory input,
+static inline const LupinanonLimits *good_limits(LupinanonLimits *room, const LupinanonLimits *limits, Memory input,
                                           const Memory *written, size_t written_count) {
     Memory read[2];
     read[0] = memory_of_limits(limits);
@@ -170,93 +170,68 @@ static int may_pass(const Memory *read, size_t read_count, const Memory *written
 }
 
 /* The memory that a caller lends to the call that runs in this thread. Blocks lie in it one after another, each at a
- * multiple of 16 and after its header. Only the last one grows in place, and only the last ones are given back. */
+ * multiple of 16. Only the last one grows in place or is given back. */
 typedef struct Lent {
-    uintptr_t last; /* the last block, or `next` if there is none */
+    uintptr_t last; /* the last block, even if it is given back, or 0 if there is none */
     uintptr_t end;  /* the last place for `next` */
     uintptr_t next; /* where the next one would be, or 0 if nothing is lent */
 } Lent;
 
-/* How far it is to the next block, and from the one before or 0 if there is none, in units of ALIGNMENT. */
-typedef struct Header {
-    uint32_t to_next;
-    uint32_t from_before;
-} Header;
-
 enum { ALIGNMENT = 16 };
-
-/* A bit of `to_next`, and how much memory is used at most, so that there is room for it: 32 GiB. */
-#define IS_FREE (UINT32_C(1) << 31)
-#define MOST_LENT ((uintptr_t)ALIGNMENT * (IS_FREE - 1))
 
 static _Thread_local Lent lent;
 
-static uintptr_t aligned(uintptr_t at) { return at & ~(uintptr_t)(ALIGNMENT - 1); }
+/* What a pointer that must not be NULL is to, if there is no memory. */
+static char nowhere;
 
-static Header *header_of(uintptr_t block) { return (Header *)block - 1; }
+static uintptr_t aligned(uintptr_t at) { return (at + ALIGNMENT - 1) & ~(uintptr_t)(ALIGNMENT - 1); }
 
-/* Makes a block the last one, with that size, and returns it. If it has no room, returns NULL and changes nothing. */
-static void *set_last(uintptr_t block, uintptr_t before, size_t size) {
-    size_t span = aligned(size + sizeof(Header) + ALIGNMENT - 1);
-    Header *header = header_of(block);
-    if (span < size || span > lent.end - block) return NULL;
-    header->to_next = (uint32_t)(span / ALIGNMENT);
-    header->from_before = (uint32_t)((block - before) / ALIGNMENT);
+/* Makes a place of lent memory the last block, with that size. If it has no room, returns NULL and changes nothing. */
+static void *set_last(uintptr_t block, size_t size) {
+    size_t span = aligned(size);
+    if (span > lent.end - block) return NULL;
     lent.last = block;
     lent.next = block + span;
     return (void *)block;
 }
 
-/* The block before, or the block itself if it is the first. */
-static uintptr_t block_before(uintptr_t block) {
-    return block - header_of(block)->from_before * (uintptr_t)ALIGNMENT;
+static void *moved(const void *block, size_t kept, size_t size) {
+    void *other = set_last(lent.next, size);
+    return other ? memcpy(other, block, kept) : NULL;
 }
 
-/* What is lent, without the last blocks as far as they are free. */
-static Lent in_use(void) {
-    Lent it = lent;
-    while (it.last != it.next && header_of(it.last)->to_next & IS_FREE) {
-        it.next = it.last;
-        it.last = block_before(it.last);
-    }
+/* What the proved functions take memory from and give it back to, in place of what the kit has over malloc, realloc and
+ * free. An alignment divides ALIGNMENT, a size is at most PTRDIFF_MAX, and no more bytes are kept than it. */
+typedef struct Tried {
+    _Bool is_there;
+    void *block;
+} Tried;
+
+Tried rattle_alloc(size_t size, size_t alignment);
+Tried rattle_realloc(void *block, size_t kept, size_t size, size_t alignment);
+void rattle_dealloc(void *block);
+
+static Tried tried(void *block) {
+    Tried it = {block != NULL, block ? block : &nowhere};
     return it;
 }
 
-static void *take(size_t size) {
-    Lent it = in_use();
-    return set_last(it.next, it.last, size);
+Tried rattle_alloc(size_t size, size_t alignment) {
+    if (!size) size = alignment;
+    return tried(lent.next ? set_last(lent.next, size) : malloc(size));
 }
 
-static void set_free(uintptr_t block) { header_of(block)->to_next |= IS_FREE; }
-
-/* What malloc, realloc and free are to the proved functions: examples/library binds them. */
-void *lent_malloc(size_t size);
-void *lent_realloc(void *block, size_t size);
-void lent_free(void *block);
-
-void *lent_malloc(size_t size) { return lent.next ? take(size) : malloc(size); }
-
-void *lent_realloc(void *block, size_t size) {
-    uintptr_t at = (uintptr_t)block;
-    size_t len;
-    void *other;
-    if (!lent.next) return realloc(block, size);
-    if (!block) return take(size);
-    lent = in_use();
-    if (at == lent.last) return set_last(at, block_before(at), size);
-    len = header_of(at)->to_next * (size_t)ALIGNMENT - sizeof(Header);
-    if (size <= len) return block;
-    if (!(other = take(size))) return NULL;
-    memcpy(other, block, len);
-    set_free(at);
-    return other;
+Tried rattle_realloc(void *block, size_t kept, size_t size, size_t alignment) {
+    if (!size) size = alignment;
+    if (!lent.next) return tried(realloc(block, size));
+    return tried((uintptr_t)block == lent.last ? set_last(lent.last, size) : moved(block, kept, size));
 }
 
-void lent_free(void *block) {
+void rattle_dealloc(void *block) {
     if (!lent.next)
         free(block);
-    else if (block)
-        set_free((uintptr_t)block);
+    else if ((uintptr_t)block == lent.last)
+        lent.next = lent.last;
 }
 
 /* Whether memory can be lent: it is there, and apart from all else that is passed. If not, the function without lent
@@ -268,10 +243,11 @@ static int may_lend(Memory scratch, const Memory *others, size_t count) {
 /* Lends memory, of any alignment, to the call that follows. Returns what was lent before, for after that call. */
 static Lent lend(Memory scratch) {
     Lent before = lent;
-    uintptr_t at = (uintptr_t)scratch.at, end = aligned(at + scratch.len + sizeof(Header));
-    lent.last = lent.next = aligned(at + sizeof(Header) + ALIGNMENT - 1);
-    lent.end = end < lent.next ? lent.next : end;
-    if (lent.end - lent.next > MOST_LENT) lent.end = lent.next + MOST_LENT;
+    uintptr_t at = (uintptr_t)(scratch.at ? scratch.at : &nowhere);
+    lent.last = 0;
+    lent.next = aligned(at);
+    lent.end = (at + scratch.len) & ~(uintptr_t)(ALIGNMENT - 1);
+    if (lent.end < lent.next) lent.end = lent.next;
     return before;
 }
 

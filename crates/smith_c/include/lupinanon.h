@@ -216,7 +216,7 @@ int32_t lupinanon_generate(const LupinanonLimits *limits, const uint8_t *input, 
  * calls no malloc, realloc or free. The memory is lent until the call returns: meanwhile nothing else may use it, and
  * then nothing is kept there. Calls in several threads at once each need their own.
  *
- * LUPINANON_OUT_OF_MEMORY: there is too little of it; 32 GiB are used at most. LUPINANON_SCRATCH says how much is enough.
+ * LUPINANON_OUT_OF_MEMORY: there is too little of it. LUPINANON_SCRATCH says how much is enough.
  * LUPINANON_BAD_ARGUMENT: also if it overlaps what else is passed.
  * All else, the output too, is as of the function without lent memory.
  *
