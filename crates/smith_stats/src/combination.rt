@@ -13,6 +13,15 @@ pub enum Within {
     ModuleType,
 }
 
+/// What is around the component or type that a thing is in.
+#[derive(Debug, Clone, Copy, PartialEq, Eq, PartialOrd, Ord)]
+pub enum Around {
+    /// A component, or nothing.
+    Component,
+    ComponentType,
+    InstanceType,
+}
+
 /// A section that is one thing, an entry or a declaration, a reference of one, or a member of a type.
 #[derive(Debug, Clone, Copy, PartialEq, Eq, PartialOrd, Ord)]
 pub enum Part {
@@ -124,14 +133,26 @@ pub enum Chain {
     More,
 }
 
-/// What a thing is, what it is in, and what it refers to.
+/// What a thing is, what it is in, what is around that, and what it refers to.
 #[derive(Debug, Clone, Copy, PartialEq, Eq, PartialOrd, Ord)]
 pub struct Combination {
     pub within: Within,
+    pub around: Around,
     pub part: Part,
     pub sort: Sort,
     pub origin: Origin,
     pub chain: Chain,
+}
+
+impl Within {
+    /// What is around a component or type in this.
+    pub(crate) fn around(self) -> Around {
+        match self {
+            Within::ComponentType => Around::ComponentType,
+            Within::InstanceType => Around::InstanceType,
+            Within::Root | Within::Nested | Within::ModuleType => Around::Component,
+        }
+    }
 }
 
 impl Chain {
@@ -204,19 +225,20 @@ pub(crate) fn core_sort(ty: ValType) -> Sort {
     }
 }
 
-// Puts a digit of the base 64 after a number.
-fn with_digit(number: u32, digit: u8) -> u32 {
-    number.wrapping_mul(64).wrapping_add(u32::from(digit))
+// Puts a digit of that base after a number.
+fn with_digit(number: u32, base: u32, digit: u8) -> u32 {
+    number.wrapping_mul(base).wrapping_add(u32::from(digit))
 }
 
 impl Combination {
     /// A number that no other combination has, below 2^30.
     pub fn number(self) -> u32 {
-        let number = with_digit(0, self.within as u8);
-        let number = with_digit(number, self.part as u8);
-        let number = with_digit(number, self.sort as u8);
-        let number = with_digit(number, self.origin as u8);
-        with_digit(number, self.chain as u8)
+        let number = u32::from(self.around as u8);
+        let number = with_digit(number, 8, self.within as u8);
+        let number = with_digit(number, 64, self.part as u8);
+        let number = with_digit(number, 64, self.sort as u8);
+        let number = with_digit(number, 64, self.origin as u8);
+        with_digit(number, 64, self.chain as u8)
     }
 
     /// A place among that many, from 0, or none if there are none. Combinations are spread over all of them.

@@ -71,6 +71,7 @@ impl Combining {
     fn add(&mut self, part: Part, known: Known) -> Result<(), AllocError> {
         let combination = Combination {
             within: self.scopes.within(),
+            around: self.scopes.around(),
             part,
             sort: known.sort,
             origin: known.origin,

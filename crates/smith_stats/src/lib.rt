@@ -8,7 +8,7 @@ mod scopes;
 mod tally;
 mod walk;
 
-pub use combination::{Chain, Combination, Origin, Part, Sort, Within};
+pub use combination::{Around, Chain, Combination, Origin, Part, Sort, Within};
 pub use combining::combinations;
 pub use labels::{core_val_label, primitive_label, ref_label, type_label};
 pub use tally::{Json, Listed, Tally};

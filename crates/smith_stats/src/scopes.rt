@@ -1,6 +1,6 @@
 //! The types and functions of the scopes that are open, as what refers to one of them tells it.
 
-use crate::combination::{Chain, Origin, Sort, Within};
+use crate::combination::{Around, Chain, Origin, Sort, Within};
 use std::alloc::{AllocError, Global};
 
 /// A type or a function.
@@ -40,6 +40,7 @@ impl Known {
 #[derive(Drop)]
 struct Scope {
     within: Within,
+    around: Around,
     types: Vec<Known>,
     core_types: Vec<Known>,
     functions: Vec<Known>,
@@ -75,8 +76,10 @@ impl Scopes {
     /// Opens a scope.
     pub(crate) fn begin(&mut self, within: Within) -> Result<(), AllocError> {
         let alloc = self.alloc;
+        let around = self.within().around();
         self.open.push(Scope {
             within,
+            around,
             types: Vec::new(alloc),
             core_types: Vec::new(alloc),
             functions: Vec::new(alloc),
@@ -99,6 +102,14 @@ impl Scopes {
         match self.open.last() {
             Some(scope) => scope.within,
             None => Within::Root,
+        }
+    }
+
+    /// What is around the innermost scope.
+    pub(crate) fn around(&self) -> Around {
+        match self.open.last() {
+            Some(scope) => scope.around,
+            None => Around::Component,
         }
     }
 

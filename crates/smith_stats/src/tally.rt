@@ -1,6 +1,6 @@
 //! The counts.
 
-use crate::combination::Combination;
+use crate::combination::{Around, Combination};
 use crate::combining::combinations;
 use smith_read::{ComponentTree, Steps};
 use std::alloc::{AllocError, Global};
@@ -149,6 +149,15 @@ impl fmt::Display for Tally {
     }
 }
 
+// What precedes what a thing is in, if that is in a type.
+fn path_to(around: Around) -> &'static str {
+    match around {
+        Around::Component => "",
+        Around::ComponentType => "ComponentType/",
+        Around::InstanceType => "InstanceType/",
+    }
+}
+
 /// The combinations, each with the number of files that have it and the name of the first of them.
 #[derive(Clone, Copy)]
 pub struct Listed<'a> {
@@ -162,19 +171,21 @@ impl fmt::Display for Listed<'_> {
         for (combination, reached) in &self.tally.reached {
             let Combination {
                 within,
+                around,
                 part,
                 sort,
                 origin,
                 chain,
             } = *combination;
             let files = reached.files;
+            let path = path_to(around);
             let name = self
                 .names
                 .get(reached.first)
                 .map_or("", |name| name.as_str());
             writeln!(
                 f,
-                "{files:>10}  {within:?} {part:?} {sort:?} {origin:?} {chain:?}  {name}"
+                "{files:>10}  {path}{within:?} {part:?} {sort:?} {origin:?} {chain:?}  {name}"
             )?;
         }
         Ok(())
