@@ -1,9 +1,9 @@
 -- How core function types and the declarations of module types are told apart.
-use Rattle.std.proofs.Common.{◌≡◌, ℕ, ◌+◌, ◌*◌, ◌≤◌, ◌⊎◌, inl, inr, Bool, true, false, eqb, nat_lt, List, [], ◌∷◌, ◌++◌, length, drop}
+use Rattle.std.proofs.Common.{◌≡◌, ℕ, ◌+◌, ◌*◌, ◌≤◌, ◌⊎◌, inl, inr, Bool, true, false, eqb, nat_lt, List, [], ◌∷◌, ◌++◌, drop}
 use Rattle.std.proofs.Common.{get_or, Option, Some, None, refl, ap, sym, subst, ◌∙◌, append_assoc, arith, lit<, lit≤}
-use Rattle.std.proofs.lemmas.Bool.{lt-ltb, ne_eqb}
+use Rattle.std.proofs.lemmas.Bool.{lt-ltb}
 use Rattle.std.specs.List.{AllByRecursion, flat_map}
-use Rattle.std.specs.Prelude.{codes, decimal, ◌&&◌, ◌==◌}
+use Rattle.std.specs.Prelude.{codes, decimal, ◌&&◌}
 use Rattle.smith_format.specs.CoreTypes.{core_function, core_val, ref_val}
 use Rattle.smith_format.specs.Entities.{bit, entity, global_type, has_maximum, limits, maximum, memory_type, table_type}
 use Rattle.smith_format.specs.Piece.{◌⊕◌, byte, bytes, many, number, s_index, text, u}
@@ -30,7 +30,8 @@ use Rattle.smith_print.proofs.Encoded
 use Rattle.smith_print.proofs.Encoded.{IsEncoded, back, bound_number, index_number, many_encoded, signed_number, text_bytes}
 use Rattle.smith_print.proofs.Told.{Anything, IsNumber, Stops, Told, after, before, both, ended, close, made, number_head, numbered}
 use Rattle.smith_print.proofs.Told.{numbers, option, same, spaced, weaker}
-use Rattle.smith_print.proofs.ToldValues.{groups, strings}
+use Rattle.smith_print.proofs.ToldLines.{not_empty}
+use Rattle.smith_print.proofs.ToldValues.{groups, is_parameter, strings}
 
 -- ---- value types
 
@@ -94,9 +95,6 @@ value_second (Ref r) x = inr (ref_second r x)
 
 -- ---- function types
 
-not_empty : {A : Type 0} (a : A) (xs : List A) → (length (a ∷ xs) == 0) ≡ false
-not_empty a xs = ne_eqb (length (a ∷ xs)) 0 (λ e. omega (arith, e))
-
 module _ (head : List ℕ) (test : List ℕ → Bool) (starts : (x : List ℕ) → test (head ++ x) ≡ true) where
   abbrev AreEncoded : List ValType → Type 0
   AreEncoded vs = AllByRecursion (λ v. IsEncoded (core_val v)) vs
@@ -122,10 +120,6 @@ module _ (head : List ℕ) (test : List ℕ → Bool) (starts : (x : List ℕ) �
 
   core_lists : Told AreEncoded (λ x. test x ≡ false) (core_list_text head)
   core_lists = record { law = core_list_law }
-
--- the beginning of parameters
-abbrev is_parameter : List ℕ → Bool
-is_parameter l = spaced l && eqb (get_or l 2 0) 112
 
 pub core_functions : Told (λ f. IsEncoded (core_function f)) Anything core_function_text
 core_functions =

@@ -61,6 +61,11 @@ indents (suc m) (suc n) x y e = indents m n x y (ap (drop 1) e)
 pub ends_here : (m n : ℕ) (x y : List ℕ) → ending m x ≡ line n ++ (40 ∷ y) → ⊥
 ends_here m n x y e = indents m n x y (ap (drop 1) e)
 
+-- So no line is the last, whatever text follows it.
+pub goes_on : (m n : ℕ) (a k more x y : List ℕ) → a ≡ 40 ∷ k → ending m x ≡ (line n ++ (a ++ more)) ++ y → ⊥
+goes_on m n a k more x y opens e =
+    ends_here m n x ((k ++ more) ++ y) (e ∙ append_assoc (line n) (a ++ more) y ∙ ap (λ l. line n ++ ((l ++ more) ++ y)) opens)
+
 -- Equal texts are equal behind the indent of their first line.
 pub next_line : (columns : ℕ) (a b k l x y : List ℕ) → (line columns ++ (a ++ k)) ++ x ≡ (line columns ++ (b ++ l)) ++ y → a ++ (k ++ x) ≡ b ++ (l ++ y)
 next_line columns a b k l x y e =

@@ -35,7 +35,7 @@ use Rattle.smith_print.proofs.Encoded
 use Rattle.smith_print.proofs.Encoded.{IsEncoded, back, index_number, many_encoded, raw_bytes, text_bytes}
 use Rattle.smith_print.proofs.Told.{Anything, IsNumber, Told, after, both, close, ended, numbers, past, same}
 use Rattle.smith_print.proofs.ToldExterns.{canons_told, extern_encoded, imports_told}
-use Rattle.smith_print.proofs.ToldLines.{AreLines, closed_law, ending, ends_here, next_line, same_ending}
+use Rattle.smith_print.proofs.ToldLines.{AreLines, closed_law, ending, goes_on, next_line, same_ending}
 use Rattle.smith_print.proofs.ToldModules.{module_law}
 use Rattle.smith_print.proofs.ToldTypes.{core_types_told, types_told}
 use Rattle.smith_print.proofs.ToldValues.{strings}
@@ -115,10 +115,7 @@ items_are_lines (then_items i is) c s = inr (_, refl)
 
 one_more : (i : Item) (is : Items) (c d : ℕ) (s : IndexSpaces) (x y : List ℕ) → ending d x ≡ items_text (then_items i is) c s ++ ending d y → ⊥
 one_more i is c d s x y e =
-    let o = opens i c s in
-    let more = items_text is c (item_after i s) in
-    ends_here d c x ((o.0 ++ more) ++ ending d y)
-    (e ∙ append_assoc (line c) (item_text i c s ++ more) (ending d y) ∙ ap (λ k. line c ++ ((k ++ more) ++ ending d y)) o.1)
+    let o = opens i c s in goes_on d c (item_text i c s) o.0 (items_text is c (item_after i s)) x (ending d y) o.1 e
 
 customs : Told (λ (b : List ℕ × List ℕ). AreBytes b.0 × AreBytes b.1) Anything
     (λ b. codes "(@custom " ++ (quoted b.0 ++ (codes " " ++ (quoted b.1 ++ codes ")"))))

@@ -22,7 +22,7 @@ use Rattle.smith_print.proofs.Encoded.{IsEncoded, back, many_encoded}
 use Rattle.smith_print.proofs.Told.{Anything, IsNumber, Stops, Told, after, both, close, ended, numbers, past, same}
 use Rattle.smith_print.proofs.ToldCore.{core_functions, counts_encoded, module_decls}
 use Rattle.smith_print.proofs.ToldExterns.{exports_told, extern_encoded, imports_told}
-use Rattle.smith_print.proofs.ToldLines.{AreLines, ending, ends_here, lines_law, are_lines, nested_law, next_line, same_ending}
+use Rattle.smith_print.proofs.ToldLines.{AreLines, ending, ends_here, goes_on, lines_law, are_lines, nested_law, next_line, same_ending}
 use Rattle.smith_print.proofs.ToldValues.{definitions, functions, primitive_head}
 
 -- ---- core types
@@ -106,10 +106,7 @@ decls_are_lines (then_decls d ds) c = inr (_, refl)
 
 one_more : (d : Decl) (ds : Decls) (c m : ℕ) (s : IndexSpaces) (x y : List ℕ) → ending m x ≡ decl_lines (then_decls d ds) c s ++ ending m y → ⊥
 one_more d ds c m s x y e =
-    let o = decl_opens d c s in
-    let more = decl_lines ds c (after_decl d s) in
-    ends_here m c x ((o.0 ++ more) ++ ending m y)
-    (e ∙ append_assoc (line c) (decl_text d c s ++ more) (ending m y) ∙ ap (λ k. line c ++ ((k ++ more) ++ ending m y)) o.1)
+    let o = decl_opens d c s in goes_on m c (decl_text d c s) o.0 (decl_lines ds c (after_decl d s)) x (ending m y) o.1 e
 
 import_encoded : (importing : Bool) (name : List ℕ) (r : ComponentTypeRef) → IsEncoded (importdecl importing name r) → IsEncoded (named_extern name r)
 import_encoded true name r t = back (byte 0x03) (named_extern name r) t

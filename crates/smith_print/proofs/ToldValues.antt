@@ -199,7 +199,7 @@ definitions = record { law = defined_law }
 -- ---- types of functions
 
 -- the beginning of a parameter
-abbrev is_parameter : List ℕ → Bool
+abbrev pub is_parameter : List ℕ → Bool
 is_parameter l = spaced l && eqb (get_or l 2 0) 112
 
 abbrev result_text : Option ComponentValType → List ℕ
