@@ -1,11 +1,11 @@
 //! Writing the component in a file with one token or one list of entries changed, and what it is to validators.
 
+use crate::FAULT;
 use crate::inspecting::{REFUSED, UNREAD, component_in, refuse};
 use crate::options::{Change, Which};
-use crate::places::{is_terminal, status_of_print};
+use crate::places::{refuse_terminal_for_bytes, status_of_print};
 use crate::scripting::write_bytes;
 use crate::unread::Unread;
-use crate::{FAULT, print_error};
 use smith_change::{
     ALTERNATIVES, Alternative, ChangeError, Step, changed_bytes, changes, next_changed, place_kind,
 };
@@ -144,12 +144,7 @@ fn print_changes(rt: &HostRuntime, path: Option<&str>, bytes: &[u8]) -> Result<E
 fn refuse_bytes(rt: &HostRuntime, change: &Change<'_>) -> Result<(), ExitCode> {
     match change.which {
         Which::All => Ok(()),
-        Which::Numbered(_) | Which::From(_) => {
-            if is_terminal(rt, change.output) {
-                return Err(print_error(rt, "standard output is a terminal: use --output"));
-            }
-            Ok(())
-        }
+        Which::Numbered(_) | Which::From(_) => refuse_terminal_for_bytes(rt, change.output),
     }
 }
 

@@ -3,7 +3,7 @@
 use crate::inspecting::{REFUSED, bytes_in, refuse, refuse_long};
 use crate::limits_file::{config_of, refuse_both};
 use crate::options::Mutation;
-use crate::places::{print_fault, refuse_terminal};
+use crate::places::{print_fault, refuse_terminal_for_bytes};
 use crate::scripting::write_bytes;
 use rand_core::Rng;
 use rand_pcg::Pcg32;
@@ -11,7 +11,6 @@ use rand_pcg::rand_core::SeedableRng;
 use smith_component::{Config, Unstructured, generate};
 use smith_corpus::{draw, number_below};
 use smith_reduce::{joined, without};
-use smith_run::Form;
 use smith_script::script;
 use std::alloc::{AllocError, Global};
 use std::io;
@@ -102,7 +101,7 @@ fn seed_of(rt: &HostRuntime, seed: Option<u64>) -> Result<u64, ExitCode> {
 
 /// Writes another input.
 pub fn mutate(rt: &HostRuntime, mutation: &Mutation<'_>) -> Result<ExitCode, ExitCode> {
-    refuse_terminal(rt, mutation.output, Form::Raw)?;
+    refuse_terminal_for_bytes(rt, mutation.output)?;
     refuse_both(rt, &mutation.limits, "the input", mutation.input)?;
     let config = config_of(rt, &mutation.limits)?;
     let input = bytes_in(rt, mutation.input)?;

@@ -181,8 +181,8 @@ pub fn status_of_print(rt: &HostRuntime, printed: io::Result<()>) -> Result<Exit
     }
 }
 
-/// Whether the output is standard output, and that a terminal.
-pub fn is_terminal(rt: &HostRuntime, path: Option<&str>) -> bool {
+// Whether the output is standard output, and that a terminal.
+fn is_terminal(rt: &HostRuntime, path: Option<&str>) -> bool {
     path.is_none() && rt.stdout().is_terminal()
 }
 
@@ -191,6 +191,14 @@ pub fn refuse_terminal(rt: &HostRuntime, path: Option<&str>, form: Form) -> Resu
     if is_terminal(rt, path) && form == Form::Raw {
         let how = "standard output is a terminal: use --output or --hex";
         return Err(print_error(rt, how));
+    }
+    Ok(())
+}
+
+/// Returns the status after a message if bytes would go to a terminal, from a command that writes nothing else.
+pub fn refuse_terminal_for_bytes(rt: &HostRuntime, path: Option<&str>) -> Result<(), ExitCode> {
+    if is_terminal(rt, path) {
+        return Err(print_error(rt, "standard output is a terminal: use --output"));
     }
     Ok(())
 }

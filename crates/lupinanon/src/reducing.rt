@@ -1,12 +1,12 @@
 //! Writing a component that is smaller than the one in a file.
 
+use crate::FAULT;
 use crate::inspecting::{REFUSED, UNREAD, component_in, refuse};
 use crate::limits_file::{config_of, refuse_both};
 use crate::options::{Choice, Options};
-use crate::places::is_terminal;
+use crate::places::refuse_terminal_for_bytes;
 use crate::scripting::write_bytes;
 use crate::unread::Unread;
-use crate::{FAULT, print_error};
 use smith_reduce::{ReduceError, Wanted, next_smaller, smaller};
 use std::process::ExitCode;
 
@@ -85,9 +85,7 @@ pub fn reduce(
     options: &Options<'_>,
     choice: Choice,
 ) -> Result<ExitCode, ExitCode> {
-    if is_terminal(rt, options.output) {
-        return Err(print_error(rt, "standard output is a terminal: use --output"));
-    }
+    refuse_terminal_for_bytes(rt, options.output)?;
     if options.is_any {
         return write_chosen(rt, options, choice, Wanted::WellFormed);
     }

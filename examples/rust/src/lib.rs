@@ -1,7 +1,8 @@
 //! WebAssembly components from a fuzzer's bytes.
 //!
 //! The proved static library, wrapped in safe functions. Only its calls are unsafe. It needs no `std`, but the
-//! `malloc`, `realloc` and `free` of a C library.
+//! `malloc`, `realloc` and `free` of a C library. The feature `arbitrary` adds `Component`, which implements the trait
+//! `Arbitrary` of the crate of that name.
 //!
 //! ```
 //! use lupinanon::{check, generate, script, Limits, Verdict};
@@ -19,6 +20,8 @@
 extern crate alloc;
 
 mod answer;
+#[cfg(feature = "arbitrary")]
+mod component;
 mod library;
 mod limits;
 mod raw_limits;
@@ -29,6 +32,8 @@ use core::fmt;
 use core::ops::Range;
 
 pub use answer::{Answer, Rule};
+#[cfg(feature = "arbitrary")]
+pub use component::Component;
 pub use limits::Limits;
 
 impl Default for Limits {

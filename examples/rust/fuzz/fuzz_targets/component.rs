@@ -1,13 +1,9 @@
 #![no_main]
 
 use libfuzzer_sys::fuzz_target;
-use lupinanon::{generate, Limits};
 
-fuzz_target!(|data: &[u8]| {
-    let limits = Limits { must_validate: true, ..Limits::fuzz() };
-    if let Ok(made) = generate(&limits, data) {
-        accepts(&made.bytes);
-    }
+fuzz_target!(|component: lupinanon::Component| {
+    accepts(component.as_bytes());
 });
 
 /// What is fuzzed: put a call of yours here.
