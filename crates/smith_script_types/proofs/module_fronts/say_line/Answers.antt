@@ -11,7 +11,9 @@ use Rattle.smith_script_types.proofs.module_fronts.say_line.Goals as goal
 
 pub returns-then-after-decls : goal.returns-then-after-decls
 returns-then-after-decls c =
-    subst (Says c.say_all_asked.result c.args.out.now c.say_all_asked.new.out) (sym (line_taken c.args.may (map shown_module_node c.args.decls.now) (map shown_module_node c.args.after.now)
+    subst (Says c.say_all_asked.result c.args.out.now c.say_all_asked.new.out)
+    (sym (line_taken c.args.may (map shown_module_node c.args.decls.now) (map shown_module_node c.args.after.now)
     (omega (arith, c.if-after-decls.true, length-map c.args.decls.now shown_module_node, length-map c.args.after.now shown_module_node))))
-    (ends c.say_all_asked.result _ _ (c.in_ok-say_choice.ensures {u = tt}) (subst (λ ds. Says c.say_all_asked.result c.say_choice.new.out c.say_all_asked.new.out (flat_map script_asked (entities_of ds)))
+    (ends c.say_all_asked.result _ _ (c.in_ok-say_choice.ensures {u = tt})
+    (subst (λ ds. Says c.say_all_asked.result c.say_choice.new.out c.say_all_asked.new.out (flat_map script_asked (entities_of ds)))
     c.in_front.ensures c.say_all_asked.ensures))

@@ -1,4 +1,4 @@
-use Rattle.std.proofs.Common.{◌≡◌, ◌-◌, ◌++◌, ◌∷◌, [], ap, drop, length, map, refl, subst, sym, ◌∙◌, arith}
+use Rattle.std.proofs.Common.{◌≡◌, ◌-◌, ◌++◌, ◌∷◌, [], ap, length, map, refl, subst, sym, ◌∙◌, arith}
 use Rattle.std.proofs.lemmas.List.{length-map}
 use Rattle.smith_syntax.specs.ModuleTypes.{after_front}
 use Rattle.smith_input.specs.Script.{script_end}
@@ -7,7 +7,7 @@ use Rattle.smith_script_types.proofs.Saying.{Towards, adds_then, gives_up, memor
 use Rattle.smith_script_types.proofs.Saying.{towards_start, towards_step, unsaid_left, unsaid_right}
 use Rattle.smith_script_types.proofs.ModuleTurns.{after_within, module_at, module_over, module_start}
 use Rattle.smith_script_types.proofs.TableSteps.{shown_more}
-use Rattle.smith_script_types.specs.Places.{plain_at, so_far}
+use Rattle.smith_script_types.specs.Places.{plain_at}
 use Rattle.smith_script_types.specs.Says.{Says}
 use Rattle.smith_script_types.proofs.modules.say_module.Goals as goal
 

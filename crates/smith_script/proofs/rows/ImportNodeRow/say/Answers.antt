@@ -11,7 +11,7 @@ use Rattle.smith_script.proofs.rows.ImportNodeRow.say.Goals as goal
 
 pub returns-in_err-say_extern-clause-said : goal.returns-in_err-say_extern-clause-said
 returns-in_err-say_extern-clause-said c =
-    gives_up _ _ _ _ c.from_residual-in_err-say_extern.ensures.1 (unsaid_right _ 
+    gives_up _ _ _ _ c.from_residual-in_err-say_extern.ensures.1 (unsaid_right _
     (subst (IsUnsaid _) (ap (script_extern c.args.given.config.now c.args.here.now.imports) c.deref.ensures) (c.in_err-say_extern.ensures {u = tt})))
 
 pub returns-clause-added : goal.returns-clause-added
