@@ -26,7 +26,7 @@ returns-in_default-clause-reads c = λ so_far held.
     let config = c.args.making.now.config.now in
     let own = own_marked c.args.scopes.now in
     let none = subst (λ r. MaybeRef config own uncounted true true c.int_in_range.new.self r c.arbitrary_type_ref.new.u) c.in_default.is
-        c.arbitrary_type_ref.ensures.reads in
+    c.arbitrary_type_ref.ensures.reads in
     let some = sym (c.has_reference.ensures ∙ ap has_reference c.last.ensures.marked) ∙ c.if-not-has_reference.false in
     subst Ends (sym none.1)
     (import_fits_none _ _ _ _ c.int_in_range.result some c.int_in_range.ensures c.if-int_in_range-ne0.false none.0)
@@ -36,7 +36,7 @@ returns-clause-reads c = λ so_far held.
     let config = c.args.making.now.config.now in
     let own = own_marked c.args.scopes.now in
     let of = subst (λ r. MaybeRef config own uncounted true true c.int_in_range.new.self r c.arbitrary_type_ref.new.u) c.in-Some.is
-        c.arbitrary_type_ref.ensures.reads in
+    c.arbitrary_type_ref.ensures.reads in
     let some = sym (c.has_reference.ensures ∙ ap has_reference c.last.ensures.marked) ∙ c.if-not-has_reference.false in
     import_read _ _ _ _ c.int_in_range.result some c.int_in_range.ensures so_far c.in-Some.ty _ _ _
     c.if-int_in_range-ne0.false
