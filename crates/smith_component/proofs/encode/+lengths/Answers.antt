@@ -1,10 +1,8 @@
-use Rattle.std.proofs.Common.{◌≤◌, ◌*◌, ◌^◌, ap, arith, refl, subst, sym, ◌∙◌}
-use Rattle.smith_format.specs.Piece.{◌⊕◌, bytes, each}
-use Rattle.smith_format.specs.Writing.{Takes}
+use Rattle.std.proofs.Common.{◌≤◌, ◌*◌, ◌^◌, arith, refl, ◌∙◌}
+use Rattle.smith_format.specs.Piece.{◌⊕◌}
 use Rattle.smith_format.proofs.Piece.{right_none}
 use Rattle.smith_format.proofs.Sizes.{takes_then, takes_bytes, sum_next, sum_all, each_none, measures_none}
-use Rattle.smith_tree.specs.Grammar.{component_text, part, preamble}
-use Rattle.smith_component.specs.Shown.{shown_section}
+use Rattle.smith_tree.specs.Grammar.{preamble}
 use Rattle.smith_component.proofs.Grammar.{text_shown}
 use Rattle.smith_component.proofs.encode.+lengths.Goals as goal
 
@@ -20,7 +18,5 @@ component_len-loop-section-preserved t c =
 
 pub component_len-returns : goal.component_len-returns
 component_len-returns t c =
-    subst (Takes _)
-    (ap (λ ss. bytes preamble ⊕ each (λ s. part (shown_section s)) ss) c.deref-section-items.ensures.value
-    ∙ (sym (text_shown _) ∙ ap component_text c.component.view_is))
+    rw (← c.component.view_is, text_shown _, ← c.deref-section-items.ensures.value)
     (takes_then (takes_bytes 8 preamble (omega arith)) (sum_all _ _ _ _ (c.loop-section.invariant.0) c.loop-section-test.false))

@@ -7,122 +7,73 @@ use Rattle.smith_read.specs.declared.nodes.PartNode.{PartNode}
 use Rattle.smith_scope.proofs.Lists.{head_same}
 use Rattle.smith_scopes.specs.NodeScopes.{outer_marked_in, own_marked_in}
 use Rattle.smith_syntax.specs.Marked.{Marked}
-use Rattle.smith_tree.specs.Tree.{add, components_in, ends, tree_of}
-use Rattle.smith_check.proofs.PartSteps.{tree_upto}
+use Rattle.smith_tree.specs.Tree.{components_in, ends, tree_of}
 use Rattle.smith_script_types.specs.Says.{Adds, IsUnsaid, Says}
 use Rattle.smith_script_types.proofs.Saying.{gives_up, towards_done, towards_exit, towards_start, towards_step, unsaid_left, unsaid_right}
-use Rattle.smith_tree.specs.Open.{scopes_in}
-use Rattle.smith_tree.specs.Script.{item_of, script_from, script_part}
-use Rattle.smith_tree.specs.WellFormed.{Formed, FormedPart}
 use Rattle.smith_tree.specs.declared.choices.Item.TheVariants as item
-use Rattle.smith_script.specs.Saying.{item_says}
-use Rattle.smith_script.specs.Preceding.{IsAfter, Preceding, empty_in, preceding, totals_in}
+use Rattle.smith_script.specs.Preceding.{IsAfter, Preceding, preceding, totals_in}
 use Rattle.smith_script.proofs.Keeps.{section_keeps}
 use Rattle.smith_script.proofs.Turns.{closes, depth_is, item_said, last_said, opened_formed, opens, reached_next, section_after}
 use Rattle.smith_script.proofs.Turns.{section_said, this_formed, this_said}
 use Rattle.smith_script.proofs.parts.+parts.Goals as goal
 
 pub say_part-returns-in_err-inner-in-Component-clause-said : goal.say_part-returns-in_err-inner-in-Component-clause-said
-say_part-returns-in_err-inner-in-Component-clause-said t c outer before after formed =
-    let config = c.args.given.config.now in
-    let inner = outer ++ before ∷ [] in
-    let shows = ap shown_part_node c.in-Component.is ∙ shown_nested c.in-Component.parts in
-    let totals = (c.in_ok-totals-in-Component.ensures {u = tt}).totals in
+say_part-returns-in_err-inner-in-Component-clause-said t c = rw (c.in-Component.is, shown_nested c.in-Component.parts) (λ outer before after formed.
     let entered = (c.in_ok-enter-in-Component.ensures {u = tt}).around in
-    let opened = subst (λ os. IsAfter config inner ends os (empty_in config.must_validate c.in_ok-totals-in-Component.totals)) (sym entered)
-    (opens after _ totals) in
-    let this = opened_formed after _ (subst (λ p. FormedPart p (scopes_in outer) before) shows formed) in
     gives_up _ _ _ _ c.from_residual-in_err-inner-in-Component.ensures.1
-    (subst (IsUnsaid _) (ap (λ ps. script_from (tree_of (map shown_part_node ps)) config inner ends) c.deref.ensures.value
-    ∙ sym (ap (λ p. script_part p config outer before) shows))
-    (c.in_err-inner-in-Component.ensures.said inner opened
-    (subst (λ ps. Formed (tree_of (map shown_part_node ps)) (scopes_in inner) ends) (sym c.deref.ensures.value) this)))
+    ((rw c.deref.ensures.value at c.in_err-inner-in-Component.ensures.said) (outer ++ before ∷ [])
+    (rw entered (opens after _ (c.in_ok-totals-in-Component.ensures {u = tt}).totals)) (opened_formed after _ formed)))
 
 pub say_part-returns-in_ok-inner-in-Component-clause-said : goal.say_part-returns-in_ok-inner-in-Component-clause-said
-say_part-returns-in_ok-inner-in-Component-clause-said t c outer before after formed =
-    let config = c.args.given.config.now in
-    let inner = outer ++ before ∷ [] in
-    let shows = ap shown_part_node c.in-Component.is ∙ shown_nested c.in-Component.parts in
-    let totals = (c.in_ok-totals-in-Component.ensures {u = tt}).totals in
+say_part-returns-in_ok-inner-in-Component-clause-said t c = rw (c.in-Component.is, shown_nested c.in-Component.parts) (λ outer before after formed.
     let entered = (c.in_ok-enter-in-Component.ensures {u = tt}).around in
-    let opened = subst (λ os. IsAfter config inner ends os (empty_in config.must_validate c.in_ok-totals-in-Component.totals)) (sym entered)
-    (opens after _ totals) in
-    let this = opened_formed after _ (subst (λ p. FormedPart p (scopes_in outer) before) shows formed) in
-    subst (Adds _ _) (ap (λ ps. script_from (tree_of (map shown_part_node ps)) config inner ends) c.deref.ensures.value
-    ∙ sym (ap (λ p. script_part p config outer before) shows))
-    (c.in_ok-inner-in-Component.ensures.said inner opened
-    (subst (λ ps. Formed (tree_of (map shown_part_node ps)) (scopes_in inner) ends) (sym c.deref.ensures.value) this))
+    (rw c.deref.ensures.value at c.in_ok-inner-in-Component.ensures.said) (outer ++ before ∷ [])
+    (rw entered (opens after _ (c.in_ok-totals-in-Component.ensures {u = tt}).totals)) (opened_formed after _ formed))
 
 pub say_part-returns-in_ok-inner-in-Component-clause-added : goal.say_part-returns-in_ok-inner-in-Component-clause-added
-say_part-returns-in_ok-inner-in-Component-clause-added t c outer before after formed =
-    let config = c.args.given.config.now in
-    let inner = outer ++ before ∷ [] in
-    let shows = ap shown_part_node c.in-Component.is ∙ shown_nested c.in-Component.parts in
-    let totals = (c.in_ok-totals-in-Component.ensures {u = tt}).totals in
+say_part-returns-in_ok-inner-in-Component-clause-added t c = rw (c.in-Component.is, shown_nested c.in-Component.parts) (λ outer before after formed.
     let entered = (c.in_ok-enter-in-Component.ensures {u = tt}).around in
-    let opened = subst (λ os. IsAfter config inner ends os (empty_in config.must_validate c.in_ok-totals-in-Component.totals)) (sym entered)
-    (opens after _ totals) in
-    let this = opened_formed after _ (subst (λ p. FormedPart p (scopes_in outer) before) shows formed) in
     let own = head_same _ _ _ _ (sym c.leave.ensures.marked ∙ (c.in_ok-inner-in-Component.ensures.outer ∙ entered)) in
-    let there : Preceding = preceding (own_marked_in c.leave.new.self) (record c.args.here.now {
-      totals = record c.in_ok-inner-in-Component.inner { funcs = c.args.here.now.totals.funcs };
-    }) in
-    subst (λ p. IsAfter config outer (add before p) (outer_marked_in c.args.scopes.now) there) (sym shows)
-    (closes after (tree_of (map shown_part_node c.in-Component.parts.items)) c.in_ok-inner-in-Component.inner
-    (c.in_ok-inner-in-Component.ensures.totals inner opened
-    (subst (λ ps. Formed (tree_of (map shown_part_node ps)) (scopes_in inner) ends) (sym c.deref.ensures.value) this)
-    ∙ ap (λ ps. totals_in inner (tree_of (map shown_part_node ps))) c.deref.ensures.value) there
+    closes after (tree_of (map shown_part_node c.in-Component.parts.items)) c.in_ok-inner-in-Component.inner
+    ((rw c.deref.ensures.value at c.in_ok-inner-in-Component.ensures.totals) (outer ++ before ∷ [])
+    (rw entered (opens after _ (c.in_ok-totals-in-Component.ensures {u = tt}).totals)) (opened_formed after _ formed)) _
     (ap (λ (o : Marked). record (preceding o c.args.here.now) {
       totals = record c.in_ok-inner-in-Component.inner { funcs = c.args.here.now.totals.funcs };
     }) own))
 
 pub say_parts-returns-in_err-say_item-clause-said : goal.say_parts-returns-in_err-say_item-clause-said
 say_parts-returns-in_err-say_item-clause-said t c outer after formed =
-    let own = own_marked_in c.loop-part.scopes in
-    let around = outer_marked_in c.args.scopes.now in
-    let chosen = ap (item_says c.args.given.config.now around c.loop-part.turn.sections (preceding own c.loop-part.here)) c.item_of.ensures in
     let r = c.loop-part.invariant.reached outer after formed in
     let depth = c.loop-part.invariant.depth in
     gives_up _ _ _ _ c.from_residual.ensures.1
     (towards_exit _ _ r.said (this_said r c.part-item.result c.loop-part-test.true c.part-item.is)
-    (unsaid_left _ (subst (IsUnsaid _) (chosen ∙ item_said r.after _ _ r.sections)
-    ((c.in_err-say_item.ensures {u = tt}) own around depth))))
+    (unsaid_left _ (subst (IsUnsaid _) (item_said r.after _ _ r.sections)
+    ((rw c.item_of.ensures at (c.in_err-say_item.ensures {u = tt})) (own_marked_in c.loop-part.scopes) (outer_marked_in c.args.scopes.now) depth))))
 
 pub say_parts-returns-in_err-say_part-clause-said : goal.say_parts-returns-in_err-say_part-clause-said
 say_parts-returns-in_err-say_part-clause-said t c outer after formed =
     let r = c.loop-part.invariant.reached outer after formed in
-    let here = preceding (own_marked_in c.loop-part.scopes) c.loop-part.here in
-    let after_r = subst (λ os. IsAfter c.args.given.config.now outer (tree_upto c.loop-part.part-index c.args.parts.now) os here)
-    (sym c.loop-part.invariant.outer) r.after in
     gives_up _ _ _ _ c.from_residual-in_err-say_part.ensures.1
     (towards_exit _ _ r.said (this_said r c.part-item.result c.loop-part-test.true c.part-item.is)
-    (unsaid_right _ (c.in_err-say_part.ensures.said outer _ after_r
+    (unsaid_right _ ((rw c.loop-part.invariant.outer at c.in_err-say_part.ensures.said) outer _ r.after
     (this_formed r c.part-item.result c.loop-part-test.true c.part-item.is))))
 
 pub say_parts-loop-part-preserved : goal.say_parts-loop-part-preserved
 say_parts-loop-part-preserved t c =
     let invariant = c.loop-part.invariant in
     let depth = c.loop-part.invariant.depth in
-    let config = c.args.given.config.now in
-    let own = own_marked_in c.loop-part.scopes in
-    let around = outer_marked_in c.args.scopes.now in
-    let here = preceding own c.loop-part.here in
-    let next = preceding (own_marked_in c.say_part.new.scopes) c.say_part.new.here in
-    let part = shown_part_node c.part-item.result in
-    let chosen = ap (item_says config around c.loop-part.turn.sections here) c.item_of.ensures in
     record {
       outer = c.in_ok-say_part.ensures.outer ∙ invariant.outer;
       depth = depth;
       keeps = c.in_ok-say_part.ensures.keeps ∙ invariant.keeps;
       reached = λ outer after formed.
           let r = invariant.reached outer after formed in
-          let before = tree_upto c.loop-part.part-index c.args.parts.now in
-          let after_r = subst (λ os. IsAfter config outer before os here) (sym invariant.outer) r.after in
-          let formed_r = this_formed r c.part-item.result c.loop-part-test.true c.part-item.is in
+          let here = this_formed r c.part-item.result c.loop-part-test.true c.part-item.is in
           reached_next r c.part-item.result c.loop-part-test.true c.part-item.is c.in_ok-turn.ensures.more
-          (subst (Adds _ _) (chosen ∙ item_said r.after _ _ r.sections) ((c.in_ok-say_item.ensures {u = tt}) own around depth))
-          (c.in_ok-say_part.ensures.said outer _ after_r formed_r)
-          (subst (λ os. IsAfter config outer (add before part) os next) invariant.outer (c.in_ok-say_part.ensures.added outer _ after_r formed_r));
+          (subst (Adds _ _) (item_said r.after _ _ r.sections)
+          ((rw c.item_of.ensures at (c.in_ok-say_item.ensures {u = tt})) (own_marked_in c.loop-part.scopes) (outer_marked_in c.args.scopes.now) depth))
+          ((rw invariant.outer at c.in_ok-say_part.ensures.said) outer _ r.after here)
+          ((rw invariant.outer at c.in_ok-say_part.ensures.added) outer _ r.after here);
     }
 
 pub say_parts-returns-in_err-say_item-2-clause-said : goal.say_parts-returns-in_err-say_item-2-clause-said

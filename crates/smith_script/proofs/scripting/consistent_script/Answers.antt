@@ -2,7 +2,6 @@ use Rattle.std.proofs.Common.{◌≡◌, ◌∙◌, subst, sym}
 use Rattle.std.proofs.lemmas.Result.{IfErr-weaker}
 use Rattle.smith_read.specs.PartNodes.{shown_tree}
 use Rattle.smith_read.specs.declared.error.ReadError.TheVariants as error
-use Rattle.smith_check.specs.Judgement.{Agrees}
 use Rattle.smith_tree.proofs.Clear.{spells_law}
 use Rattle.smith_tree.specs.WellFormed.{WellFormed}
 use Rattle.smith_script.proofs.Given.{given_formed, given_shallow, script_given}
@@ -27,5 +26,5 @@ pub returns-clause-refuses : goal.returns-clause-refuses
 returns-clause-refuses c other t spells b script =
     let formed = given_formed c.args.config.now t b (script_given c.args.config.now t b script) in
     let same = spells_law t (shown_tree c.in-Ok.tree) c.args.bytes.now spells c.in-Ok.ensures.reads.spelled in
-    let judged = subst (Agrees (shown_tree c.in-Ok.tree)) c.in-IllFormed.is (c.in_ok-judged.ensures {u = tt}) in
+    let judged = rw c.in-IllFormed.is at (c.in_ok-judged.ensures {u = tt}) in
     judged.0 (subst WellFormed same formed)

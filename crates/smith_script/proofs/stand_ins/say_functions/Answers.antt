@@ -1,9 +1,5 @@
-use Rattle.std.proofs.Common.{◌≡◌, ◌∙◌, ◌+◌, ◌-◌, [], ap, subst, sym, arith, refl}
-use Rattle.smith_core.specs.StandInScript.{functions_from}
-use Rattle.smith_input.specs.Script.{script_end}
-use Rattle.smith_script_types.specs.Fronts.{script_functions}
-use Rattle.smith_script_types.specs.Says.{Adds, IsUnsaid}
-use Rattle.smith_script_types.proofs.Saying.{Towards, adds_then, gives_up, towards_done, towards_exit, towards_step, unsaid_left, unsaid_right}
+use Rattle.std.proofs.Common.{◌≡◌, ◌∙◌, ◌+◌, ◌-◌, [], sym, arith, refl}
+use Rattle.smith_script_types.proofs.Saying.{adds_then, gives_up, towards_done, towards_exit, towards_step, unsaid_left, unsaid_right}
 use Rattle.smith_script_types.proofs.Saying.{functions_left, functions_over, functions_said}
 use Rattle.smith_script.proofs.stand_ins.say_functions.Goals as goal
 
@@ -30,13 +26,11 @@ loop-done-preserved c =
     let count = c.args.count - c.loop-done.done in
     let less = c.args.count - (c.loop-done.done + 1) in
     let more : count ≡ less + 1 = omega (arith, c.loop-done-test.true) in
-    let left = c.in_ok-left.ensures.left in
-    record {
-      said = subst (Towards _ _ _) (ap (λ bs. script_functions c.args.config.now (c.loop-done.done + 1) (functions_from less bs).0) (sym left))
-          (towards_step _ _ c.loop-done.invariant.said (functions_said c.args.config.now c.loop-done.done count less c.loop-done.left.now more)
-          (adds_then (c.in_ok-say_more.ensures {u = tt}) c.in_ok-left.ensures.said));
-      left = ap (λ bs. (functions_from less bs).1) left ∙ (sym (functions_left count less c.loop-done.left.now more) ∙ c.loop-done.invariant.left);
-    }
+    rw c.in_ok-left.ensures.left (record {
+      said = towards_step _ _ c.loop-done.invariant.said (functions_said c.args.config.now c.loop-done.done count less c.loop-done.left.now more)
+          (adds_then (c.in_ok-say_more.ensures {u = tt}) c.in_ok-left.ensures.said);
+      left = sym (functions_left count less c.loop-done.left.now more) ∙ c.loop-done.invariant.left;
+    })
 
 pub returns-in_err-say_end-clause-said : goal.returns-in_err-say_end-clause-said
 returns-in_err-say_end-clause-said c =
@@ -44,11 +38,11 @@ returns-in_err-say_end-clause-said c =
     gives_up _ _ _ _ c.from_residual-in_err-say_end.ensures.1
     (towards_exit _ [] c.loop-done.invariant.said
     (functions_over c.args.config.now c.loop-done.done c.args.count (c.args.count - c.loop-done.done) c.loop-done.left.now (omega (arith, all)) all)
-    (subst (IsUnsaid _) (ap (script_end c.args.count) c.min.ensures) (c.in_err-say_end.ensures {u = tt})))
+    (rw c.min.ensures at (c.in_err-say_end.ensures {u = tt})))
 
 pub returns-clause-said : goal.returns-clause-said
 returns-clause-said c =
     let all : c.loop-done.done ≡ c.args.count = omega (arith, c.loop-done-test.false, c.loop-done.auto.done-end) in
     towards_done (towards_step _ [] c.loop-done.invariant.said
     (functions_over c.args.config.now c.loop-done.done c.args.count (c.args.count - c.loop-done.done) c.loop-done.left.now (omega (arith, all)) all)
-    (subst (Adds _ _) (ap (script_end c.args.count) c.min.ensures) (c.in_ok-say_end.ensures {u = tt}))) refl
+    (rw c.min.ensures at (c.in_ok-say_end.ensures {u = tt}))) refl

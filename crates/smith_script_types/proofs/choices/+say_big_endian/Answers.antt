@@ -1,6 +1,4 @@
-use Rattle.std.proofs.Common.{arith, ◌≡◌, ◌/◌, ◌^◌, ◌-◌, ◌<◌, ◌%◌, ◌∷◌, ◌∙◌, ap, subst}
-use Rattle.smith_input.specs.Script.{big_endian}
-use Rattle.smith_script_types.specs.Says.{Says}
+use Rattle.std.proofs.Common.{arith, ◌≡◌, ◌/◌, ◌^◌, ◌-◌, ◌<◌, sym}
 use Rattle.smith_script_types.proofs.Picking.{big_endian_more, power_fits, power_positive}
 use Rattle.smith_script_types.proofs.Saying.{ends}
 use Rattle.smith_script_types.proofs.choices.+say_big_endian.Goals as goal
@@ -18,7 +16,5 @@ pub returns : goal.returns
 returns t c =
     let wide : 0 < c.args.width = omega (arith, c.if-width-eq0.false) in
     let f : c.in-Ok.first ≡ c.args.k / 256 ^ (c.args.width - 1) = grind arith in
-    subst (Says c.say_big_endian.result c.args.out.now c.say_big_endian.new.out)
-    (ap (λ n. c.in-Ok.first ∷ big_endian (c.args.width - 1) (c.args.k % n)) c.pow-unit.ensures
-    ∙ big_endian_more c.args.width c.args.k c.in-Ok.first wide f)
-    (ends c.say_big_endian.result _ _ (c.in_ok-say_byte.ensures {u = tt}) c.say_big_endian.ensures)
+    rw (sym (big_endian_more c.args.width c.args.k c.in-Ok.first wide f))
+    (rw c.pow-unit.ensures at (ends c.say_big_endian.result _ _ (c.in_ok-say_byte.ensures {u = tt}) c.say_big_endian.ensures))

@@ -1,9 +1,7 @@
-use Rattle.std.proofs.Common.{◌≡◌, ap, map, subst, ◌∙◌}
+use Rattle.std.proofs.Common.{◌≡◌, ap, map, ◌∙◌}
 use Rattle.smith_syntax.specs.ModuleTypes.{after_front, after_memory, after_realloc}
 use Rattle.smith_read.specs.Nodes.{shown_module_node}
-use Rattle.smith_tree.specs.ModuleScript.{front_before, may_declare, script_line}
-use Rattle.std.specs.Prelude.{nat_lt}
-use Rattle.smith_script_types.specs.Says.{Adds, IsUnsaid, Says}
+use Rattle.smith_tree.specs.ModuleScript.{front_before, may_declare}
 use Rattle.smith_script_types.proofs.Saying.{ends, gives_up, unsaid_left, unsaid_right}
 use Rattle.smith_script_types.proofs.module_fronts.say_front.Goals as goal
 
@@ -16,7 +14,7 @@ returns-in_err-say_line-2 c fuel =
     let may = (c.in_ok-may_realloc.ensures {u = tt}).may fuel
     ∙ ap (λ z. may_declare c.args.place.config.now (front_before fuel ds z)) no_memory in
     gives_up _ _ _ _ c.from_residual-in_err-say_line-2.ensures.1
-    (unsaid_right _ (unsaid_left _ (subst (IsUnsaid _) (λ j. script_line (may j) (no_memory j) (no_realloc j)) (c.in_err-say_line-2.ensures {u = tt}))))
+    (unsaid_right _ (unsaid_left _ (rw (may, no_realloc, no_memory) at (c.in_err-say_line-2.ensures {u = tt}))))
 
 pub returns : goal.returns
 returns c fuel =
@@ -29,7 +27,6 @@ returns c fuel =
     ∙ ap (λ z. may_declare c.args.place.config.now (front_before fuel ds z)) no_memory in
     let may_free = (c.in_ok-may_free.ensures {u = tt}).may fuel
     ∙ ap (λ z. may_declare c.args.place.config.now (front_before fuel ds z)) no_realloc in
-    ends c.say_line-3.result _ _
-    (subst (Adds _ _) (ap (script_line (nat_lt 0 c.args.place.config.now.max_memories) ds) no_memory) (c.in_ok-say_line.ensures {u = tt}))
-    (ends c.say_line-3.result _ _ (subst (Adds _ _) (λ j. script_line (may j) (no_memory j) (no_realloc j)) (c.in_ok-say_line-2.ensures {u = tt}))
-    (subst (Says c.say_line-3.result _ _) (λ j. script_line (may_free j) (no_realloc j) (no_free j)) c.say_line-3.ensures))
+    ends c.say_line-3.result _ _ (rw no_memory at (c.in_ok-say_line.ensures {u = tt}))
+    (ends c.say_line-3.result _ _ (rw (may, no_realloc, no_memory) at (c.in_ok-say_line-2.ensures {u = tt}))
+    (rw (may_free, no_realloc, no_free) at c.say_line-3.ensures))

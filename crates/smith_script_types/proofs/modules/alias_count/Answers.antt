@@ -8,10 +8,5 @@ use Rattle.smith_script_types.proofs.modules.alias_count.Goals as goal
 
 pub returns : goal.returns
 returns c =
-    omega (
-      arith,
-      ap length c.places.ensures.places,
-      c.len.ensures,
-      choices_count (plain_at c.args.place) (so_far c.args.declared.now).own,
-      length-map c.args.declared.now.tables.own.items (λ f. shown_func f.now),
-    )
+    rw (choices_count (plain_at c.args.place) (so_far c.args.declared.now).own, length-map c.args.declared.now.tables.own.items (λ f. shown_func f.now))
+    (omega (arith, ap length c.places.ensures.places, c.len.ensures))

@@ -1,14 +1,12 @@
-use Rattle.std.proofs.Common.{◌≡◌, ◌-◌, ◌++◌, ◌∷◌, [], ap, length, map, refl, subst, sym, ◌∙◌, arith}
+use Rattle.std.proofs.Common.{◌≡◌, ◌-◌, ◌++◌, ◌∷◌, [], ap, length, map, refl, subst, ◌∙◌, arith}
 use Rattle.std.proofs.lemmas.List.{length-map}
 use Rattle.smith_syntax.specs.ModuleTypes.{after_front}
-use Rattle.smith_input.specs.Script.{script_end}
 use Rattle.smith_read.specs.Nodes.{shown_module_node}
 use Rattle.smith_script_types.proofs.Saying.{Towards, adds_then, gives_up, memory_unsaid, towards_end, towards_exit}
 use Rattle.smith_script_types.proofs.Saying.{towards_start, towards_step, unsaid_left, unsaid_right}
 use Rattle.smith_script_types.proofs.ModuleTurns.{after_within, module_at, module_over, module_start}
 use Rattle.smith_script_types.proofs.TableSteps.{shown_more}
 use Rattle.smith_script_types.specs.Places.{plain_at}
-use Rattle.smith_script_types.specs.Says.{Says}
 use Rattle.smith_script_types.proofs.modules.say_module.Goals as goal
 
 pub returns-in_err-say_front : goal.returns-in_err-say_front
@@ -81,5 +79,4 @@ pub returns : goal.returns
 returns c fuel =
     let all : c.loop-index.index ≡ length c.args.decls.now = omega (arith, c.loop-index-test.false, c.loop-index.auto.index-end) in
     towards_end c.say_end.result _ (c.loop-index.invariant.left fuel)
-    (subst (Says c.say_end.result _ _) (ap (λ n. script_end (n - (length c.args.decls.now - length c.after_front.result.now)) 100) (sym all)
-    ∙ sym (module_over c.args.place.config.now (plain_at c.args.place) c.args.decls.now _ _ _ c.loop-index-test.false)) c.say_end.ensures)
+    (rw (module_over c.args.place.config.now (plain_at c.args.place) c.args.decls.now _ _ _ c.loop-index-test.false, all) c.say_end.ensures)

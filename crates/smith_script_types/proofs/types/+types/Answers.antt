@@ -1,6 +1,6 @@
-use Rattle.std.proofs.Common.{◌≡◌, ◌∷◌, ◌++◌, ◌+◌, ◌-◌, [], ap, refl, subst, sym, ◌∙◌, length, append-nil, arith, true, false}
+use Rattle.std.proofs.Common.{◌≡◌, ◌∷◌, ◌++◌, ◌+◌, [], ap, refl, subst, sym, ◌∙◌, length, append-nil, arith, true, false}
 use Rattle.std.specs.Prelude.{string_bytes}
-use Rattle.smith_input.specs.Script.{pick, script_end}
+use Rattle.smith_input.specs.Script.{pick}
 use Rattle.smith_scopes.specs.NodeScopes.{outer_marked_in, own_marked_in}
 use Rattle.smith_scopes.proofs.PlainTrees.{plain_same}
 use Rattle.smith_read.proofs.ShownNodes.{shown_alias, shown_core_alias, shown_declared, shown_export, shown_import}
@@ -11,7 +11,7 @@ use Rattle.smith_syntax.specs.Marked.{Marked, mark, marked_after, with_marked}
 use Rattle.smith_tree.specs.TypeOffers.{uncounted}
 use Rattle.smith_tree.specs.TypeScript.{script_alias, script_decl, script_declares, script_extern, script_ref}
 use Rattle.smith_tree.specs.declared.choices.DeclarationItem.TheVariants as item
-use Rattle.smith_script_types.specs.Says.{Adds, IsUnsaid}
+use Rattle.smith_script_types.specs.Says.{Adds}
 use Rattle.smith_script_types.proofs.Saying.{adds_then, gives_up, towards_exit, towards_step}
 use Rattle.smith_script_types.proofs.Decls.{decls_at, decls_over}
 use Rattle.smith_script_types.specs.Declaring.{taken_in}
@@ -26,28 +26,26 @@ say_decls-returns-in_err-say_byte-clause-said t c =
 
 pub say_decls-returns-in_err-left-clause-said : goal.say_decls-returns-in_err-left-clause-said
 say_decls-returns-in_err-left-clause-said t c =
-    let config = c.args.given.config.now in
-    let d = shown_decl_node c.decl-item.result in
-    let turn = c.with_fuel-turn.result in
-    let own = own_marked_in c.loop-decl.scopes in
-    let outer = own_marked_in c.args.scopes.now ∷ outer_marked_in c.args.scopes.now in
     let split = decls_at c.args.given.config.now c.args.start.importing (own_marked_in c.args.scopes.now ∷ outer_marked_in c.args.scopes.now) _ _ _
     (taken_in c.loop-decl.here) (own_marked_in c.loop-decl.scopes) c.decl-item.result c.loop-decl-test.true c.decl-item.is in
     gives_up _ _ _ _ c.from_residual-in_err-left.ensures.1
     (towards_exit _ _ (towards_step (1 ∷ []) _ c.loop-decl.invariant.left split (c.in_ok-say_byte.ensures {u = tt})) refl
-    (subst (IsUnsaid _)
-    (ap (script_decl d config turn.importing turn.fuel (taken_in turn) own) c.loop-decl.invariant.outer
-    ∙ (ap (λ i. script_decl d config i turn.fuel (taken_in turn) own outer) (c.with_fuel-turn.ensures.importing ∙ c.loop-decl.invariant.importing)
-    ∙ (ap (λ n. script_decl d config c.args.start.importing n (taken_in turn) own outer) (c.with_fuel-turn.ensures.fuel ∙ c.saturating_sub.ensures)
-    ∙ ap (λ k. script_decl d config c.args.start.importing (c.loop-decl.here.fuel - 1) k own outer) c.with_fuel-turn.ensures.taken)))
-    c.in_err-left.ensures.said))
+    (rw (
+      c.loop-decl.invariant.outer,
+      c.with_fuel-turn.ensures.importing,
+      c.loop-decl.invariant.importing,
+      c.with_fuel-turn.ensures.fuel,
+      c.saturating_sub.ensures,
+      c.with_fuel-turn.ensures.taken,
+    )
+    at c.in_err-left.ensures.said))
 
 pub say_decls-returns-in_err-say_end-clause-said : goal.say_decls-returns-in_err-say_end-clause-said
 say_decls-returns-in_err-say_end-clause-said t c =
-    let all : length c.args.decls.now ≡ c.loop-decl.decl-index = omega (arith, c.loop-decl-test.false, c.loop-decl.auto.decl-index-end) in
     gives_up _ _ _ _ c.from_residual-in_err-say_end.ensures.1
     (towards_exit _ [] c.loop-decl.invariant.left (decls_over _ _ _ _ _ _ _ _ _ c.loop-decl-test.false ∙ sym (append-nil _))
-    (subst (IsUnsaid _) (ap (λ n. script_end n 100) all) (c.in_err-say_end.ensures {u = tt})))
+    (rw (let all : length c.args.decls.now ≡ c.loop-decl.decl-index = omega (arith, c.loop-decl-test.false, c.loop-decl.auto.decl-index-end) in all)
+    at (c.in_err-say_end.ensures {u = tt})))
 
 -- a declaration
 

@@ -1,8 +1,7 @@
-use Rattle.std.proofs.Common.{List, map, refl, string_bytes, subst}
+use Rattle.std.proofs.Common.{map, refl}
 use Rattle.std.specs.Prelude.{String}
 use Rattle.std.specs.declared.alloc.Global.{Global}
 use Rattle.smith_format.specs.declared.types.ValType.TheVariants.{I32}
-use Rattle.smith_input.specs.Names.{ReadsNew}
 use Rattle.smith_input.proofs.Reading.{tail_trans}
 use Rattle.smith_syntax.specs.Signature.{named}
 use Rattle.smith_syntax.specs.declared.types.ComponentValType.{ComponentValType}
@@ -18,9 +17,7 @@ loop-ty-preserved c =
     let next = map named c.push.new.self.items in
     let param : String Global × ComponentValType = (c.in_ok-name.name, Primitive c.lifted_primitive-primitive.result) in
     let more = pushed named items c.push.new.self.items param c.in_ok-push.ensures.items in
-    let P : List (String Global × ComponentValType) → Type 0 = λ ps. ReadsNew c.args.max_name_length (map (λ p. string_bytes p.0) ps) c.loop-ty.u
-    (string_bytes c.in_ok-name.name) c.new_kebab_string.new.u in
-    let read = new_named items (subst P c.as_slice.ensures.value c.in_ok-name.ensures.read) in
+    let read = new_named items (rw c.as_slice.ensures.value at c.in_ok-name.ensures.read) in
     record {
       tail = tail_trans c.lifted_primitive-primitive.ensures.tail (tail_trans c.in_ok-name.ensures.input.tail c.loop-ty.invariant.tail);
       onward = one_more _ _ c.loop-ty.ty-index _ _ _ _ _ I32 _ (map named items) next c.loop-ty-test.true refl read c.lifted_primitive-primitive.ensures.reads

@@ -1,4 +1,4 @@
-use Rattle.std.proofs.Common.{◌≡◌, ◌<◌, refl, rules, sym, ap, ◌∙◌, subst, arith, true, false, append-nil, length, length-drop, ◌++◌}
+use Rattle.std.proofs.Common.{◌≡◌, ◌<◌, refl, rules, sym, ap, ◌∙◌, subst, arith, true, false, append-nil, length, length-drop}
 use Rattle.std.proofs.lemmas.Result.{IfOk-weaker}
 use Rattle.smith_input.proofs.Reading.{tail_trans, more_tail}
 use Rattle.smith_syntax.specs.Entries.{FullDecl, function, in_order}
@@ -11,11 +11,7 @@ use Rattle.smith_syntax.proofs.Shown.{component_import, full_defined, full_func,
 use Rattle.smith_types.specs.Declarations.{in_instance}
 use Rattle.smith_types.specs.Made.{Made, MadeDeclaration, made_alias, made_core_type, made_export, made_import, made_type}
 use Rattle.smith_scopes.specs.Scopes.{AddsMarked, inward_marked, own_marked, outer_marked}
-use Rattle.smith_tree.specs.TypeOffers.{declaration_items}
-use Rattle.smith_tree.specs.declared.choices.DeclarationItem.TheVariants as item
-use Rattle.smith_input.specs.Choices.{ReadsAmong}
-use Rattle.smith_types.specs.MakingTypes.{AddsDeclaration, Declares, HasTarget, HoldsExterns, HoldsNames, IsMarkOf, MaybeImport, declaring, defs_in}
-use Rattle.smith_types.specs.MakingTypes.{imported_by, shown_import_decl}
+use Rattle.smith_types.specs.MakingTypes.{AddsDeclaration, Declares, HoldsNames, IsMarkOf, declaring, defs_in}
 use Rattle.smith_types.specs.declared.make.scoped.TypeBody.{TypeBody}
 use Rattle.smith_types.specs.declared.make.scoped.TypeBody.TheVariants.{Component, Instance}
 use Rattle.smith_types.proofs.Declaring.{closed_again, import_declared, length-last_types, same_changed, same_trans, type_declared}
@@ -27,8 +23,7 @@ use Rattle.smith_types.proofs.make.+making.Goals as goal
 
 pub items::read_component_declaration-returns-in-Some-clause-made : goal.items::read_component_declaration-returns-in-Some-clause-made
 items::read_component_declaration-returns-in-Some-clause-made t c = λ imported exported held other.
-    let reads = subst (λ i. MaybeImport c.args.making.now.config.now (own_marked c.args.scopes.now) imported c.args.u.now (shown_import_decl i)
-    c.read_import.new.u) c.in-Some.is (c.in_ok-import.ensures.reads imported held) in
+    let reads = rw c.in-Some.is at (c.in_ok-import.ensures.reads imported held) in
     let P : FullDecl → Type 0 = λ d. MadeDeclaration c.args.making.now.config.now true (outer_marked c.args.scopes.now)
     (record { own = own_marked c.args.scopes.now; imports = imported; exports = exported }) c.args.u.now c.args.fuel.now
     d c.read_import.new.u c.args.fuel.now in
@@ -36,47 +31,37 @@ items::read_component_declaration-returns-in-Some-clause-made t c = λ imported 
 
 pub items::read_component_declaration-returns-clause-imports : goal.items::read_component_declaration-returns-clause-imports
 items::read_component_declaration-returns-clause-imports t c = λ imported held.
-    let none = subst (λ i. HoldsExterns c.read_import.new.imports (imported ++ imported_by (shown_import_decl i))) c.in_default.is
-    (c.in_ok-import.ensures.names imported held) in
+    let none = rw c.in_default.is at (c.in_ok-import.ensures.names imported held) in
     names_stay c.read_import.new.imports imported _ (ap import_of c.from.ensures.shown ∙ c.in_ok-decl.ensures.names.no_import)
-    (subst (HoldsExterns c.read_import.new.imports) (append-nil imported) none)
+    (rw (append-nil imported) at none)
 
 pub items::read_declaration-read_type_decl-requires : goal.items::read_declaration-read_type_decl-requires
 items::read_declaration-read_type_decl-requires t c =
     let scopes = c.args.scopes.now in
-    let possible = subst (HasTarget c.args.making.now.config.now (own_marked scopes) (outer_marked scopes)) c.in-Type.is
-    c.read_declaration_item.ensures.possible in
+    let possible = rw c.in-Type.is at c.read_declaration_item.ensures.possible in
     let shallow : length scopes < c.args.making.now.config.now.max_nesting_depth =
     omega (arith, possible, length-drop 1 (inward_marked scopes), length-inward_marked scopes) in
     (omega arith, (shallow, c.requires.room.few.types))
 
 pub items::read_declaration-returns-in-Export-clause-made : goal.items::read_declaration-returns-in-Export-clause-made
 items::read_declaration-returns-in-Export-clause-made t c = λ importing so_far imports start held none.
-    let items = declaration_items c.args.making.now.config.now (outer_marked c.args.scopes.now) (own_marked c.args.scopes.now) in
-    let reads = subst (λ i. ReadsAmong items c.args.u.now i c.read_declaration_item.new.u) c.in-Export.is c.read_declaration_item.ensures.reads in
     IfOk-weaker c.read_export.result _ _
-    (λ d r. made_export none reads r refl) (c.read_export.ensures.reads so_far held)
+    (λ d r. made_export none (rw c.in-Export.is at c.read_declaration_item.ensures.reads) r refl) (c.read_export.ensures.reads so_far held)
 
 pub items::read_declaration-returns-in-Alias-clause-made : goal.items::read_declaration-returns-in-Alias-clause-made
 items::read_declaration-returns-in-Alias-clause-made t c = λ importing so_far imports start held none.
-    let items = declaration_items c.args.making.now.config.now (outer_marked c.args.scopes.now) (own_marked c.args.scopes.now) in
-    let reads = subst (λ i. ReadsAmong items c.args.u.now i c.read_declaration_item.new.u) c.in-Alias.is c.read_declaration_item.ensures.reads in
     IfOk-weaker c.read_outer_alias.result _ _
-    (λ d r. made_alias none reads (alias_within _ _ _ _ r) refl) c.read_outer_alias.ensures.reads
+    (λ d r. made_alias none (rw c.in-Alias.is at c.read_declaration_item.ensures.reads) (alias_within _ _ _ _ r) refl) c.read_outer_alias.ensures.reads
 
 pub items::read_declaration-returns-in-CoreType-clause-made : goal.items::read_declaration-returns-in-CoreType-clause-made
 items::read_declaration-returns-in-CoreType-clause-made t c = λ importing so_far imports start held none.
-    let items = declaration_items c.args.making.now.config.now (outer_marked c.args.scopes.now) (own_marked c.args.scopes.now) in
-    let reads = subst (λ i. ReadsAmong items c.args.u.now i c.read_declaration_item.new.u) c.in-CoreType.is c.read_declaration_item.ensures.reads in
     IfOk-weaker c.read_core_type.result _ _
-    (λ d m. made_core_type none reads m.1 m.2) c.read_core_type.ensures.made
+    (λ d m. made_core_type none (rw c.in-CoreType.is at c.read_declaration_item.ensures.reads) m.1 m.2) c.read_core_type.ensures.made
 
 pub items::read_declaration-returns-in-Type-clause-made : goal.items::read_declaration-returns-in-Type-clause-made
 items::read_declaration-returns-in-Type-clause-made t c = λ importing so_far imports start held none.
-    let items = declaration_items c.args.making.now.config.now (outer_marked c.args.scopes.now) (own_marked c.args.scopes.now) in
-    let reads = subst (λ i. ReadsAmong items c.args.u.now i c.read_declaration_item.new.u) c.in-Type.is c.read_declaration_item.ensures.reads in
     IfOk-weaker c.read_type_decl.result _ _
-    (λ d m. made_type none reads m.1 m.2) c.read_type_decl.ensures.made
+    (λ d m. made_type none (rw c.in-Type.is at c.read_declaration_item.ensures.reads) m.1 m.2) c.read_type_decl.ensures.made
 
 pub items::read_declaration-returns-in-Alias-clause-names : goal.items::read_declaration-returns-in-Alias-clause-names
 items::read_declaration-returns-in-Alias-clause-names t c =

@@ -1,8 +1,7 @@
-use Rattle.std.proofs.Common.{arith, ◌≡◌, None, Some, true, sym, subst}
-use Rattle.smith_component.specs.Building.{Building, open_of}
+use Rattle.std.proofs.Common.{arith, ◌≡◌, Some, true, sym, subst}
+use Rattle.smith_component.specs.Building.{Building}
 use Rattle.smith_component.specs.BuilderView.{building_of, stack_of}
-use Rattle.smith_component.specs.Steps.{next_of, step_of, IsStep, IsTurn, SoundUnlessDone}
-use Rattle.smith_component.specs.Runs.{Falls}
+use Rattle.smith_component.specs.Steps.{next_of, step_of, IsTurn, SoundUnlessDone}
 use Rattle.smith_component.specs.Turn.{Turn}
 use Rattle.smith_component.proofs.Finishing.{refused}
 use Rattle.smith_component.proofs.Refusals.{never_minimum}
@@ -21,8 +20,7 @@ pub returns-in-Some-clause-steps : goal.returns-in-Some-clause-steps
 returns-in-Some-clause-steps c =
     let b = c.self.inside.progress in
     let turn = subst (λ d. IsTurn (building_of b) c.args.u.now (step_of c.turn.new.self d) c.turn.new.u) c.in-Some.is c.in_ok-done.ensures.steps in
-    let step = step_of c.turn.new.self (Some c.in-Some.component) in
-    subst (λ v. IsStep v c.args.u.now step c.turn.new.u) c.self.view_is (step_after (building_of b) c.args.u.now step c.turn.new.u c.self.invariant.so_far turn)
+    rw (← c.self.view_is) (step_after (building_of b) c.args.u.now _ c.turn.new.u c.self.invariant.so_far turn)
 
 pub returns-in-Some-clause-validates : goal.returns-in-Some-clause-validates
 returns-in-Some-clause-validates c valid =
@@ -47,5 +45,4 @@ returns-in-None-clause-falls c =
     let b = c.self.inside.progress in
     let turn = subst (λ d. Turn b.config (stack_of b) c.args.u.now (next_of (step_of c.turn.new.self d)) c.turn.new.u) c.in-None.is
     c.in_ok-done.ensures.steps.turn in
-    let F : Building → Type 0 = λ v. Falls v.config c.args.u.now (open_of v) c.turn.new.u (next_of (step_of c.turn.new.self None)) in
-    subst F c.self.view_is (falls _ _ _ _ _ (open_few b.config (stack_of b) c.self.invariant.sound.0.sound) turn)
+    rw (← c.self.view_is) (falls _ _ _ _ _ (open_few b.config (stack_of b) c.self.invariant.sound.0.sound) turn)

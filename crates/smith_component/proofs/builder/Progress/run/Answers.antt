@@ -34,8 +34,7 @@ loop-done-smaller c =
     c.in_ok-done.ensures.steps.turn in
     let fewer : todo b.config c.turn.new.u (stack_of c.turn.new.self) + 1 ≤ todo b.config c.loop-done.u (stack_of b) =
     falls _ _ _ _ _ (open_few b.config (stack_of b) i.sound.0.sound) turn in
-    let same = subst (λ f. todo f c.turn.new.u (stack_of c.turn.new.self) + 1 ≤ todo f c.loop-done.u (stack_of b)) i.config fewer in
-    omega (arith, same)
+    rw (← i.config) (omega (arith, fewer))
 
 pub returns-in-Some-clause-run : goal.returns-in-Some-clause-run
 returns-in-Some-clause-run c = grind (arith, reached_answer)

@@ -1,18 +1,15 @@
-use Rattle.std.proofs.Common.{◌≡◌, subst, sym, ap}
+use Rattle.std.proofs.Common.{◌≡◌, subst, sym}
 use Rattle.std.specs.Prelude.{OnOk}
 use Rattle.smith_read.specs.PartNodes.{shown_import_node}
 use Rattle.smith_scopes.specs.NodeScopes.{outer_marked_in, own_marked_in}
 use Rattle.smith_syntax.specs.Marked.{Marked}
 use Rattle.smith_script.specs.Preceding.{after_import, preceding}
-use Rattle.smith_tree.specs.TypeScript.{script_extern}
-use Rattle.smith_script_types.specs.Says.{IsUnsaid}
 use Rattle.smith_script_types.proofs.Saying.{gives_up, unsaid_right}
 use Rattle.smith_script.proofs.rows.ImportNodeRow.say.Goals as goal
 
 pub returns-in_err-say_extern-clause-said : goal.returns-in_err-say_extern-clause-said
 returns-in_err-say_extern-clause-said c =
-    gives_up _ _ _ _ c.from_residual-in_err-say_extern.ensures.1 (unsaid_right _
-    (subst (IsUnsaid _) (ap (script_extern c.args.given.config.now c.args.here.now.imports) c.deref.ensures) (c.in_err-say_extern.ensures {u = tt})))
+    gives_up _ _ _ _ c.from_residual-in_err-say_extern.ensures.1 (unsaid_right _ (rw c.deref.ensures at (c.in_err-say_extern.ensures {u = tt})))
 
 pub returns-clause-added : goal.returns-clause-added
 returns-clause-added c =

@@ -1,7 +1,4 @@
-use Rattle.std.proofs.Common.{◌∷◌, [], ◌++◌, ap, subst, sym, ◌∙◌, Some}
-use Rattle.std.specs.HashMap.{get}
-use Rattle.smith_syntax.specs.SameSignature.{same_signature}
-use Rattle.smith_script.specs.Equals.{Follows, same_row, with_index}
+use Rattle.std.proofs.Common.{◌∷◌, [], ◌++◌, ap, ◌∙◌}
 use Rattle.smith_script.proofs.Noted.{as_before, pushed_function, pushed_other}
 use Rattle.smith_script.proofs.types.Types.push.Goals as goal
 use Rattle.smith_script.proofs.types.Types.push.Goals.{in-Some+in_ok-number-in-Some, in-None}
@@ -17,12 +14,9 @@ invariant_of-self-2 c =
           let rows = c.push_reserved-2.ensures.items ∙ (ap (λ s. s.row_of.items ++ number ∷ []) w.self-inside-is
           ∙ ap (λ es. es ++ number ∷ []) (c.in_ok-reserve-2.ensures {u = tt}).items) in
           let noted = w.in_ok-number-in-Some.ensures {u = tt} in
-          let f = w.in-Some.func.now in
           pushed_function c.self.inside.types.items c.self.inside.row_of.items c.self.invariant c.len-index.result at c.args.ty c.push_reserved.new.self.items
-          types number c.push_reserved-2.new.self.items rows f w.in-Some.ensures
-          (subst (λ s. Follows (with_index f c.len-index.result) c.self.inside.numbers s.numbers c.self.inside.rows.items s.rows.items)
-          (sym w.self-inside-is) noted.ok)
-          (ap (λ s. get same_signature s.numbers f) w.self-inside-is ∙ (noted.number ∙ ap Some (sym w.number-is)))
+          types number c.push_reserved-2.new.self.items rows w.in-Some.func.now w.in-Some.ensures (rw w.self-inside-is noted.ok)
+          (rw (w.self-inside-is, w.number-is) noted.number)
       | in-None w ↦
           let types = c.push_reserved.ensures.items ∙ (ap (λ s. s.types.items ++ c.args.ty ∷ []) w.self-inside-is
           ∙ ap (λ es. es ++ c.args.ty ∷ []) (c.in_ok-reserve.ensures {u = tt}).items) in
@@ -30,6 +24,5 @@ invariant_of-self-2 c =
           ∙ ap (λ es. es ++ number ∷ []) (c.in_ok-reserve-2.ensures {u = tt}).items) in
           pushed_other c.self.inside.types.items c.self.inside.row_of.items c.self.invariant c.len-index.result at c.args.ty c.push_reserved.new.self.items
           types number c.push_reserved-2.new.self.items rows w.in-None.ensures
-          (subst (λ s. Follows same_row c.self.inside.numbers s.numbers c.self.inside.rows.items s.rows.items) (sym w.self-inside-is)
-          (as_before c.self.inside.numbers c.self.inside.rows.items c.self.invariant.numbered))
+          (rw w.self-inside-is (as_before c.self.inside.numbers c.self.inside.rows.items c.self.invariant.numbered))
     ]

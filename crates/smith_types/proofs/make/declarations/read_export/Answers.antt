@@ -1,6 +1,4 @@
-use Rattle.std.proofs.Common.{◌≡◌, List, [], ◌++◌, refl, sym, subst, true, false}
-use Rattle.smith_tree.specs.TypeOffers.{uncounted}
-use Rattle.smith_types.specs.References.{MaybeRef}
+use Rattle.std.proofs.Common.{◌≡◌, List, [], ◌++◌, refl, sym, subst}
 use Rattle.smith_syntax.specs.Entries.{FullDecl}
 use Rattle.smith_syntax.specs.WellFormed.{export_of, import_of}
 use Rattle.smith_syntax.proofs.Shown.{instance_export}
@@ -13,16 +11,16 @@ use Rattle.smith_types.proofs.make.declarations.read_export.Goals as goal
 
 pub unreachable-requires : goal.unreachable-requires
 unreachable-requires c = export_possible c.args.making.now.config.now (own_marked c.args.scopes.now) c.requires.possible
-    (subst (λ r. MaybeRef c.args.making.now.config.now (own_marked c.args.scopes.now) uncounted false true c.args.u.now r c.arbitrary_type_ref.new.u) c.in_default.is c.arbitrary_type_ref.ensures.reads).0
+    (rw c.in_default.is at c.arbitrary_type_ref.ensures.reads).0
 
 pub add_exported-requires-clause-formed : goal.add_exported-requires-clause-formed
 add_exported-requires-clause-formed c = ref_formed c.args.making.now.config.now (own_marked c.args.scopes.now) _ _ _ _ c.in-Some.ty _
-    (subst (λ r. MaybeRef c.args.making.now.config.now (own_marked c.args.scopes.now) uncounted false true c.args.u.now r c.arbitrary_type_ref.new.u) c.in-Some.is c.arbitrary_type_ref.ensures.reads)
+    (rw c.in-Some.is at c.arbitrary_type_ref.ensures.reads)
 
 pub returns-clause-reads : goal.returns-clause-reads
 returns-clause-reads c = λ so_far held.
     export_read c.args.making.now.config.now (own_marked c.args.scopes.now) so_far c.in-Some.ty _ _ _ _ _
-    (subst (λ r. MaybeRef c.args.making.now.config.now (own_marked c.args.scopes.now) uncounted false true c.args.u.now r c.arbitrary_type_ref.new.u) c.in-Some.is c.arbitrary_type_ref.ensures.reads)
+    (rw c.in-Some.is at c.arbitrary_type_ref.ensures.reads)
     (c.in_ok-name.ensures.reads so_far held) (instance_export _ _ _)
 
 pub returns-clause-names : goal.returns-clause-names

@@ -1,5 +1,4 @@
-use Rattle.std.proofs.Common.{map, ap, subst}
-use Rattle.smith_scopes.specs.Scopes.{own_marked}
+use Rattle.std.proofs.Common.{map, ap}
 use Rattle.smith_input.proofs.Loops.{stops, ends_early, goes_on, ends_full}
 use Rattle.smith_input.proofs.Reading.{tail_same, tail_trans, more_tail}
 use Rattle.smith_scopes.proofs.Plain.{pushed}
@@ -22,8 +21,7 @@ loop-done-preserved g c =
     let so_far = map shown c.loop-done.members.items in
     let x = shown c.in_ok-member.member in
     let next = pushed shown c.loop-done.members.items c.push.new.self.items c.in_ok-member.member c.in_ok-push.ensures.items in
-    let Member = g.M.Member.reads_member c.args.making.now.config.now (own_marked c.args.scopes.now) in
-    let read = subst (λ xs. Member (map shown xs) c.more_of.new.self x c.read.new.u) c.deref.ensures.value c.in_ok-member.ensures.read in
+    let read = rw c.deref.ensures.value at c.in_ok-member.ensures.read in
     record {
       tail = tail_trans c.in_ok-member.ensures.input.tail (tail_trans (more_tail c.more_of.ensures) c.loop-done.invariant.tail);
       onward = goes_on _ _ _ _ _ _ _ so_far _ x _ _ _ _ _ _ _ c.if-not-more_of.false c.more_of.ensures

@@ -1,9 +1,6 @@
-use Rattle.std.proofs.Common.{◌≡◌, ◌∷◌, ◌++◌, [], true, subst, ap, ◌∙◌, refl, arith}
-use Rattle.smith_syntax.specs.Entries.{Signature, function}
-use Rattle.smith_syntax.specs.Marked.{mark}
+use Rattle.std.proofs.Common.{◌∷◌, ◌++◌, [], subst, ap, ◌∙◌, refl, arith}
 use Rattle.smith_syntax.specs.Shown.{shown_type}
-use Rattle.smith_syntax.specs.declared.marks.Mark.{Mark}
-use Rattle.smith_scopes.specs.Scopes.{last_of, outer_marked, own_marked, own_scope}
+use Rattle.smith_scopes.specs.Scopes.{own_scope}
 use Rattle.smith_scopes.proofs.Marking.{length-changed}
 use Rattle.smith_scopes.proofs.Stack.{grown_marked, length-last}
 use Rattle.smith_types.specs.declared.make.externs.ExternNames.{ExternNames}
@@ -35,18 +32,14 @@ returns-clause-drafts c =
       tables = c.add_function.new.self;
     } in
     let T : Tables → Type 0 = λ z. AddsFunction (own_scope c.push_marked.new.self) 1 z c.in_ok-func_ty.func_ty c.add_function.new.self in
-    let M : Signature → Mark = λ s. mark {N = Unit {0}} {K = Unit {0}} (function s) (own_marked d.scopes.now) (outer_marked d.scopes.now) in
     let names : Tables → ExternNames = λ t. t.imports in
     let shows = ap shown_type (c.in_ok-clone.ensures.cases ∙ c.in_ok-shared.ensures.ok) ∙ shown_function c.args.ty in
-    let held = d.scopes.now in
-    let is_mark : (last_of held).keeps ≡ true → c.function_mark-mark.result ≡ M c.args.ty.value =
-    λ keeps. c.function_mark-mark.ensures keeps ∙ ap M c.deref.ensures in
     let adds = subst T (c.push-3.ensures.tables ∙ c.push-2.ensures.tables) c.in_ok-add_function.ensures.ok in
     let ended = front_push old old mid _ (front_same old old refl refl) c.in_ok-push-2.ensures.items refl (ap names c.push-2.ensures.tables) in
     record {
       draft = λ around held. define_draft d around held c.push_marked.new.self new c.push-4.new.self.items
           c.args.core_func_index c.in_ok-func_ty.func_ty c.args.ty.value c.in_ok-clone.field-0.value c.function_mark-mark.result
-          shows c.in_ok-func_ty.ensures.ok is_mark (returns-clause-defines c) c.in_ok-func_ty.ensures.index
+          shows c.in_ok-func_ty.ensures.ok (rw c.deref.ensures at c.function_mark-mark.ensures) (returns-clause-defines c) c.in_ok-func_ty.ensures.index
           adds;
       front = front_push old mid new _ ended c.in_ok-push-3.ensures.items refl
           (c.in_ok-add_function.ensures.ok.imports ∙ ap names c.push-3.ensures.tables);
