@@ -48,12 +48,16 @@ typedef struct Memory {
 
 #define MEMORY_OF(pointer) {pointer, sizeof *(pointer)}
 
-static int is_there(Memory it) { return it.len <= PTRDIFF_MAX && (it.at || !it.len); }
+static uintptr_t start_of(Memory it) { return (uintptr_t)it.at; }
 
-/* Whether no byte is in both. The differences wrap around, so that no branch depends on which is first. */
+static uintptr_t end_of(Memory it) { return (uintptr_t)it.at + it.len; }
+
+/* No memory that is there wraps around. */
+static int is_there(Memory it) { return it.len <= PTRDIFF_MAX && end_of(it) >= start_of(it) && (it.at || !it.len); }
+
+/* Whether no byte is in both. */
 static int is_apart(Memory one, Memory other) {
-    uintptr_t a = (uintptr_t)one.at, b = (uintptr_t)other.at;
-    return (b - a >= one.len && a - b >= other.len) || !one.len || !other.len;
+    return end_of(one) <= start_of(other) || end_of(other) <= start_of(one) || !one.len || !other.len;
 }
 
 /* Whether what is written is apart from what is read, and from what else is written. */
@@ -216,9 +220,22 @@ static Tried tried(void *block) {
     return it;
 }
 
-Tried rattle_alloc(size_t size, size_t alignment) {
+/* What rattle_alloc does if nothing is lent, if no byte is wanted, or if what is lent has no room. */
+static Tried alloc_otherwise(size_t size, size_t alignment) {
     if (!size) size = alignment;
     return tried(lent.next ? set_last(lent.next, size) : malloc(size));
+}
+
+/* One comparison says whether it is not the usual case: it wraps around for no bytes, and no room is left if nothing is
+ * lent. */
+Tried rattle_alloc(size_t size, size_t alignment) {
+    uintptr_t block = lent.next;
+    size_t span = aligned(size);
+    Tried it = {1, (void *)block};
+    if (__builtin_expect(span - 1 >= lent.end - block, 0)) return alloc_otherwise(size, alignment);
+    lent.last = block;
+    lent.next = block + span;
+    return it;
 }
 
 Tried rattle_realloc(void *block, size_t kept, size_t size, size_t alignment) {
@@ -232,6 +249,40 @@ void rattle_dealloc(void *block) {
         free(block);
     else if ((uintptr_t)block == lent.last)
         lent.next = lent.last;
+}
+
+/* Moves that many bytes at the start and that many at the end, which may have some in common: all are read first. */
+static inline void move_ends(uint8_t *to, const uint8_t *from, size_t len, size_t each) {
+    uint8_t start[16], end[16];
+    memcpy(start, from, each);
+    memcpy(end, from + len - each, each);
+    memcpy(to, start, each);
+    memcpy(to + len - each, end, each);
+}
+
+/* Moves one to three bytes: the first, the middle and the last, some of which may be the same. */
+static inline void move_few(uint8_t *to, const uint8_t *from, size_t len) {
+    uint8_t first = from[0], middle = from[len / 2], last = from[len - 1];
+    to[0] = first;
+    to[len / 2] = middle;
+    to[len - 1] = last;
+}
+
+/* What the proved functions call in place of memmove, which takes longer over the few bytes that they mostly move. If
+ * nothing is lent it is called all the same, so that a sanitizer sees it. */
+void *lupinanon_move(void *to, const void *from, size_t len);
+
+void *lupinanon_move(void *to, const void *from, size_t len) {
+    if (len > 32 || !lent.next) return memmove(to, from, len);
+    if (len >= 16)
+        move_ends(to, from, len, 16);
+    else if (len >= 8)
+        move_ends(to, from, len, 8);
+    else if (len >= 4)
+        move_ends(to, from, len, 4);
+    else if (len)
+        move_few(to, from, len);
+    return to;
 }
 
 /* Whether memory can be lent: it is there, and apart from all else that is passed. If not, the function without lent
@@ -317,8 +368,9 @@ int32_t lupinanon_swarm_limits(LupinanonLimits *limits, const uint8_t *input, si
     return status;
 }
 
-int32_t lupinanon_generate_into(const LupinanonLimits *limits, const uint8_t *input, size_t input_len, uint8_t *output,
-                                size_t output_len, size_t *bytes_len, size_t *left) {
+/* lupinanon_generate_into, for lupinanon_generate_in to have within it: no exported function is inlined. */
+static inline int32_t generate_into(const LupinanonLimits *limits, const uint8_t *input, size_t input_len,
+                                    uint8_t *output, size_t output_len, size_t *bytes_len, size_t *left) {
     LupinanonLimits room;
     uint8_t nothing = 0;
     size_t not_needed;
@@ -333,6 +385,11 @@ int32_t lupinanon_generate_into(const LupinanonLimits *limits, const uint8_t *in
     if (!limits) return LUPINANON_BAD_ARGUMENT;
     return lupinanon_proved_generate_into(WITHOUT_SIZE(limits), input ? input : &nothing, input_len,
                                           output ? output : &nothing, output_len, bytes_len, left);
+}
+
+int32_t lupinanon_generate_into(const LupinanonLimits *limits, const uint8_t *input, size_t input_len, uint8_t *output,
+                                size_t output_len, size_t *bytes_len, size_t *left) {
+    return generate_into(limits, input, input_len, output, output_len, bytes_len, left);
 }
 
 int32_t lupinanon_generate(const LupinanonLimits *limits, const uint8_t *input, size_t input_len, uint8_t **bytes,
@@ -379,7 +436,7 @@ int32_t lupinanon_generate_in(const LupinanonLimits *limits, const uint8_t *inpu
     Lent before;
     if (!may_lend(own, others, 5)) return lupinanon_generate_into(NULL, NULL, 0, NULL, 0, bytes_len, left);
     before = lend(own);
-    status = lupinanon_generate_into(limits, input, input_len, output, output_len, bytes_len, left);
+    status = generate_into(limits, input, input_len, output, output_len, bytes_len, left);
     lent = before;
     return status;
 }

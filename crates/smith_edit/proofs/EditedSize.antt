@@ -1,6 +1,6 @@
 -- What is edited has no more bytes, and fewer items if one of them is removed.
-use Rattle.std.proofs.Common.{◌≡◌, ℕ, ◌+◌, ◌^◌, ◌<◌, ◌≤◌, Bool, true, false, List, [], ◌∷◌, ◌++◌, Option, None, Some, length, length-append, ap}
-use Rattle.std.proofs.Common.{sym, refl, subst, ◌∙◌, arith, nat_lt, ⊎_elim}
+use Rattle.std.proofs.Common.{◌≡◌, ℕ, ◌+◌, ◌<◌, ◌≤◌, Bool, true, false, List, [], ◌∷◌, ◌++◌, Option, None, Some, length, length-append, ap}
+use Rattle.std.proofs.Common.{sym, refl, subst, arith, nat_lt}
 use Rattle.std.proofs.lemmas.Bool.{cases_lt}
 use Rattle.std.proofs.lemmas.Bool.Decides.{nat_tests}
 use Rattle.std.proofs.lemmas.Option.{cond_some}
@@ -38,7 +38,7 @@ use Rattle.smith_edit.specs.Removal.{inside, past, removes}
 use Rattle.smith_edit.specs.Renumbering.{Renumbering}
 use Rattle.smith_edit.specs.Walk.{Walk, entered, new_scope, skipped}
 use Rattle.smith_edit.specs.declared.walk.Removal.{Removal}
-use Rattle.smith_edit.specs.declared.walk.Removal.TheVariants.{Item}
+use Rattle.smith_edit.specs.declared.walk.Removal.TheVariants.{Items}
 use Rattle.smith_edit.specs.declared.walk.Scope.{Scope}
 use Rattle.smith_edit.proofs.Past.{plain_items}
 use Rattle.smith_edit.proofs.Shorter.{both_fewer, hit, hits, hits_inside, hits_most, hits_sum, left_is, members_fewer, optional_fewer}
@@ -378,9 +378,9 @@ mutual
       section_less w.removal (removes w.removal) refl p (part_edited p (within w)) t (tree_edited t (after_section w p))
       (part_less p (within w) (record { own = l.own; outer = l.outer })) (tree_less t (after_section w p) (section_low w l p))
 
-without_less : (k : ℕ) (t less : Tree) → without k t ≡ Some less → (k < tree_items t) × Less component_text tree_items (Item k) t less
+without_less : (k : ℕ) (t less : Tree) → without k t ≡ Some less → (k < tree_items t) × Less component_text tree_items (Items k k) t less
 without_less k t less e =
-    let w : Walk = record { removal = Item k; own = new_scope; outer = [] } in
+    let w : Walk = record { removal = Items k k; own = new_scope; outer = [] } in
     let (there, is) = cond_some (nat_lt k (tree_items t)) (tree_edited t w) less e in
     let h = tree_less t w (record { own = low_new; outer = no_scope }) in
     (grind (arith, nat_tests, there), rw (sym is) (after (bytes preamble) _ _ h.0, h.1))

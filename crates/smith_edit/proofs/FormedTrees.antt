@@ -4,14 +4,13 @@ use Rattle.std.proofs.Common.{◌∙◌, nat_lt}
 use Rattle.std.proofs.lemmas.Grind.{flat_map-append}
 use Rattle.std.proofs.lemmas.List.{map-append}
 use Rattle.std.proofs.lemmas.Option.{cond_some}
-use Rattle.std.proofs.lemmas.List.Sums.{fold-append}
 use Rattle.std.specs.Prelude.{if◌then◌else◌}
 use Rattle.std.specs.List.{AllByRecursion, flat_map}
 use Rattle.std.specs.Option.{option_to_list}
 use Rattle.smith_syntax.specs.Entries.{CoreEntry, Entry, ImportEntry}
 use Rattle.smith_syntax.specs.Scope.{Scope}
 use Rattle.smith_syntax.specs.WellFormed.{FormedCores, FormedTypes}
-use Rattle.smith_tree.specs.Spaces.{Spaces, after_canon, after_export, after_import, after_part as spaces_after, no_spaces, spaces_of}
+use Rattle.smith_tree.specs.Spaces.{Spaces, after_canon, after_export, after_import, after_part as spaces_after, spaces_of}
 use Rattle.smith_tree.specs.Tree.{ExportEntry, Part, Tree, add, ends, exports_in, exports_of, first, imports_in, imports_of, own, parts_of}
 use Rattle.smith_tree.specs.Tree as part
 use Rattle.smith_tree.specs.WellFormed.{Formed, FormedCanons, FormedExports, FormedImport, FormedPart, WellFormed, export_names, import_names, scope_of}
@@ -23,7 +22,7 @@ use Rattle.smith_edit.specs.Items.{core_items, entry_items, none_inside, tree_it
 use Rattle.smith_edit.specs.Removal.{inside, past, removes}
 use Rattle.smith_edit.specs.Renumbering.{new_index}
 use Rattle.smith_edit.specs.Walk.{Walk, entered, new_scope, skipped}
-use Rattle.smith_edit.specs.declared.walk.Removal.TheVariants.{Everything, Item}
+use Rattle.smith_edit.specs.declared.walk.Removal.TheVariants.{Everything, Items}
 use Rattle.smith_edit.specs.declared.walk.Scope.{Scope as Indexes}
 use Rattle.smith_edit.proofs.Past.{part_outer}
 use Rattle.smith_edit.proofs.FormedRows.{CanonOk, CoreOk, ExportOk, ImportOk, TypeOk, adds_core, adds_type, canons_remain, cores_remain, exports_remain}
@@ -218,6 +217,6 @@ mutual
 
 pub without_formed : (k : ℕ) (t less : Tree) → without k t ≡ Some less → WellFormed t → WellFormed less
 without_formed k t less e h =
-    let w : Walk = record { removal = Item k; own = new_scope; outer = [] } in
+    let w : Walk = record { removal = Items k k; own = new_scope; outer = [] } in
     let (there, is) = cond_some (nat_lt k (tree_items t)) (tree_edited t w) less e in
     subst WellFormed is (tree_formed t w ends ends [] [] nothing_yet no_scopes (record { of_imports = none; of_exports = none }) h)

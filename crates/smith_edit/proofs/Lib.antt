@@ -1,6 +1,9 @@
 pub mod Alike
+pub mod Covered
+pub mod CoveredRows
 pub mod EditedSize
 pub mod Editing
+pub mod FewerEntries
 pub mod Follows
 pub mod FormedCores
 pub mod FormedDecls
@@ -8,9 +11,11 @@ pub mod FormedRows
 pub mod FormedTrees
 pub mod FormedTypes
 pub mod Joining
+pub mod KeptInside
 pub mod LowIndexes
 pub mod Nested
 pub mod NewNames
+pub mod NextComponent
 pub mod Past
 pub mod Perhaps
 pub mod Places

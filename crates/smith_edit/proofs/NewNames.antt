@@ -1,5 +1,5 @@
 -- Names that are known, and names that are new.
-use Rattle.std.proofs.Common.{◌≡◌, ℕ, zero, suc, ◌+◌, ◌-◌, ◌<◌, ◌≤◌, ◌||◌, Bool, true, false, bytes_eq, cond, List, [], ◌∷◌, ◌++◌, append_assoc}
+use Rattle.std.proofs.Common.{◌≡◌, ℕ, zero, suc, ◌+◌, ◌-◌, ◌<◌, ◌≤◌, ◌||◌, Bool, true, false, bytes_eq, List, [], ◌∷◌, ◌++◌, append_assoc}
 use Rattle.std.proofs.Common.{length, append-nil, length-append, drop, get_or, map, refl, string_bytes, sym, ap, ◌∙◌, arith, nat_lt, ⊎_elim, ◌/◌, ◌%◌}
 use Rattle.std.proofs.lemmas.List.{map-append}
 use Rattle.std.specs.BTreeSet.{BTreeSet, UpdatesBy, contains_text}

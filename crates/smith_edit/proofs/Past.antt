@@ -3,14 +3,12 @@ use Rattle.std.proofs.Common.{◌≡◌, ℕ, ◌+◌, ◌-◌, ◌<◌, ◌≤�
 use Rattle.std.proofs.Common.{◌∷◌, Option, length}
 use Rattle.std.proofs.lemmas.Bool.{cases_lt, eqb-true, ltb-false}
 use Rattle.std.proofs.lemmas.Bool.Decides.{nat_tests}
-use Rattle.std.specs.Prelude.{if◌then◌else◌}
 use Rattle.smith_tree.specs.Tree.{Part}
 use Rattle.smith_read.proofs.PartNodes.{shown_canons, shown_core_types, shown_custom, shown_exports, shown_imports, shown_module, shown_nested}
 use Rattle.smith_read.proofs.PartNodes.{shown_types}
-use Rattle.smith_read.proofs.Seeking.{pass_both, pass_more}
 use Rattle.smith_edit.specs.Removal.{inside, past, removes}
 use Rattle.smith_edit.specs.declared.walk.Removal.{Removal}
-use Rattle.smith_edit.specs.declared.walk.Removal.TheVariants.{Nothing, Item, Everything}
+use Rattle.smith_edit.specs.declared.walk.Removal.TheVariants.{Nothing, Items, Everything}
 use Rattle.smith_edit.specs.Edited.{after_canon, after_core, after_export, after_import, after_type, canon_edited, core_row, export_edited}
 use Rattle.smith_edit.specs.Edited.{import_edited, type_row, after_one, after_part, after_rows, after_section, within}
 use Rattle.smith_edit.specs.Items.{core_items, entry_items, none_inside, part_items, row_items}
@@ -20,15 +18,32 @@ use Rattle.smith_tree.specs.Tree as part
 
 pub past_none : (r : Removal) → past 0 r ≡ r
 past_none Nothing = refl
-past_none (Item m) = search rules
+past_none (Items f l) = search rules
 past_none Everything = refl
 
-pub past_more : (n m : ℕ) → n ≤ m → past n (Item m) ≡ Item (m - n)
-past_more = pass_more Nothing Item past (λ n m. refl) (λ n. refl)
+pub past_less : (n f l : ℕ) → l < n → past n (Items f l) ≡ Nothing
+past_less n f l h = let t : nat_lt l n ≡ true = grind (arith, nat_tests) in rw t refl
+
+pub past_more : (n f l : ℕ) → n ≤ l → past n (Items f l) ≡ Items (f - n) (l - n)
+past_more n f l h = let t : nat_lt l n ≡ false = grind (arith, nat_tests) in rw t refl
+
+past_both : (a b f l : ℕ) → b ≤ l → past a (Items (f - b) (l - b)) ≡ past (b + a) (Items f l)
+past_both a b f l h =
+    ⊎_elim
+    (λ lt. past_less a (f - b) (l - b) lt ∙ sym (past_less (b + a) f l (omega arith)))
+    (λ ge.
+    let of_first : f - b - a ≡ f - (b + a) = omega arith in
+    let of_last : l - b - a ≡ l - (b + a) = omega arith in
+    past_more a (f - b) (l - b) ge ∙ rw (of_first, of_last) (sym (past_more (b + a) f l (omega arith))))
+    (cases_lt (l - b) a)
 
 pub past_past : (a b : ℕ) (r : Removal) → past a (past b r) ≡ past (b + a) r
 past_past a b Nothing = refl
-past_past a b (Item m) = pass_both Nothing Item past (λ n k. refl) (λ n. refl) a b m
+past_past a b (Items f l) =
+    ⊎_elim
+    (λ lt. ap (past a) (past_less b f l lt) ∙ sym (past_less (b + a) f l (omega arith)))
+    (λ ge. ap (past a) (past_more b f l ge) ∙ past_both a b f l ge)
+    (cases_lt l b)
 past_past a b Everything = refl
 
 pub past_step : (r : Removal) (n : ℕ) → past n (past 1 r) ≡ past (n + 1) r
@@ -36,32 +51,32 @@ past_step r n = past_past n 1 r ∙ (let c : 1 + n ≡ n + 1 = omega arith in ap
 
 -- by their numbers
 
-pub removed_by_number : (k n : ℕ) → removes (past n (Item k)) ≡ true → k ≡ n
+pub removed_by_number : (k n : ℕ) → removes (past n (Items k k)) ≡ true → k ≡ n
 removed_by_number k n e = go (nat_lt k n) refl e
   where
-    go : (b : Bool) → nat_lt k n ≡ b → removes (cond b Nothing (Item (k - n))) ≡ true → k ≡ n
+    go : (b : Bool) → nat_lt k n ≡ b → removes (cond b Nothing (Items (k - n) (k - n))) ≡ true → k ≡ n
     go true i e = absurd cc
     go false i e = let same = eqb-true (k - n) 0 e in omega (arith, same, ltb-false k n i)
 
 pub removed_inside : (r : Removal) → inside r ≡ Everything → removes r ≡ true
 removed_inside Nothing e = absurd cc
 removed_inside Everything e = refl
-removed_inside (Item k) e = go (eqb k 0) refl e
+removed_inside (Items f l) e = go (eqb f 0) refl e
   where
-    later : (d : Bool) → cond d Nothing (Item (k - 1)) ≡ Everything → removes (Item k) ≡ true
+    later : (d : Bool) → cond d Nothing (Items (f - 1) (l - 1)) ≡ Everything → removes (Items f l) ≡ true
     later true e = absurd cc
     later false e = absurd cc
 
-    go : (b : Bool) → eqb k 0 ≡ b → cond b Everything (past 1 (Item k)) ≡ Everything → removes (Item k) ≡ true
+    go : (b : Bool) → eqb f 0 ≡ b → cond b Everything (past 1 (Items f l)) ≡ Everything → removes (Items f l) ≡ true
     go true i e = i
-    go false i e = later (nat_lt k 1) e
+    go false i e = later (nat_lt l 1) e
 
 pub removed_after : (n : ℕ) (r : Removal) → past n r ≡ Everything → r ≡ Everything
 removed_after n Nothing e = absurd cc
 removed_after n Everything e = refl
-removed_after n (Item k) e = go (nat_lt k n) e
+removed_after n (Items f l) e = go (nat_lt l n) e
   where
-    go : (b : Bool) → cond b Nothing (Item (k - n)) ≡ Everything → Item k ≡ Everything
+    go : (b : Bool) → cond b Nothing (Items (f - n) (l - n)) ≡ Everything → Items f l ≡ Everything
     go true e = absurd cc
     go false e = absurd cc
 

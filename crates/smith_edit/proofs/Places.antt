@@ -1,14 +1,10 @@
 -- The index spaces at a place in a component, and what they become.
-use Rattle.std.proofs.Common.{◌≡◌, ℕ, true, ◌&&◌, List, [], ◌∷◌, ◌++◌, Option, None, Some, length, map, ap, sym, refl, subst, ◌∙◌, arith}
+use Rattle.std.proofs.Common.{◌≡◌, ℕ, true, ◌&&◌, List, [], ◌∷◌, ◌++◌, Option, Some, length, ap, sym, refl, subst, ◌∙◌}
 use Rattle.std.specs.Prelude.{slice_get}
-use Rattle.std.specs.List.{list_all}
-use Rattle.std.specs.Option.{is_some, option_to_list}
 use Rattle.smith_format.specs.CoreTypes.{Function}
-use Rattle.smith_format.specs.declared.types.ValType.{ValType}
-use Rattle.smith_syntax.specs.Entries.{CoreEntry, Entry, Field, Signature, function}
-use Rattle.smith_syntax.specs.Flat.{Flattens, flat_value, is_scalar, is_scalar_result}
+use Rattle.smith_syntax.specs.Entries.{CoreEntry, Entry, Signature, function}
+use Rattle.smith_syntax.specs.Flat.{Flattens, is_scalar, is_scalar_result}
 use Rattle.smith_syntax.specs.Scope.{Scope}
-use Rattle.smith_syntax.specs.declared.types.ComponentValType.{ComponentValType}
 use Rattle.smith_tree.specs.Spaces.{Spaces, no_spaces}
 use Rattle.smith_tree.specs.WellFormed.{HasSignature}
 use Rattle.smith_edit.specs.Renumbering.{Renumbering, index_kept, kept_index, with_entry}

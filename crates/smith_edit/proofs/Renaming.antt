@@ -1,6 +1,6 @@
 -- What has a name, renamed.
 use Rattle.std.proofs.Common.{◌≡◌, ℕ, zero, suc, ◌<◌, ◌≤◌, true, List, [], ◌∷◌, Option, None, Some, get_or, map, length, ap, sym, refl}
-use Rattle.std.proofs.Common.{◌∙◌, arith, ⊎_elim}
+use Rattle.std.proofs.Common.{◌∙◌, arith}
 use Rattle.std.specs.Prelude.{slice_set}
 use Rattle.std.proofs.lemmas.Bool.{cases_lt}
 use Rattle.std.specs.Option.{is_some, option_map, option_to_list}

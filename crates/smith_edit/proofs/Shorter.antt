@@ -14,48 +14,63 @@ use Rattle.smith_edit.specs.Edited.{left_of, members, optional_edited, value_edi
 use Rattle.smith_edit.specs.Removal.{past, removes}
 use Rattle.smith_edit.specs.Renumbering.{Renumbering}
 use Rattle.smith_edit.specs.declared.walk.Removal.{Removal}
-use Rattle.smith_edit.specs.declared.walk.Removal.TheVariants.{Nothing, Item, Everything}
+use Rattle.smith_edit.specs.declared.walk.Removal.TheVariants.{Nothing, Items, Everything}
 use Rattle.smith_edit.proofs.Past.{past_more}
 use Rattle.smith_edit.proofs.Perhaps.{Perhaps, gives, nothing, either}
 
 -- how many are removed of that many items from here on, at least
 abbrev pub hits : Removal → ℕ → ℕ
 hits Nothing n = 0
-hits (Item m) n = if nat_lt m n then 1 else 0
+hits (Items f l) n = (if nat_lt l n then l + 1 else n) - f
 hits Everything n = 0
 
-pub hit : (m n : ℕ) → m < n → hits (Item m) n ≡ 1
-hit m n h = let t : nat_lt m n ≡ true = grind (arith, nat_tests) in rw t refl
+hits_all : (f l n : ℕ) → l < n → hits (Items f l) n ≡ l + 1 - f
+hits_all f l n h = let t : nat_lt l n ≡ true = grind (arith, nat_tests) in rw t refl
 
-missed : (m n : ℕ) → n ≤ m → hits (Item m) n ≡ 0
-missed m n h = let t : nat_lt m n ≡ false = grind (arith, nat_tests) in rw t refl
+hits_some : (f l n : ℕ) → n ≤ l → hits (Items f l) n ≡ n - f
+hits_some f l n h = let t : nat_lt l n ≡ false = grind (arith, nat_tests) in rw t refl
+
+pub hit : (m n : ℕ) → m < n → hits (Items m m) n ≡ 1
+hit m n h = omega (arith, hits_all m m n h)
 
 pub hits_most : (r : Removal) (n : ℕ) → hits r n ≤ n
 hits_most Nothing n = omega arith
-hits_most (Item m) n = ⊎_elim (λ lt. rw (hit m n lt) (omega arith)) (λ ge. rw (missed m n ge) (omega arith)) (cases_lt m n)
+hits_most (Items f l) n = ⊎_elim (λ lt. omega (arith, lt, hits_all f l n lt)) (λ ge. omega (arith, hits_some f l n ge)) (cases_lt l n)
 hits_most Everything n = omega arith
 
-hits_there : (m a b : ℕ) → a ≤ m → m < a + b → hits (Item m) (a + b) ≤ hits (Item m) a + hits (past a (Item m)) b
-hits_there m a b ge lt = grind (arith, past_more, hit)
+hits_before : (f l a b : ℕ) → l < a → hits (Items f l) (a + b) ≤ hits (Items f l) a + hits (past a (Items f l)) b
+hits_before f l a b lt = let more : l < a + b = omega (arith, lt) in omega (arith, hits_all f l (a + b) more, hits_all f l a lt)
 
-hits_later : (m a b : ℕ) → a + b ≤ m → hits (Item m) (a + b) ≤ hits (Item m) a + hits (past a (Item m)) b
-hits_later m a b ge = rw (missed m (a + b) ge) (omega arith)
+hits_between : (f l a b : ℕ) → a ≤ l → l < a + b → hits (Items f l) (a + b) ≤ hits (Items f l) a + hits (past a (Items f l)) b
+hits_between f l a b ge lt =
+    let less : l - a < b = omega (arith, ge, lt) in
+    rw (past_more a f l ge) (omega (arith, ge, lt, hits_all f l (a + b) lt, hits_some f l a ge, hits_all (f - a) (l - a) b less))
 
-hits_here : (m a b : ℕ) → m < a → hits (Item m) (a + b) ≤ hits (Item m) a + hits (past a (Item m)) b
-hits_here m a b lt = let more : m < a + b = omega (arith, lt) in rw (hit m (a + b) more, hit m a lt) (omega arith)
-
-hits_item : (m a b : ℕ) → hits (Item m) (a + b) ≤ hits (Item m) a + hits (past a (Item m)) b
-hits_item m a b = ⊎_elim (hits_here m a b) (λ ge. ⊎_elim (hits_there m a b ge) (hits_later m a b) (cases_lt m (a + b))) (cases_lt m a)
+hits_after : (f l a b : ℕ) → a + b ≤ l → hits (Items f l) (a + b) ≤ hits (Items f l) a + hits (past a (Items f l)) b
+hits_after f l a b ge =
+    let most : a ≤ l = omega (arith, ge) in
+    let more : b ≤ l - a = omega (arith, ge) in
+    rw (past_more a f l most) (omega (arith, ge, hits_some f l (a + b) ge, hits_some f l a most, hits_some (f - a) (l - a) b more))
 
 pub hits_sum : (r : Removal) (a b : ℕ) → hits r (a + b) ≤ hits r a + hits (past a r) b
 hits_sum Nothing a b = omega arith
-hits_sum (Item m) a b = hits_item m a b
+hits_sum (Items f l) a b =
+    ⊎_elim (hits_before f l a b) (λ ge. ⊎_elim (hits_between f l a b ge) (hits_after f l a b) (cases_lt l (a + b))) (cases_lt l a)
 hits_sum Everything a b = omega arith
+
+none_here : (f l : ℕ) → removes (Items f l) ≡ false → 1 ≤ f
+none_here f l h = grind (arith, nat_tests)
 
 -- an item that remains, and what is inside it
 pub hits_inside : (r : Removal) (n : ℕ) → removes r ≡ false → hits r (n + 1) ≤ hits (past 1 r) n
 hits_inside Nothing n h = omega arith
-hits_inside (Item m) n h = grind (arith, nat_tests, hits_item, missed)
+hits_inside (Items f l) n h =
+    let some = none_here f l h in
+    let sum = hits_sum (Items f l) 1 n in
+    let same : n + 1 ≡ 1 + n = omega arith in
+    let first : hits (Items f l) 1 ≡ 0 =
+    ⊎_elim (λ lt. omega (arith, lt, some, hits_all f l 1 lt)) (λ ge. omega (arith, some, hits_some f l 1 ge)) (cases_lt l 1) in
+    rw same (omega (arith, sum, first))
 hits_inside Everything n h = omega arith
 
 -- members

@@ -1,9 +1,8 @@
 -- Lists without some of their items.
 use Rattle.std.proofs.Common.{◌≡◌, Bool, false, bytes_eq, List, [], ◌∷◌, ◌++◌, ℕ}
 use Rattle.std.specs.List.{AllByRecursion, IsDistinct}
-use Rattle.smith_input.proofs.Rests.{drop_past, rest_at}
 use Rattle.smith_syntax.specs.WellFormed.{Named}
-use Rattle.std.proofs.Common.{zero, suc, ◌+◌, ◌<◌, ◌≤◌, Option, None, Some, append_assoc, drop, get_or, map, length, ap, sym}
+use Rattle.std.proofs.Common.{◌+◌, ◌<◌, ◌≤◌, Option, None, Some, append_assoc, drop, get_or, map, length, ap, sym}
 use Rattle.std.proofs.Common.{append-nil}
 use Rattle.std.proofs.Common.{refl, ◌∙◌, arith}
 use Rattle.std.specs.Option.{option_map, option_to_list}

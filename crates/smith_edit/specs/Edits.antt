@@ -11,12 +11,16 @@ use Rattle.smith_edit.specs.Edited.{tree_edited}
 use Rattle.smith_edit.specs.Items.{tree_items}
 use Rattle.smith_edit.specs.Renumbering.{from}
 use Rattle.smith_edit.specs.Walk.{new_scope}
-use Rattle.smith_edit.specs.declared.walk.Removal.TheVariants.{Nothing, Item}
+use Rattle.smith_edit.specs.declared.walk.Removal.TheVariants.{Nothing, Items}
 use Rattle.smith_edit.specs.declared.walk.Scope.{Scope}
 
--- the component without its k-th item and all that refers to what is removed; none if there is no k-th
+-- the component without its items from the first number on up to the last, and all that refers to what is removed
+abbrev pub without_items : ℕ → ℕ → Tree → Tree
+without_items low high t = tree_edited t (record { removal = Items low high; own = new_scope; outer = [] })
+
+-- the component without its k-th item; none if there is no k-th
 abbrev pub without : ℕ → Tree → Option Tree
-without k t = if nat_lt k (tree_items t) then Some (tree_edited t (record { removal = Item k; own = new_scope; outer = [] })) else None
+without k t = if nat_lt k (tree_items t) then Some (without_items k k t) else None
 
 -- a scope whose indexes follow a component's
 abbrev pub following : Spaces → Scope

@@ -23,7 +23,7 @@ use Rattle.smith_edit.specs.Renumbering.{Renumbering}
 use Rattle.smith_edit.specs.Shapes.{Shape, alone, cases, fields, labels, pair, shape, single, values}
 use Rattle.smith_edit.specs.Walk.{Walk, entered, new_scope, skipped}
 use Rattle.smith_edit.specs.declared.walk.Removal.{Removal}
-use Rattle.smith_edit.specs.declared.walk.Removal.TheVariants.{Item}
+use Rattle.smith_edit.specs.declared.walk.Removal.TheVariants.{Items}
 
 -- Members in their order: each is left, or is removed, or goes.
 module _ {A : Type 0} (Remains : A → A → Type 0) (Goes : A → Type 0) where
@@ -187,4 +187,4 @@ abbrev mutual
 
 -- It is what is left of the component without the k-th item.
 abbrev pub IsLeftWithout : ℕ → Tree → Tree → Type 0
-IsLeftWithout k t less = TreeRemains (record { removal = Item k; own = new_scope; outer = [] }) t less
+IsLeftWithout k t less = TreeRemains (record { removal = Items k k; own = new_scope; outer = [] }) t less

@@ -6,7 +6,7 @@ ghost use Rattle.smith_tree.specs.Tree.{exports_of, imports_of, tree_of};
 ghost use Rattle.smith_tree.specs.WellFormed.{export_names, import_names};
 ghost use Rattle.smith_read.specs.PartNodes.{shown_part_node, shown_tree};
 ghost use Rattle.smith_edit.specs.Counts.{counts_of};
-ghost use Rattle.smith_edit.specs.Edits.{joined, without};
+ghost use Rattle.smith_edit.specs.Edits.{joined, without, without_items};
 ghost use Rattle.smith_edit.specs.Names.{KnowsBoth};
 
 use crate::counts::Counts;
@@ -34,17 +34,39 @@ pub fn without(
 ) -> Result<Option<ComponentTree>, AllocError>
     ensures { IfOk result (λ r. option_map shown_tree r ≡ without k (shown_tree tree.now)) }
 {
-    let mut walk = Walk::new(alloc, Removal::Item(k), Scope::new(alloc));
+    let mut walk = Walk::new(
+        alloc,
+        Removal::Items { first: k, last: k },
+        Scope::new(alloc),
+    );
     let parts = edit_parts(&mut walk, &tree.parts)?;
     match walk.removal {
         Removal::Nothing => Ok(Some(ComponentTree { parts })),
-        Removal::Item(_) | Removal::Everything => Ok(None),
+        Removal::Items { .. } | Removal::Everything => Ok(None),
     }
 }
 
-// How many entries there are in each index space.
+/// The component without its items from the `first` number on up to the `last`, and without all that refers to what is
+/// removed, as [`without`] counts and removes one. Numbers from the number of items on remove nothing.
+///
+/// It takes time and memory in proportion to the component, and stack in proportion to its depth. `Err` is returned if
+/// an allocation fails, or if an index would exceed 4,294,967,295.
+pub fn without_items(
+    alloc: Global,
+    tree: &ComponentTree,
+    first: usize,
+    last: usize,
+) -> Result<ComponentTree, AllocError>
+    ensures { IfOk result (λ t. shown_tree t ≡ without_items first last (shown_tree tree.now)) }
+{
+    let mut walk = Walk::new(alloc, Removal::Items { first, last }, Scope::new(alloc));
+    let parts = edit_parts(&mut walk, &tree.parts)?;
+    Ok(ComponentTree { parts })
+}
+
+/// How many entries there are in each index space.
 #[tactic(auto, using(smith_input::proofs::Lists::map_dropped, crate::proofs::Joining::parts_same))]
-fn count_entries(parts: &[PartNode]) -> Result<Counts, AllocError>
+pub(crate) fn count_entries(parts: &[PartNode]) -> Result<Counts, AllocError>
     ensures { IfOk result (λ c. c ≡ counts_of (spaces_of (tree_of (map shown_part_node parts.now)))) }
 {
     let mut counts = Counts::new();

@@ -58,7 +58,7 @@ pub(crate) fn type_items(node: &TypeNode) -> Result<usize, AllocError>
 
 #[cycle(counting)]
 #[tactic(auto, using(smith_read::proofs::ShownNodes::shown_nodes))]
-fn declaration_items(node: &DeclNode) -> Result<usize, AllocError>
+pub(crate) fn declaration_items(node: &DeclNode) -> Result<usize, AllocError>
     ensures { IfOk result (λ n. n ≡ decl_items (shown_decl_node node.now)) }
 {
     match node {

@@ -1,6 +1,7 @@
 //! Laws of the edits. Each function does nothing: its contract is the law.
 
 ghost use Rattle.std.specs.Prelude.{◌≡◌, ◌<◌, ◌≤◌, ◌⊎◌, ℕ, List, None, Some, length, true};
+ghost use Rattle.smith_format.specs.declared.config.Config.{Config};
 ghost use Rattle.smith_syntax.specs.Entries.{Case, CoreEntry, Decl, Entry, Field, ImportEntry, ModuleDecl};
 ghost use Rattle.smith_syntax.specs.declared.types.ComponentValType.{ComponentValType};
 ghost use Rattle.smith_tree.specs.Grammar.{Spells};
@@ -10,17 +11,18 @@ ghost use Rattle.smith_edit.specs.Edited.{after_canon, after_core, after_decl, a
 ghost use Rattle.smith_edit.specs.Edited.{after_module_decl, after_type, canon_edited, case_edited, core_row};
 ghost use Rattle.smith_edit.specs.Edited.{decl_edited, entry_edited, export_edited, field_edited, import_edited};
 ghost use Rattle.smith_edit.specs.Edited.{module_decl_edited, optional_edited, value_edited};
-ghost use Rattle.smith_edit.specs.Edits.{joined, without};
+ghost use Rattle.smith_edit.specs.Counts.{KeepsMaxima};
+ghost use Rattle.smith_edit.specs.Edits.{joined, without, without_items};
 ghost use Rattle.smith_edit.specs.Goes.{CanonGoes, DeclGoes, EntryGoes, IsCaseGone, IsGone, IsRefGone, IsValueGone};
 ghost use Rattle.smith_edit.specs.Goes.{ModuleDeclGoes};
 ghost use Rattle.smith_edit.specs.Items.{tree_items};
 ghost use Rattle.smith_edit.specs.Remains.{IsLeftWithout};
 ghost use Rattle.smith_edit.specs.Removal.{inside, past, removes};
 ghost use Rattle.smith_edit.specs.Renumbering.{Renumbering, entry_at, with_entry};
-ghost use Rattle.smith_edit.specs.Simpler.{simplified};
+ghost use Rattle.smith_edit.specs.Simpler.{component_at, simplified};
 ghost use Rattle.smith_edit.specs.Walk.{Walk};
 ghost use Rattle.smith_edit.specs.declared.walk.Removal.{Removal};
-ghost use Rattle.smith_edit.specs.declared.walk.Removal.TheVariants.{Everything, Item};
+ghost use Rattle.smith_edit.specs.declared.walk.Removal.TheVariants.{Everything, Items};
 ghost use Rattle.smith_edit.specs.declared.renumbering.Fate.{Fate};
 ghost use Rattle.smith_edit.specs.declared.walk.Scope.{Scope};
 
@@ -41,7 +43,7 @@ pub fn other_items_remain()
 /// after it, is all removed only if the item is, or all that it is inside.
 #[tactic(auto, using(crate::proofs::Past::removed))]
 pub fn one_item_is_removed()
-    ensures one { (k n : ℕ) → removes (past n (Item k)) ≡ true → k ≡ n }
+    ensures one { (k n : ℕ) → removes (past n (Items k k)) ≡ true → k ≡ n }
     ensures inside { (r : Removal) → inside r ≡ Everything → removes r ≡ true }
     ensures after { (n : ℕ) (r : Removal) → past n r ≡ Everything → r ≡ Everything }
 {}
@@ -106,6 +108,18 @@ pub fn declarations_left_are_not_gone()
 pub fn bytes_are_no_more()
     ensures { (k : ℕ) (tree less : Tree) (bytes : List ℕ) → without k tree ≡ Some less → Spells tree bytes
         → (fewer : List ℕ) × Spells less fewer × (length fewer ≤ length bytes) }
+{}
+
+/// A component without several items keeps maxima if it keeps them without one of these.
+pub fn counts_are_no_more_without_more()
+    ensures { (config : Config) (low k high : ℕ) (tree less : Tree) → low ≤ k → k ≤ high → without k tree ≡ Some less
+        → KeepsMaxima config less → KeepsMaxima config (without_items low high tree) }
+{}
+
+/// A component keeps maxima if it does with an item made simpler that is not a component.
+pub fn counts_stay_with_simpler_items()
+    ensures { (config : Config) (k : ℕ) (tree simpler : Tree) → component_at k tree ≡ None
+        → simplified k tree ≡ Some simpler → KeepsMaxima config simpler → KeepsMaxima config tree }
 {}
 
 /// A component with an item made simpler has no more items.

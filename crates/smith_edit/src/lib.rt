@@ -7,6 +7,7 @@ mod counts;
 mod edits;
 mod items;
 pub mod laws;
+mod maxima;
 mod members;
 mod names;
 mod parts;
@@ -16,6 +17,7 @@ mod simpler;
 mod types;
 mod walk;
 
-pub use edits::{joined, without};
+pub use edits::{joined, without, without_items};
 pub use items::item_count;
-pub use simpler::simplified;
+pub use maxima::keeps_maxima;
+pub use simpler::{next_component, simplified};

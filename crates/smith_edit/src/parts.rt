@@ -15,7 +15,7 @@ ghost use Rattle.smith_edit.specs.Removal.{past, removes};
 ghost use Rattle.smith_edit.specs.Walk.{shown_walk};
 
 use crate::core_types::edit_core_type;
-use crate::items::{core_items, type_items};
+use crate::items::{core_items, part_items, type_items};
 use crate::members::signature_items;
 use crate::renumbering::Fate;
 use crate::rows::{Row, edit_rows, push_some};
@@ -231,12 +231,11 @@ fn edit_one(walk: &mut Walk, node: &PartNode) -> Result<Option<PartNode>, AllocE
     ensures walk { OnOk result (shown_walk walk.new
         ≡ after_section (shown_walk walk.old) (shown_part_node node.now)) }
 {
-    let removed = walk.removal.removes();
-    let after = walk.removal.next();
-    walk.removal = walk.removal.inside();
+    let removal = walk.removal;
+    walk.removal = removal.inside();
     let new = edit_part(walk, node)?;
-    if removed {
-        walk.removal = after;
+    if removal.removes() {
+        walk.removal = removal.after(part_items(node)?);
         return Ok(None);
     }
     Ok(Some(new))

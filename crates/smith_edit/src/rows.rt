@@ -45,12 +45,14 @@ pub(crate) fn push_some<T: Drop>(items: &mut Vec<T>, new: Option<T>) -> Result<(
 }
 
 // The entry, if it is neither removed nor refers to what is.
+#[tactic(auto, using(crate::proofs::Past::past_step))]
 fn edit_one<T: Row>(walk: &mut Walk, row: &T) -> Result<Option<T>, AllocError>
     ensures edited { IfOk result (λ r. option_map T.shown r
         ≡ one T.items T.edits T.adds (shown_walk walk.old) (T.shown row.now)) }
     ensures walk { OnOk result (shown_walk walk.new ≡ skipped (T.items (T.shown row.now) + 1) (shown_walk walk.old)) }
 {
     if walk.step() {
+        walk.pass(row.items_inside()?);
         return Ok(None);
     }
     row.edited(walk)

@@ -1,5 +1,6 @@
 //! A component with one of its items made simpler.
 
+mod components;
 mod copies;
 mod members;
 mod parts;
@@ -15,6 +16,7 @@ ghost use Rattle.smith_read.specs.Search.{past};
 ghost use Rattle.smith_edit.specs.Search.{found};
 ghost use Rattle.smith_edit.specs.Simpler.{component_at, component_in, simplified};
 
+pub use self::components::next_component;
 use self::parts::simplify_parts;
 use self::search::Finder;
 use crate::items::part_items;

@@ -10,6 +10,7 @@ ghost use Rattle.smith_edit.specs.Removal.{past, removes};
 ghost use Rattle.smith_edit.specs.Walk.{shown_walk, skipped};
 
 use crate::core_types::edit_core_type;
+use crate::items::declaration_items;
 use crate::members::{edit_defined, edit_signature};
 use crate::renumbering::Fate;
 use crate::rows::push_some;
@@ -139,6 +140,7 @@ fn add_declaration(
 
 // The declaration, if it is neither removed nor refers to what is.
 #[cycle(editing)]
+#[tactic(auto, using(crate::proofs::Past::past_step))]
 fn edit_one(walk: &mut Walk, node: &DeclNode) -> Result<Option<DeclNode>, AllocError>
     ensures edited { IfOk result (λ r. option_map shown_decl_node r ≡ (if removes walk.old.removal then None
         else decl_edited (shown_decl_node node.now) (skipped 1 (shown_walk walk.old)))) }
@@ -146,6 +148,7 @@ fn edit_one(walk: &mut Walk, node: &DeclNode) -> Result<Option<DeclNode>, AllocE
         ≡ skipped (decl_items (shown_decl_node node.now) + 1) (shown_walk walk.old)) }
 {
     if walk.step() {
+        walk.pass(declaration_items(node)?);
         return Ok(None);
     }
     edit_declaration(walk, node)

@@ -1,6 +1,6 @@
 //! What is known at a place in a component that is edited.
 
-ghost use Rattle.std.specs.Prelude.{◌≡◌, [], OnOk};
+ghost use Rattle.std.specs.Prelude.{◌≡◌, ◌+◌, [], OnOk};
 ghost use Rattle.smith_edit.specs.Removal.{inside, past, removes};
 ghost use Rattle.smith_edit.specs.Walk.{aliased_core_type, aliased_type, entered, exited, new_scope, shown_walk};
 ghost use Rattle.smith_edit.specs.Walk.{skipped, still};
@@ -13,8 +13,8 @@ use std::alloc::{AllocError, Global};
 #[derive(Clone, Copy)]
 pub(crate) enum Removal {
     Nothing,
-    /// The item after that many.
-    Item(usize),
+    /// The items from the first number on up to the last, each counted from the place.
+    Items { first: usize, last: usize },
     Everything,
 }
 
@@ -25,20 +25,31 @@ impl Removal {
     {
         match self {
             Removal::Nothing => false,
-            Removal::Item(count) => count == 0,
+            Removal::Items { first, .. } => first == 0,
             Removal::Everything => true,
         }
     }
 
-    /// What is removed after the item here.
-    pub(crate) fn next(self) -> Removal
-        ensures { result ≡ past 1 self }
+    /// What is removed after that many items.
+    fn past(self, count: usize) -> Removal
+        ensures { result ≡ past count self }
     {
         match self {
-            Removal::Nothing | Removal::Item(0) => Removal::Nothing,
-            Removal::Item(count) => Removal::Item(count - 1),
+            Removal::Items { first, last } if count <= last => Removal::Items {
+                first: first.saturating_sub(count),
+                last: last - count,
+            },
+            Removal::Nothing | Removal::Items { .. } => Removal::Nothing,
             Removal::Everything => Removal::Everything,
         }
+    }
+
+    /// What is removed after the item here, if that many are inside it.
+    #[tactic(auto, using(crate::proofs::Past::past_step))]
+    pub(crate) fn after(self, inside: usize) -> Removal
+        ensures { result ≡ past (inside + 1) self }
+    {
+        self.past(1).past(inside)
     }
 
     /// What is removed inside the item here: all of it with the item.
@@ -48,7 +59,7 @@ impl Removal {
         if self.removes() {
             Removal::Everything
         } else {
-            self.next()
+            self.past(1)
         }
     }
 }
@@ -108,8 +119,15 @@ impl Walk {
         ensures walk { shown_walk self.new ≡ skipped 1 (shown_walk self.old) }
     {
         let removed = self.removal.removes();
-        self.removal = self.removal.next();
+        self.removal = self.removal.past(1);
         removed
+    }
+
+    /// Moves past that many items.
+    pub(crate) fn pass(&mut self, count: usize)
+        ensures { shown_walk self.new ≡ skipped count (shown_walk self.old) }
+    {
+        self.removal = self.removal.past(count);
     }
 
     /// Enters an empty scope.

@@ -1,4 +1,4 @@
-use Rattle.std.proofs.Common.{◌≡◌, ◌++◌, ◌∙◌, List, [], ap, map, sym}
+use Rattle.std.proofs.Common.{◌++◌, ◌∙◌, List, ap, map, sym}
 use Rattle.smith_read.specs.PartNodes.{shown_part_node}
 use Rattle.smith_tree.specs.Spaces.{spaces_of}
 use Rattle.smith_tree.specs.Tree.{Part, Tree, exports_in, exports_of, imports_in, imports_of, parts_of, tree_of}

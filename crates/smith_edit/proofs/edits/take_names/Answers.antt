@@ -1,4 +1,4 @@
-use Rattle.std.proofs.Common.{◌++◌, []}
+use Rattle.std.proofs.Common.{◌++◌}
 use Rattle.smith_read.specs.PartNodes.{shown_part_node}
 use Rattle.smith_tree.specs.Tree.{exports_in, imports_in}
 use Rattle.smith_tree.specs.WellFormed.{export_names, import_names}

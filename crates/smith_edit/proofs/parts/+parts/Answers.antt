@@ -24,5 +24,5 @@ edit_parts-returns-clause-removal t c = removal_end part_editing _ _ _ _ c.loop-
 
 pub edit_one-returns-clause-walk : goal.edit_one-returns-clause-walk
 edit_one-returns-clause-walk t c =
-    after_kept (shown_walk c.args.walk.now) (shown_walk c.edit_part.new.walk) (shown_part_node c.args.node.now) (sym c.if-removed.ensures)
+    after_kept (shown_walk c.args.walk.now) (shown_walk c.edit_part.new.walk) (shown_part_node c.args.node.now) (sym c.if-removes.ensures)
     (rw c.inside-walk.ensures at c.in_ok-new.ensures.walk)

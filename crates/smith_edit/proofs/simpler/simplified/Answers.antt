@@ -1,4 +1,4 @@
-use Rattle.std.proofs.Common.{arith, ◌≡◌, ◌∙◌}
+use Rattle.std.proofs.Common.{arith}
 use Rattle.smith_edit.proofs.Nested.{simplified_beyond, still_ahead}
 use Rattle.smith_edit.proofs.simpler.simplified.Goals as goal
 

@@ -1,4 +1,3 @@
-use Rattle.std.proofs.Common.{rules}
 use Rattle.smith_reduce.proofs.steps.has_script.Goals as goal
 
 pub returns-in-Some : goal.returns-in-Some

@@ -1,4 +1,4 @@
-use Rattle.std.proofs.Common.{◌≡◌, ◌-◌, ◌<◌, ◌∙◌, arith}
+use Rattle.std.proofs.Common.{arith}
 use Rattle.smith_edit.proofs.NewNames.{made_more, made_there}
 use Rattle.smith_edit.proofs.names.Names.made_new.Goals as goal
 

@@ -1,4 +1,4 @@
-use Rattle.std.proofs.Common.{◌≡◌, ◌≤◌, ◌∙◌, arith}
+use Rattle.std.proofs.Common.{arith}
 use Rattle.std.proofs.lemmas.List.{length-map}
 use Rattle.smith_edit.proofs.Renaming.{renamed_beyond, renamed_none, renamed_some}
 use Rattle.smith_edit.proofs.simpler.members.rename_at.Goals as goal
