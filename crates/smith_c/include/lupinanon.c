@@ -368,7 +368,7 @@ int32_t lupinanon_swarm_limits(LupinanonLimits *limits, const uint8_t *input, si
     return status;
 }
 
-/* lupinanon_generate_into, for lupinanon_generate_in to have within it: no exported function is inlined. */
+/* What lupinanon_generate_into does. lupinanon_generate_in inlines it, which an exported function never is. */
 static inline int32_t generate_into(const LupinanonLimits *limits, const uint8_t *input, size_t input_len,
                                     uint8_t *output, size_t output_len, size_t *bytes_len, size_t *left) {
     LupinanonLimits room;

@@ -133,7 +133,8 @@ further_like s q i o p k h = ⊎_elim there beyond (cases_lt i (length s.entries
         let (x, of_first) = some_at s.entries i lt in
         let (y, of_other) = some_at q.entries i (omega (arith, lt, k.alike)) in
         let as_far : rank x.fate ≤ rank y.fate = rw (entry_there s i x of_first, entry_there q i y of_other) at (k.later i) in
-        rw (of_first, of_other, with_like) (further_entry s q (fate_if (is_some o) x.fate) (fate_if (is_some p) y.fate) k (fate_further o p x.fate y.fate h as_far))
+        rw (of_first, of_other, with_like)
+        (further_entry s q (fate_if (is_some o) x.fate) (fate_if (is_some p) y.fate) k (fate_further o p x.fate y.fate h as_far))
 
     beyond : length s.entries ≤ i → Further (with_like s i (is_some o)) (with_like q i (is_some p))
     beyond ge = rw (slice_get_past s.entries i ge, slice_get_past q.entries i (omega (arith, ge, k.alike)), with_like) k

@@ -26,7 +26,9 @@ use Rattle.smith_edit.specs.Walk.{Walk, entered, skipped}
 use Rattle.smith_edit.specs.declared.renumbering.Fate.TheVariants.{Kept, Changed}
 use Rattle.smith_edit.specs.declared.walk.Scope.{Scope}
 use Rattle.smith_edit.proofs.Shorter.{members_fewer, optional_fewer}
-use Rattle.smith_edit.proofs.Covered.{Covers, Further, amount, amount_most, covered_here, covered_inside, covered_past, fate_further, fewer_fields, fewer_kept, fewer_left, fewer_mapped, fewer_members, fewer_optional, fewer_shapes, further_entry, further_like, rank, rank_most}
+use Rattle.smith_edit.proofs.Covered.{Covers, Further, amount, amount_most, covered_here, covered_inside, covered_past, fate_further}
+use Rattle.smith_edit.proofs.Covered.{fewer_fields, fewer_kept, fewer_left, fewer_mapped, fewer_members, fewer_optional, fewer_shapes}
+use Rattle.smith_edit.proofs.Covered.{further_entry, further_like, rank, rank_most}
 
 none_further : (s : Renumbering) → Further s s
 none_further s = record { alike = refl; later = λ i. omega arith }
@@ -48,6 +50,14 @@ further_skipped n w v k = record { covers = covered_past n w.removal v.removal k
 
 pub further_within : (w v : Walk) → FurtherWalk w v → FurtherWalk (within w) (within v)
 further_within w v k = record { covers = covered_inside w.removal v.removal k.covers; own = k.own }
+
+-- each entry alone
+abbrev pub alone : {A : Type 0} → A → List A
+alone x = x ∷ []
+
+pub all_alone : {A : Type 0} (xs : List A) → flat_map alone xs ≡ xs
+all_alone [] = refl
+all_alone (x ∷ xs) = ap (λ ys. x ∷ ys) (all_alone xs)
 
 -- Entries in order, if what is left of an entry, if it is, and what is left of it with more removed are in a relation.
 module _ {A : Type 0} (items : A → ℕ) (edited : Walk → A → Option A) (adds : Scope → A → Option A → Scope)
@@ -100,20 +110,11 @@ module _ {A : Type 0} (items : A → ℕ) (edited : Walk → A → Option A) (ad
           length-append (flat_map held (option_to_list p)) (flat_map held less),
         ))
 
--- each entry itself
-abbrev itself : {A : Type 0} → A → List A
-itself x = x ∷ []
-
-all_themselves : {A : Type 0} (xs : List A) → flat_map itself xs ≡ xs
-all_themselves [] = refl
-all_themselves (x ∷ xs) = ap (λ ys. x ∷ ys) (all_themselves xs)
-
-themselves : {A : Type 0} (o p : Option A) → amount p ≤ amount o
-    → length (flat_map itself (option_to_list p)) ≤ length (flat_map itself (option_to_list o))
-themselves o p h = rw (all_themselves (option_to_list o), all_themselves (option_to_list p)) h
-
-all_left : {A : Type 0} (xs ys : List A) → length (flat_map itself ys) ≤ length (flat_map itself xs) → length ys ≤ length xs
-all_left xs ys h = rw (all_themselves xs, all_themselves ys) at h
+  -- the entries themselves
+  fewer_entries : ((x : A) (o p : Option A) → Left x o p → amount p ≤ amount o) → (w v : Walk) → FurtherWalk w v → (xs : List A)
+      → length (rows items edited adds v xs) ≤ length (rows items edited adds w xs)
+  fewer_entries least w v k xs = rw (all_alone (rows items edited adds w xs), all_alone (rows items edited adds v xs)) at
+      (fewer_rows alone (λ x o p h. rw (all_alone (option_to_list o), all_alone (option_to_list p)) (least x o p h)) w v k xs)
 
 abbrev Fewer : {A : Type 0} → A → Option A → Option A → Type 0
 Fewer x o p = amount p ≤ amount o
@@ -334,7 +335,12 @@ fewer_exports w v k e = fewer_mapped (λ f. record e { func = f }) (λ f. record
 
 further_export : (s q : Scope) → FurtherScope s q → (e : ExportEntry) (o p : Option ExportEntry) → Fewer e o p
     → FurtherScope (after_export s e o) (after_export q e p)
-further_export s q k e o p h = record { functions = further_like s.functions q.functions e.func o p k.functions h; types = k.types; core_types = k.core_types; core_functions = k.core_functions }
+further_export s q k e o p h = record {
+  types = k.types;
+  core_types = k.core_types;
+  functions = further_like s.functions q.functions e.func o p k.functions h;
+  core_functions = k.core_functions;
+}
 
 -- sections
 
@@ -370,12 +376,12 @@ further_entered w v k = record {
   };
 }
 
--- what the components at every depth have, section by section
-sum_of_sections : {A : Type 0} (held : Part → List A) (p : Part) (t : Tree) (w v : Walk) → FurtherWalk w v
-    → length (anywhere_in held (part_edited p (within v))) ≤ length (anywhere_in held (part_edited p (within w)))
-    → length (anywhere held (tree_edited t (after_section v p))) ≤ length (anywhere held (tree_edited t (after_section w p)))
-    → length (anywhere held (tree_edited (first p t) v)) ≤ length (anywhere held (tree_edited (first p t) w))
-sum_of_sections held p t w v k here rest = go (removes w.removal) (removes v.removal) (covered_here w.removal v.removal k.covers)
+-- what sections have, one with the sum of what follows it
+sum_fewer : (part : Part → ℕ) (total : Tree → ℕ) → ((p : Part) (t : Tree) → total (first p t) ≡ part p + total t) → (p : Part) (t : Tree) (w v : Walk)
+    → FurtherWalk w v → part (part_edited p (within v)) ≤ part (part_edited p (within w))
+    → total (tree_edited t (after_section v p)) ≤ total (tree_edited t (after_section w p))
+    → total (tree_edited (first p t) v) ≤ total (tree_edited (first p t) w)
+sum_fewer part total sum p t w v k here rest = go (removes w.removal) (removes v.removal) (covered_here w.removal v.removal k.covers)
   where
     before : Part
     before = part_edited p (within w)
@@ -389,60 +395,30 @@ sum_of_sections held p t w v k here rest = go (removes w.removal) (removes v.rem
     less : Tree
     less = tree_edited t (after_section v p)
 
-    go : (a b : Bool) → (a ≡ true → b ≡ true) → length (anywhere held (and_part b after less)) ≤ length (anywhere held (and_part a before more))
+    go : (a b : Bool) → (a ≡ true → b ≡ true) → total (and_part b after less) ≤ total (and_part a before more)
     go true true c = rest
     go true false c = let bad = c refl in absurd cc
-    go false true c = omega (arith, rest, length-append (anywhere_in held before) (anywhere held more))
-    go false false c = omega (
-      arith,
-      here,
-      rest,
-      length-append (anywhere_in held before) (anywhere held more),
-      length-append (anywhere_in held after) (anywhere held less),
-    )
+    go false true c = omega (arith, rest, sum before more)
+    go false false c = omega (arith, here, rest, sum before more, sum after less)
 
 -- what sections have in them, if no more of it is left with more removed
 module _ {A : Type 0} (held : Part → List A)
     (fewer : (w v : Walk) → FurtherWalk w v → (p : Part) → length (held (part_edited p v)) ≤ length (held (part_edited p w))) where
-  first_fewer : (p : Part) (t : Tree) (w v : Walk) → FurtherWalk w v
-      → length (own held (tree_edited t (after_section v p))) ≤ length (own held (tree_edited t (after_section w p)))
-      → length (own held (tree_edited (first p t) v)) ≤ length (own held (tree_edited (first p t) w))
-  first_fewer p t w v k rest = go (removes w.removal) (removes v.removal) (covered_here w.removal v.removal k.covers)
-    where
-      before : Part
-      before = part_edited p (within w)
-
-      after : Part
-      after = part_edited p (within v)
-
-      more : Tree
-      more = tree_edited t (after_section w p)
-
-      less : Tree
-      less = tree_edited t (after_section v p)
-
-      here : length (held after) ≤ length (held before)
-      here = fewer (within w) (within v) (further_within w v k) p
-
-      go : (a b : Bool) → (a ≡ true → b ≡ true) → length (own held (and_part b after less)) ≤ length (own held (and_part a before more))
-      go true true c = rest
-      go true false c = let bad = c refl in absurd cc
-      go false true c = omega (arith, rest, length-append (held before) (own held more))
-      go false false c = omega (arith, here, rest, length-append (held before) (own held more), length-append (held after) (own held less))
-
   pub fewer_own : (t : Tree) (w v : Walk) → FurtherWalk w v → length (own held (tree_edited t v)) ≤ length (own held (tree_edited t w))
   fewer_own ends w v k = omega arith
-  fewer_own (first p t) w v k = first_fewer p t w v k (fewer_own t (after_section w p) (after_section v p) (further_section w v k p))
+  fewer_own (first p t) w v k =
+      sum_fewer (λ q. length (held q)) (λ u. length (own held u)) (λ q u. length-append (held q) (own held u)) p t w v k
+      (fewer (within w) (within v) (further_within w v k) p)
+      (fewer_own t (after_section w p) (after_section v p) (further_section w v k p))
 
--- the same in the components at every depth
-module _ {A : Type 0} (held : Part → List A)
-    (fewer : (w v : Walk) → FurtherWalk w v → (p : Part) → length (held (part_edited p v)) ≤ length (held (part_edited p w))) where
+  -- the same in the components at every depth
   mutual
     pub fewer_anywhere : (t : Tree) (w v : Walk) → FurtherWalk w v
         → length (anywhere held (tree_edited t v)) ≤ length (anywhere held (tree_edited t w))
     fewer_anywhere ends w v k = omega arith
     fewer_anywhere (first p t) w v k =
-        sum_of_sections held p t w v k (fewer_anywhere_in p (within w) (within v) (further_within w v k))
+        sum_fewer (λ q. length (anywhere_in held q)) (λ u. length (anywhere held u)) (λ q u. length-append (anywhere_in held q) (anywhere held u)) p t w v k
+        (fewer_anywhere_in p (within w) (within v) (further_within w v k))
         (fewer_anywhere t (after_section w p) (after_section v p) (further_section w v k p))
 
     fewer_anywhere_in : (p : Part) (w v : Walk) → FurtherWalk w v
@@ -469,30 +445,22 @@ module _ {A : Type 0} (held : Part → List A)
 
 pub fewer_cores_left : (w v : Walk) → FurtherWalk w v → (ts : List CoreEntry)
     → length (rows core_items core_row after_core v ts) ≤ length (rows core_items core_row after_core w ts)
-fewer_cores_left w v k ts =
-    all_left (rows core_items core_row after_core w ts) (rows core_items core_row after_core v ts)
-    (fewer_rows core_items core_row after_core Fewer fewer_cores gone_itself none_itself further_core itself (λ t o p h. themselves o p h) w v k ts)
+fewer_cores_left = fewer_entries core_items core_row after_core Fewer fewer_cores gone_itself none_itself further_core (λ t o p h. h)
 
 pub fewer_types_left : (w v : Walk) → FurtherWalk w v → (ts : List Entry)
     → length (rows entry_items type_row after_type v ts) ≤ length (rows entry_items type_row after_type w ts)
-fewer_types_left w v k ts =
-    all_left (rows entry_items type_row after_type w ts) (rows entry_items type_row after_type v ts)
-    (fewer_rows entry_items type_row after_type TypeLeft type_left gone_type no_type further_type itself
-    (λ e o p h. themselves o p (amount_left o p h.fewer)) w v k ts)
+fewer_types_left =
+    fewer_entries entry_items type_row after_type TypeLeft type_left gone_type no_type further_type (λ e o p h. amount_left o p h.fewer)
 
 pub fewer_canons_left : (w v : Walk) → FurtherWalk w v → (fs : List Canon)
     → length (rows none_inside canon_edited after_canon v fs) ≤ length (rows none_inside canon_edited after_canon w fs)
-fewer_canons_left w v k fs =
-    all_left (rows none_inside canon_edited after_canon w fs) (rows none_inside canon_edited after_canon v fs)
-    (fewer_rows none_inside canon_edited after_canon Fewer fewer_canons gone_itself none_itself further_canon itself
-    (λ f o p h. themselves o p h) w v k fs)
+fewer_canons_left = fewer_entries none_inside canon_edited after_canon Fewer fewer_canons gone_itself none_itself further_canon (λ f o p h. h)
 
 pub fewer_imports_left : (w v : Walk) → FurtherWalk w v → (is : List ImportEntry)
     → length (rows none_inside import_edited after_import v is) ≤ length (rows none_inside import_edited after_import w is)
-fewer_imports_left w v k is =
-    all_left (rows none_inside import_edited after_import w is) (rows none_inside import_edited after_import v is)
-    (fewer_rows none_inside import_edited after_import ImportLeft import_left gone_import (λ i. none_there i None) further_import itself
-    (λ i o p h. themselves o p h.fewer) w v k is)
+fewer_imports_left =
+    fewer_entries none_inside import_edited after_import ImportLeft import_left gone_import (λ i. none_there i None) further_import
+    (λ i o p h. h.fewer)
 
 -- what the imports are, if no more of it is left
 pub fewer_imported_left : (held : ImportEntry → List ℕ) → ((i : ImportEntry) (o p : Option ImportEntry) → ImportLeft i o p → NoMoreOf held o p)
@@ -504,10 +472,7 @@ fewer_imported_left held each =
 
 pub fewer_exports_left : (w v : Walk) → FurtherWalk w v → (es : List ExportEntry)
     → length (rows none_inside export_edited after_export v es) ≤ length (rows none_inside export_edited after_export w es)
-fewer_exports_left w v k es =
-    all_left (rows none_inside export_edited after_export w es) (rows none_inside export_edited after_export v es)
-    (fewer_rows none_inside export_edited after_export Fewer fewer_exports gone_itself none_itself further_export itself
-    (λ e o p h. themselves o p h) w v k es)
+fewer_exports_left = fewer_entries none_inside export_edited after_export Fewer fewer_exports gone_itself none_itself further_export (λ e o p h. h)
 
 -- before anything is removed
 pub not_further : (w v : Walk) → Covers w.removal v.removal → w.own ≡ v.own → FurtherWalk w v

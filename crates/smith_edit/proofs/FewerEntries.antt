@@ -1,26 +1,20 @@
--- How many entries there are in a component without several items, and in one with an item made simpler.
-use Rattle.std.proofs.Common.{◌≡◌, ℕ, zero, suc, ◌+◌, ◌-◌, ◌≤◌, Bool, true, false, List, [], ◌∷◌, ◌++◌, Option, None, Some, length, fold, length-append}
-use Rattle.std.proofs.Common.{nat_lt, ap, sym, refl, subst, ◌∙◌, arith}
+-- A component without several items has no more of anything than without one of them.
+use Rattle.std.proofs.Common.{◌≡◌, ℕ, ◌+◌, ◌≤◌, Bool, true, false, List, [], ◌∷◌, ◌++◌, Option, Some, length, fold, length-append}
+use Rattle.std.proofs.Common.{nat_lt, sym, refl, subst, arith}
 use Rattle.std.proofs.lemmas.Option.{cond_some}
-use Rattle.std.specs.Prelude.{bytes_eq}
 use Rattle.std.specs.List.{AllByRecursion, flat_map}
 use Rattle.smith_input.proofs.Lists.{all_back, all_both, all_front}
 use Rattle.smith_format.specs.declared.config.Config.{Config}
-use Rattle.smith_core.specs.Preamble.{core_preamble}
 use Rattle.smith_syntax.specs.Entries.{CoreEntry, Entry, ImportEntry}
 use Rattle.smith_tree.specs.Spaces.{Spaces, after_canon, after_export, after_import, after_part, no_spaces}
 use Rattle.smith_tree.specs.Tree.{Canon, lift, lower, ExportEntry, Tree, Part, ends, first, own, parts_of}
 use Rattle.smith_tree.specs.Tree.{anywhere, anywhere_in, canons_in, components_in, exports_in, exports_of, imported_components_in, imported_functions_in}
 use Rattle.smith_tree.specs.Tree.{imported_instances_in, imported_modules_in, imports_in, imports_of, inside, modules_in}
 use Rattle.smith_tree.specs.Tree as part
-use Rattle.smith_tree.specs.WellFormed.{export_names, import_names}
 use Rattle.smith_edit.specs.Counts.{KeepsMaxima, KeepsOwnMaxima}
 use Rattle.smith_edit.specs.Edited.{after_section, and_part, part_edited, tree_edited, within}
-use Rattle.smith_edit.specs.Edits.{export_renamed, import_renamed, without, without_items}
-use Rattle.smith_edit.specs.Items.{entry_items, part_items, tree_items}
-use Rattle.smith_edit.specs.ShortNames.{shorter_name}
-use Rattle.smith_edit.specs.Simpler.{component_at, entry_simplified, itself_or, part_simplified, renamed_at, sections_of, sections_simplified}
-use Rattle.smith_edit.specs.Simpler.{simpler_entry, simpler_part, simplified, types_simplified}
+use Rattle.smith_edit.specs.Edits.{without, without_items}
+use Rattle.smith_edit.specs.Items.{tree_items}
 use Rattle.smith_edit.specs.Removal.{removes}
 use Rattle.smith_edit.specs.Walk.{Walk, entered, new_scope}
 use Rattle.smith_edit.specs.declared.walk.Removal.TheVariants.{Items}
@@ -30,15 +24,15 @@ use Rattle.smith_edit.proofs.CoveredRows.{further_within, instances_of, modules_
 use Rattle.smith_edit.proofs.CoveredRows.{fewer_canons_left, fewer_cores_left, fewer_exports_left, fewer_imported_left, fewer_imports_left}
 use Rattle.smith_edit.proofs.CoveredRows.{fewer_own, fewer_types_left, functions_in, not_further}
 use Rattle.smith_edit.proofs.KeptInside.{AllKeep}
-use Rattle.smith_edit.proofs.Perhaps.{Perhaps, both, either, given, gives, itself, mapped, more, nothing, whatever}
+use Rattle.smith_edit.proofs.Perhaps.{more}
 
 -- Types and core types, section by section: sections of other things add none.
 
-abbrev types_in : Part → List Entry
+abbrev pub types_in : Part → List Entry
 types_in (part.types ts) = ts
 types_in p = []
 
-abbrev core_types_in : Part → List CoreEntry
+abbrev pub core_types_in : Part → List CoreEntry
 core_types_in (part.core_types ts) = ts
 core_types_in p = []
 
@@ -108,15 +102,15 @@ counted (first (part.exports es) t) s =
     record { types = h.0; core_types = h.1 }
 
 -- The other has no more by itself.
-record NoMore (t u : Tree) : Type 0 where
-  types : length (own types_in u) ≤ length (own types_in t)
-  core_types : length (own core_types_in u) ≤ length (own core_types_in t)
-  imports : length (own imports_in u) ≤ length (own imports_in t)
-  functions : length (own imported_functions_in u) ≤ length (own imported_functions_in t)
-  canons : length (own canons_in u) ≤ length (own canons_in t)
-  exports : length (own exports_in u) ≤ length (own exports_in t)
+pub record NoMore (t u : Tree) : Type 0 where
+  pub types : length (own types_in u) ≤ length (own types_in t)
+  pub core_types : length (own core_types_in u) ≤ length (own core_types_in t)
+  pub imports : length (own imports_in u) ≤ length (own imports_in t)
+  pub functions : length (own imported_functions_in u) ≤ length (own imported_functions_in t)
+  pub canons : length (own canons_in u) ≤ length (own canons_in t)
+  pub exports : length (own exports_in u) ≤ length (own exports_in t)
 
-kept : (config : Config) (t u : Tree) → NoMore t u → KeepsOwnMaxima config t → KeepsOwnMaxima config u
+pub kept : (config : Config) (t u : Tree) → NoMore t u → KeepsOwnMaxima config t → KeepsOwnMaxima config u
 kept config t u no_more keeps =
     let before = counted t no_spaces in
     let after = counted u no_spaces in
@@ -179,12 +173,12 @@ no_more_left t w v k = record {
 }
 
 -- The other has no more core modules, components and instances at any depth.
-record NoMoreAnywhere (t u : Tree) : Type 0 where
-  modules : length (anywhere modules_in u) ≤ length (anywhere modules_in t)
-  components : length (anywhere components_in u) ≤ length (anywhere components_in t)
-  imported_modules : length (anywhere imported_modules_in u) ≤ length (anywhere imported_modules_in t)
-  imported_components : length (anywhere imported_components_in u) ≤ length (anywhere imported_components_in t)
-  imported_instances : length (anywhere imported_instances_in u) ≤ length (anywhere imported_instances_in t)
+pub record NoMoreAnywhere (t u : Tree) : Type 0 where
+  pub modules : length (anywhere modules_in u) ≤ length (anywhere modules_in t)
+  pub components : length (anywhere components_in u) ≤ length (anywhere components_in t)
+  pub imported_modules : length (anywhere imported_modules_in u) ≤ length (anywhere imported_modules_in t)
+  pub imported_components : length (anywhere imported_components_in u) ≤ length (anywhere imported_components_in t)
+  pub imported_instances : length (anywhere imported_instances_in u) ≤ length (anywhere imported_instances_in t)
 
 no_more_anywhere : (t : Tree) (w v : Walk) → FurtherWalk w v → NoMoreAnywhere (tree_edited t w) (tree_edited t v)
 no_more_anywhere t w v k = record {
@@ -195,7 +189,8 @@ no_more_anywhere t w v k = record {
   imported_instances = fewer_anywhere imported_instances_in (λ w v k. imported_left w v k instances_of (λ i o p h. h.instances)) t w v k;
 }
 
-all_kept : (config : Config) (t u : Tree) → NoMoreAnywhere t u → (AllByRecursion (KeepsOwnMaxima config) (inside t) → AllByRecursion (KeepsOwnMaxima config) (inside u))
+pub all_kept : (config : Config) (t u : Tree) → NoMoreAnywhere t u
+    → (AllByRecursion (KeepsOwnMaxima config) (inside t) → AllByRecursion (KeepsOwnMaxima config) (inside u))
     → NoMore t u → KeepsMaxima config t → KeepsMaxima config u
 all_kept config t u no_more all own keeps = record {
   each = (kept config t u own keeps.each.0, all keeps.each.1);
@@ -207,7 +202,8 @@ all_kept config t u no_more all own keeps = record {
 module _ (config : Config) where
   -- the components of two sections, or of what is left of them, and of what follows
   both_keep : (a b : Bool) (before after : Part) (more less : Tree) → (a ≡ true → b ≡ true)
-      → (AllKeep config (anywhere_in components_in before) → AllKeep config (anywhere_in components_in after)) → (AllKeep config (inside more) → AllKeep config (inside less))
+      → (AllKeep config (anywhere_in components_in before) → AllKeep config (anywhere_in components_in after))
+      → (AllKeep config (inside more) → AllKeep config (inside less))
       → AllKeep config (inside (and_part a before more)) → AllKeep config (inside (and_part b after less))
   both_keep true true before after more less c here rest all = rest all
   both_keep true false before after more less c here rest all = let bad = c refl in absurd cc
@@ -245,228 +241,3 @@ maxima_kept config low k high t less from to e keeps =
     let further : FurtherWalk w v = not_further w v (covered_item low k high from to) refl in
     all_kept config (tree_edited t w) (tree_edited t v) (no_more_anywhere t w v further) (inside_left config t w v further) (no_more_left t w v further)
     (subst (KeepsMaxima config) (sym is) keeps)
-
--- with an item made simpler
-
--- what a section has in it, if it is as many when what is in it is made simpler
-module _ {A : Type 0} (held : Part → List A)
-    (alike : (p : Part) → Perhaps (λ q. length (held q) ≡ length (held p)) (simpler_part p))
-    (inside : (is es : List (List ℕ)) (k : ℕ) (p : Part) → Perhaps (λ q. length (held q) ≡ length (held p)) (part_simplified is es k p)) where
-  sections_alike : (is es : List (List ℕ)) (k : ℕ) (t : Tree)
-      → Perhaps (λ u. length (own held u) ≡ length (own held t)) (sections_simplified is es k t)
-  sections_alike is es k ends = nothing tt
-  sections_alike is es k (first p t) =
-      either (nat_lt k (part_items p + 1))
-      (mapped (λ q. first q t) (λ q h. omega (arith, h, length-append (held q) (own held t), length-append (held p) (own held t)))
-      (itself k (alike p) (λ j. inside is es j p)))
-      (mapped (λ u. first p u) (λ u h. omega (arith, h, length-append (held p) (own held u), length-append (held p) (own held t)))
-      (sections_alike is es (k - (part_items p + 1)) t))
-
-module _ {A B : Type 0} (name : A → List ℕ) (rename : A → List ℕ → A) (held : A → List B)
-    (same : (x : A) (new : List ℕ) → length (held (rename x new)) ≡ length (held x)) where
-  renamed_alike : (ns : List (List ℕ)) (k : ℕ) (xs : List A)
-      → Perhaps (λ ys. length (flat_map held ys) ≡ length (flat_map held xs)) (renamed_at name rename ns k xs)
-  renamed_alike ns k [] = nothing tt
-  renamed_alike ns zero (x ∷ xs) =
-      mapped {P = λ y. length (held y) ≡ length (held x)} (λ y. y ∷ xs)
-      (λ y h. omega (arith, h, length-append (held y) (flat_map held xs), length-append (held x) (flat_map held xs)))
-      (mapped {P = λ new. Unit {0}} (rename x) (λ new h. same x new) (whatever (shorter_name ns (name x)) (λ new. tt)))
-  renamed_alike ns (suc k) (x ∷ xs) =
-      mapped (λ ys. x ∷ ys)
-      (λ ys h. omega (arith, h, length-append (held x) (flat_map held ys), length-append (held x) (flat_map held xs)))
-      (renamed_alike ns k xs)
-
-types_alike : (k : ℕ) (ts : List Entry) → Perhaps (λ us. length us ≡ length ts) (types_simplified k ts)
-types_alike k [] = nothing tt
-types_alike k (e ∷ es) =
-    either (nat_lt k (entry_items e + 1))
-    (mapped {P = λ f. Unit {0}} (λ f. f ∷ es) (λ f h. refl)
-    (whatever (itself_or (simpler_entry e) (λ j. entry_simplified j e) k) (λ f. tt)))
-    (mapped (λ fs. e ∷ fs) (λ fs h. ap suc h) (types_alike (k - (entry_items e + 1)) es))
-
--- each entry itself
-abbrev alone : {A : Type 0} → A → List A
-alone x = x ∷ []
-
-all_alone : {A : Type 0} (xs : List A) → flat_map alone xs ≡ xs
-all_alone [] = refl
-all_alone (x ∷ xs) = ap (λ ys. x ∷ ys) (all_alone xs)
-
-names_alike : {A : Type 0} (name : A → List ℕ) (rename : A → List ℕ → A) (ns : List (List ℕ)) (k : ℕ) (xs : List A)
-    → Perhaps (λ ys. length ys ≡ length xs) (renamed_at name rename ns k xs)
-names_alike name rename ns k xs =
-    more (λ ys h. ap length (sym (all_alone ys)) ∙ h ∙ ap length (all_alone xs)) (renamed_alike name rename alone (λ x new. refl) ns k xs)
-
--- it is what it is
-known : {A : Type 0} (o : Option A) → Perhaps (λ x. o ≡ Some x) o
-known None = nothing tt
-known (Some x) = gives x refl
-
--- As many imports, and of each sort.
-record ImportsAlike (js is : List ImportEntry) : Type 0 where
-  count : length js ≡ length is
-  functions : length (flat_map functions_in js) ≡ length (flat_map functions_in is)
-  modules : length (flat_map modules_of js) ≡ length (flat_map modules_of is)
-  components : length (flat_map components_of js) ≡ length (flat_map components_of is)
-  instances : length (flat_map instances_of js) ≡ length (flat_map instances_of is)
-
-imports_alike : (ns : List (List ℕ)) (k : ℕ) (is : List ImportEntry)
-    → Perhaps (λ js. ImportsAlike js is) (renamed_at (λ i. i.name) import_renamed ns k is)
-imports_alike ns k is =
-    more (λ js e. record {
-      count = given js (names_alike (λ i. i.name) import_renamed ns k is) e;
-      functions = of js functions_in (λ i new. refl) e;
-      modules = of js modules_of (λ i new. refl) e;
-      components = of js components_of (λ i new. refl) e;
-      instances = of js instances_of (λ i new. refl) e;
-    }) (known (renamed_at (λ i. i.name) import_renamed ns k is))
-  where
-    of : (js : List ImportEntry) (held : ImportEntry → List ℕ) → ((i : ImportEntry) (new : List ℕ) → length (held (import_renamed i new)) ≡ length (held i))
-        → renamed_at (λ i. i.name) import_renamed ns k is ≡ Some js → length (flat_map held js) ≡ length (flat_map held is)
-    of js held same e = given js (renamed_alike (λ i. i.name) import_renamed held same ns k is) e
-
--- a section that has neither entries nor names
-simpler_alike : {A : Type 0} (held : Part → List A)
-    → ((name a b : List ℕ) → length (held (part.custom name a)) ≡ length (held (part.custom name b)))
-    → ((a b : List ℕ) → length (held (part.core_module a)) ≡ length (held (part.core_module b)))
-    → (p : Part) → Perhaps (λ q. length (held q) ≡ length (held p)) (simpler_part p)
-simpler_alike held of_custom of_modules (part.custom name []) = nothing tt
-simpler_alike held of_custom of_modules (part.custom name (b ∷ bs)) = gives (part.custom name []) (of_custom name [] (b ∷ bs))
-simpler_alike held of_custom of_modules (part.core_module text) =
-    either (bytes_eq text core_preamble) (nothing tt) (gives (part.core_module core_preamble) (of_modules core_preamble text))
-simpler_alike held of_custom of_modules p = nothing tt
-
--- What is in a section of types, imports or exports that has as many entries, and in a component that is simpler.
-module _ {A : Type 0} (held : Part → List A) (of_components : (u t : Tree) → length (held (part.component u)) ≡ length (held (part.component t)))
-    (of_custom : (name a b : List ℕ) → length (held (part.custom name a)) ≡ length (held (part.custom name b)))
-    (of_modules : (a b : List ℕ) → length (held (part.core_module a)) ≡ length (held (part.core_module b)))
-    (of_types : (us ts : List Entry) → length us ≡ length ts → length (held (part.types us)) ≡ length (held (part.types ts)))
-    (of_imports : (js is : List ImportEntry) → ImportsAlike js is → length (held (part.imports js)) ≡ length (held (part.imports is)))
-    (of_exports : (fs es : List ExportEntry) → length fs ≡ length es → length (held (part.exports fs)) ≡ length (held (part.exports es))) where
-  own_inside : (is es : List (List ℕ)) (k : ℕ) (p : Part) → Perhaps (λ q. length (held q) ≡ length (held p)) (part_simplified is es k p)
-  own_inside is es k (part.component t) =
-      mapped {P = λ u. Unit {0}} part.component (λ u h. of_components u t)
-      (whatever (sections_simplified (import_names (imports_of t)) (export_names (exports_of t)) k t) (λ u. tt))
-  own_inside is es k (part.types ts) = mapped part.types (λ us h. of_types us ts h) (types_alike k ts)
-  own_inside is es k (part.imports js) = mapped part.imports (λ ys h. of_imports ys js h) (imports_alike is k js)
-  own_inside is es k (part.exports fs) =
-      mapped part.exports (λ ys h. of_exports ys fs h) (names_alike (λ e. e.name) export_renamed es k fs)
-  own_inside is es k p = nothing tt
-
-  own_alike : (is es : List (List ℕ)) (k : ℕ) (t : Tree)
-      → Perhaps (λ u. length (own held u) ≡ length (own held t)) (sections_simplified is es k t)
-  own_alike = sections_alike held (simpler_alike held of_custom of_modules) own_inside
-
-  mutual
-    anywhere_alike : (is es : List (List ℕ)) (k : ℕ) (t : Tree)
-        → Perhaps (λ u. length (anywhere held u) ≡ length (anywhere held t)) (sections_simplified is es k t)
-    anywhere_alike is es k ends = nothing tt
-    anywhere_alike is es k (first p t) =
-        either (nat_lt k (part_items p + 1))
-        (mapped (λ q. first q t)
-        (λ q h. omega (arith, h, length-append (anywhere_in held q) (anywhere held t), length-append (anywhere_in held p) (anywhere held t)))
-        (itself k (simpler_alike (anywhere_in held) of_custom of_modules p) (λ j. anywhere_inside is es j p)))
-        (mapped (λ u. first p u)
-        (λ u h. omega (arith, h, length-append (anywhere_in held p) (anywhere held u), length-append (anywhere_in held p) (anywhere held t)))
-        (anywhere_alike is es (k - (part_items p + 1)) t))
-
-    anywhere_inside : (is es : List (List ℕ)) (k : ℕ) (p : Part)
-        → Perhaps (λ q. length (anywhere_in held q) ≡ length (anywhere_in held p)) (part_simplified is es k p)
-    anywhere_inside is es k (part.component t) =
-        mapped part.component
-        (λ u h. omega (
-          arith,
-          h,
-          of_components u t,
-          length-append (held (part.component u)) (anywhere held u),
-          length-append (held (part.component t)) (anywhere held t),
-        ))
-        (anywhere_alike (import_names (imports_of t)) (export_names (exports_of t)) k t)
-    anywhere_inside is es k (part.types ts) = mapped part.types (λ us h. of_types us ts h) (types_alike k ts)
-    anywhere_inside is es k (part.imports js) = mapped part.imports (λ ys h. of_imports ys js h) (imports_alike is k js)
-    anywhere_inside is es k (part.exports fs) =
-        mapped part.exports (λ ys h. of_exports ys fs h) (names_alike (λ e. e.name) export_renamed es k fs)
-    anywhere_inside is es k p = nothing tt
-
-as_many : (is es : List (List ℕ)) (k : ℕ) (t u : Tree) → sections_simplified is es k t ≡ Some u → NoMore u t
-as_many is es k t u e = record {
-  types = no_fewer types_in (own_alike types_in (λ v x. refl) (λ n a b. refl) (λ a b. refl) (λ us ts h. h) (λ js ks h. refl) (λ fs gs h. refl) is es k t);
-  core_types = no_fewer core_types_in
-      (own_alike core_types_in (λ v x. refl) (λ n a b. refl) (λ a b. refl) (λ us ts h. refl) (λ js ks h. refl) (λ fs gs h. refl) is es k t);
-  imports = no_fewer imports_in (own_alike imports_in (λ v x. refl) (λ n a b. refl) (λ a b. refl) (λ us ts h. refl) (λ js ks h. h.count) (λ fs gs h. refl) is es k t);
-  functions = no_fewer imported_functions_in
-      (own_alike imported_functions_in (λ v x. refl) (λ n a b. refl) (λ a b. refl) (λ us ts h. refl) (λ js ks h. h.functions) (λ fs gs h. refl) is es k t);
-  canons = no_fewer canons_in (own_alike canons_in (λ v x. refl) (λ n a b. refl) (λ a b. refl) (λ us ts h. refl) (λ js ks h. refl) (λ fs gs h. refl) is es k t);
-  exports = no_fewer exports_in (own_alike exports_in (λ v x. refl) (λ n a b. refl) (λ a b. refl) (λ us ts h. refl) (λ js ks h. refl) (λ fs gs h. h) is es k t);
-}
-  where
-    no_fewer : {A : Type 0} (held : Part → List A) → Perhaps (λ v. length (own held v) ≡ length (own held t)) (sections_simplified is es k t)
-        → length (own held t) ≤ length (own held u)
-    no_fewer held alike = omega (arith, given u alike e)
-
-as_many_anywhere : (is es : List (List ℕ)) (k : ℕ) (t u : Tree) → sections_simplified is es k t ≡ Some u → NoMoreAnywhere u t
-as_many_anywhere is es k t u e = record {
-  modules = no_fewer modules_in
-      (anywhere_alike modules_in (λ v x. refl) (λ n a b. refl) (λ a b. refl) (λ us ts h. refl) (λ js ks h. refl) (λ fs gs h. refl) is es k t);
-  components = no_fewer components_in
-      (anywhere_alike components_in (λ v x. refl) (λ n a b. refl) (λ a b. refl) (λ us ts h. refl) (λ js ks h. refl) (λ fs gs h. refl) is es k t);
-  imported_modules = no_fewer imported_modules_in
-      (anywhere_alike imported_modules_in (λ v x. refl) (λ n a b. refl) (λ a b. refl) (λ us ts h. refl) (λ js ks h. h.modules) (λ fs gs h. refl) is es k t);
-  imported_components = no_fewer imported_components_in (anywhere_alike imported_components_in (λ v x. refl) (λ n a b. refl) (λ a b. refl) (λ us ts h. refl)
-      (λ js ks h. h.components) (λ fs gs h. refl) is es k t);
-  imported_instances = no_fewer imported_instances_in (anywhere_alike imported_instances_in (λ v x. refl) (λ n a b. refl) (λ a b. refl) (λ us ts h. refl)
-      (λ js ks h. h.instances) (λ fs gs h. refl) is es k t);
-}
-  where
-    no_fewer : {A : Type 0} (held : Part → List A) → Perhaps (λ v. length (anywhere held v) ≡ length (anywhere held t)) (sections_simplified is es k t)
-        → length (anywhere held t) ≤ length (anywhere held u)
-    no_fewer held alike = omega (arith, given u alike e)
-
-module _ (config : Config) where
-  -- The components in a section keep maxima if they do in a simpler one.
-  abbrev BackIn : Part → Part → Type 0
-  BackIn p q = AllKeep config (anywhere_in components_in q) → AllKeep config (anywhere_in components_in p)
-
-  abbrev BackFrom : Tree → Tree → Type 0
-  BackFrom t u = AllKeep config (inside u) → AllKeep config (inside t)
-
-  simpler_back : (p : Part) → Perhaps (BackIn p) (simpler_part p)
-  simpler_back (part.custom name []) = nothing tt
-  simpler_back (part.custom name (b ∷ bs)) = gives (part.custom name []) (λ all. tt)
-  simpler_back (part.core_module text) = either (bytes_eq text core_preamble) (nothing tt) (gives (part.core_module core_preamble) (λ all. tt))
-  simpler_back p = nothing tt
-
-  both_back : (p q : Part) (t u : Tree) → BackIn p q → BackFrom t u → BackFrom (first p t) (first q u)
-  both_back p q t u here rest all =
-      all_both (KeepsOwnMaxima config) (anywhere_in components_in p) (inside t)
-      (here (all_front (KeepsOwnMaxima config) (anywhere_in components_in q) (inside u) all))
-      (rest (all_back (KeepsOwnMaxima config) (anywhere_in components_in q) (inside u) all))
-
-  mutual
-    sections_back : (is es : List (List ℕ)) (k : ℕ) (t : Tree) → Perhaps (BackFrom t) (sections_simplified is es k t)
-    sections_back is es k ends = nothing tt
-    sections_back is es k (first p t) =
-        either (nat_lt k (part_items p + 1))
-        (mapped (λ q. first q t) (λ q h. both_back p q t t h (λ all. all)) (itself k (simpler_back p) (λ j. inside_back is es j p)))
-        (mapped (λ u. first p u) (λ u h. both_back p p t u (λ all. all) h) (sections_back is es (k - (part_items p + 1)) t))
-
-    inside_back : (is es : List (List ℕ)) (k : ℕ) (p : Part) → Perhaps (BackIn p) (part_simplified is es k p)
-    inside_back is es k (part.component t) =
-        let imports = import_names (imports_of t) in
-        let exports = export_names (exports_of t) in
-        mapped part.component (λ u h all. (kept config u t (as_many imports exports k t u h.0) all.0, h.1 all.1))
-        (both (known (sections_simplified imports exports k t)) (sections_back imports exports k t))
-    inside_back is es k (part.types ts) = mapped part.types (λ us h all. tt) (types_alike k ts)
-    inside_back is es k (part.imports js) = mapped part.imports (λ ys h all. tt) (imports_alike is k js)
-    inside_back is es k (part.exports fs) = mapped part.exports (λ ys h all. tt) (names_alike (λ e. e.name) export_renamed es k fs)
-    inside_back is es k p = nothing tt
-
-pub maxima_simplified : (config : Config) (k : ℕ) (t simpler : Tree) → component_at k t ≡ None → simplified k t ≡ Some simpler
-    → KeepsMaxima config simpler → KeepsMaxima config t
-maxima_simplified config k t u none e keeps =
-    let in_place : simplified k t ≡ sections_of k t = ap (λ (o : Option Tree). elim o [ None ↦ sections_of k t | Some v ↦ Some v ]) none in
-    let imports = import_names (imports_of t) in
-    let exports = export_names (exports_of t) in
-    let is : sections_simplified imports exports k t ≡ Some u = sym in_place ∙ e in
-    all_kept config u t (as_many_anywhere imports exports k t u is) (given u (sections_back config imports exports k t) is)
-    (as_many imports exports k t u is) keeps

@@ -23,6 +23,7 @@ pub mod Remains
 pub mod Renaming
 pub mod Seeking
 pub mod Shorter
+pub mod SimplerEntries
 pub mod SimplerSize
 pub mod Still
 pub mod Sublists

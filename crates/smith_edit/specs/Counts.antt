@@ -1,4 +1,4 @@
--- How many entries there are in each index space, and the most that limits allow of what a component has by itself.
+-- How many entries there are in each index space, and which maxima of the limits a component keeps.
 use Rattle.std.specs.Prelude.{ℕ, ◌+◌, ◌≤◌, ◌∷◌, length}
 use Rattle.std.specs.List.{AllByRecursion}
 use Rattle.smith_format.specs.declared.config.Config.{Config}

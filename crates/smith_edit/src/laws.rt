@@ -110,13 +110,13 @@ pub fn bytes_are_no_more()
         → (fewer : List ℕ) × Spells less fewer × (length fewer ≤ length bytes) }
 {}
 
-/// A component without several items keeps maxima if it keeps them without one of these.
+/// If a component keeps its maxima without one item, it keeps them without several, that one among them.
 pub fn counts_are_no_more_without_more()
     ensures { (config : Config) (low k high : ℕ) (tree less : Tree) → low ≤ k → k ≤ high → without k tree ≡ Some less
         → KeepsMaxima config less → KeepsMaxima config (without_items low high tree) }
 {}
 
-/// A component keeps maxima if it does with an item made simpler that is not a component.
+/// A component keeps its maxima if it keeps them with an item made simpler that is not a component.
 pub fn counts_stay_with_simpler_items()
     ensures { (config : Config) (k : ℕ) (tree simpler : Tree) → component_at k tree ≡ None
         → simplified k tree ≡ Some simpler → KeepsMaxima config simpler → KeepsMaxima config tree }

@@ -212,10 +212,10 @@ impl Totals {
     }
 }
 
-/// Whether a component keeps the maxima of its core modules, components and instances, and itself and each component
-/// inside it those of its types, core types, imports, functions and exports.
+/// Whether a component keeps these maxima of the limits: of core modules, components and instances in the whole, and of
+/// types, core types, imports, functions and exports in itself and in each component inside it.
 ///
-/// If it does not without several items, it does not without one of them: see
+/// If it breaks one without several of its items, it does without any one of these too, by the law
 /// [`counts_are_no_more_without_more`](crate::laws::counts_are_no_more_without_more). It takes time in proportion to
 /// its sections and imports, and stack in proportion to its depth. `Err` is returned if a count would exceed what a
 /// `usize` holds.

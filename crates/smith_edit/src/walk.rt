@@ -13,7 +13,7 @@ use std::alloc::{AllocError, Global};
 #[derive(Clone, Copy)]
 pub(crate) enum Removal {
     Nothing,
-    /// The items from the first number on up to the last, each counted from the place.
+    /// The items from the `first` to the `last`, by their numbers from here on.
     Items { first: usize, last: usize },
     Everything,
 }

@@ -8,7 +8,8 @@ use Rattle.smith_format.specs.declared.config.Config.{Config}
 use Rattle.smith_tree.specs.Limits.{OwnLimits}
 use Rattle.smith_tree.specs.Tree.{Tree, inside}
 use Rattle.smith_component.proofs.RunsSound.{runs_sound}
-use Rattle.smith_edit.proofs.FewerEntries.{maxima_kept, maxima_simplified}
+use Rattle.smith_edit.proofs.FewerEntries.{maxima_kept}
+use Rattle.smith_edit.proofs.SimplerEntries.{maxima_simplified}
 use Rattle.smith_edit.proofs.Nested.{simplified_beyond}
 use Rattle.smith_edit.specs.Counts.{KeepsOwnMaxima}
 use Rattle.smith_edit.specs.Edits.{without, without_items}

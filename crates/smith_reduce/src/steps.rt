@@ -178,7 +178,7 @@ impl<'a> Whole<'a> {
     }
 
     // How many steps, from that one on, lead to no wanted component because of counts, if each removes an item and the
-    // first leads to none. Runs of one step, three, seven and so on are looked at.
+    // first leads to none. It looks at the next three steps, at seven, and so on.
     fn run_passed(&self, alloc: Global, step: usize) -> Result<usize, AllocError>
         requires whole { IsWhole self.now }
         requires within { step < self.now.items }
