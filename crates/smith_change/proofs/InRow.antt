@@ -1,16 +1,14 @@
 -- Entries in a row, one after another.
-use Rattle.std.proofs.Common.{◌≡◌, ℕ, ◌+◌, ◌<◌, ◌≤◌, true, false, Option, Some, None, ap, sym, refl, ◌∙◌, rules}
+use Rattle.std.proofs.Common.{◌≡◌, ℕ, ◌+◌, ◌<◌, ◌≤◌, true, false, Option, Some, None, ap, sym, refl, ◌∙◌}
 use Rattle.std.proofs.Common.{List, [], ◌∷◌, ◌++◌, drop, get_or, map, length}
 use Rattle.std.proofs.lemmas.List.{map-append, take_rest}
 use Rattle.std.specs.Prelude.{slice_range}
 use Rattle.std.specs.Option.{option_map}
-use Rattle.smith_input.proofs.Rests.{drop_past, rest_at}
 use Rattle.smith_change.specs.Rows.{first_or}
 use Rattle.smith_read.specs.Search.{is_here, past, sought}
 use Rattle.smith_read.specs.declared.search.Search.{Search}
-use Rattle.smith_read.specs.declared.search.Search.TheVariants.{Ahead, Over}
-use Rattle.smith_read.proofs.Seeking.{and_then, past_past, sought_none}
-use Rattle.smith_change.proofs.Seeking.{both, sought_both, sought_here, sought_later}
+use Rattle.smith_read.proofs.Seeking.{and_then, past_none, past_past, sought_none}
+use Rattle.smith_change.proofs.Seeking.{both, past_here, sought_both, sought_here, sought_later}
 use Rattle.smith_input.proofs.Lists.{map_drop, map_dropped}
 
 range_end : {A : Type 0} (xs : List A) (i : ℕ) → slice_range xs i (length xs) ≡ drop i xs
@@ -155,13 +153,7 @@ module _ {X A C : Type 0} (r : InRow X A C) where
         ∙ (sym (ap (λ m. past m s) sizes_left) ∙ h))
 
     pub moved_here : (t whole : Search) → is_here s ≡ true → t ≡ past 1 s → past (r.sizes (r.gather (map r.shown (drop i xs)))) s ≡ whole → t ≡ whole
-    moved_here t whole is on h =
-        let inside : ℕ = r.size (r.shown x) + r.sizes left in
-        on ∙ over s is ∙ sym (ap (past inside) (over s is)) ∙ past_past inside 1 s ∙ (sym (ap (λ m. past m s) sizes_left) ∙ h)
-      where
-        over : (u : Search) → is_here u ≡ true → past 1 u ≡ Over
-        over (Ahead m) e = search rules
-        over Over e = absurd cc
+    moved_here t whole is on h = on ∙ past_here (r.size (r.shown x) + r.sizes left) s is ∙ (sym (ap (λ m. past m s) sizes_left) ∙ h)
 
   empty_sought : (s : Search) → seek s (r.gather []) ≡ Some (r.gather [])
   empty_sought s = ap (λ n. sought n s (λ k. r.all k (r.gather [])) (r.gather [])) r.none ∙ sought_none s (λ k. r.all k (r.gather [])) (r.gather [])
@@ -171,6 +163,11 @@ module _ {X A C : Type 0} (r : InRow X A C) where
   seek_end s xs i done whole ge h =
       sym (ap Some (prepend_all done))
       ∙ (sym (ap (option_map (prepend r.cons done)) (ap (λ ys. seek s (r.gather ys)) (map_dropped r.shown xs i ge) ∙ empty_sought s)) ∙ h)
+
+  pub moved_end : (s : Search) (xs : List X) (i : ℕ) (whole : Search) → length xs ≤ i
+      → past (r.sizes (r.gather (map r.shown (drop i xs)))) s ≡ whole → s ≡ whole
+  moved_end s xs i whole ge h =
+      sym (ap (λ ys. past (r.sizes (r.gather ys)) s) (map_dropped r.shown xs i ge) ∙ ap (λ n. past n s) r.none ∙ past_none s) ∙ h
 
   -- nothing is done yet
   pub seek_start : (s : Search) (c : C) → option_map (prepend r.cons []) (seek s c) ≡ seek s c

@@ -1,8 +1,8 @@
 -- What is sought, place by place.
-use Rattle.std.proofs.Common.{◌≡◌, ℕ, ◌+◌, ◌-◌, ◌<◌, ◌≤◌, true, false, Option, Some, None, ap, sym, refl, ◌∙◌, arith, nat_lt, ⊎_elim, rules}
+use Rattle.std.proofs.Common.{◌≡◌, ℕ, ◌+◌, ◌-◌, ◌<◌, ◌≤◌, true, false, Option, Some, None, ap, sym, refl, subst, ◌∙◌, arith, nat_lt, ⊎_elim, rules}
 use Rattle.std.proofs.lemmas.Bool.{cases_lt}
 use Rattle.std.proofs.lemmas.Bool.Decides.{nat_tests}
-use Rattle.std.specs.Prelude.{IfOk, IsSomeAnd, MatchOption, Result, Ok, Err}
+use Rattle.std.specs.Prelude.{IsSomeAnd, MatchOption}
 use Rattle.std.specs.Option.{IsSome, option_map, option_zip}
 use Rattle.smith_change.specs.Rows.{first_or, in_turn}
 use Rattle.smith_read.specs.Search.{among, is_here, past, sought}
@@ -88,6 +88,14 @@ module _ {A : Type 0} (n : ℕ) (own : Option A) (later : ℕ → Option A) (x :
   sought_later (Ahead k) is = search rules
   sought_later Over is = refl
 
+-- What was here is behind, whatever is inside.
+pub past_here : (n : ℕ) (s : Search) → is_here s ≡ true → past 1 s ≡ past (1 + n) s
+past_here n s is = over s is ∙ sym (ap (past n) (over s is)) ∙ past_past n 1 s
+  where
+    over : (u : Search) → is_here u ≡ true → past 1 u ≡ Over
+    over (Ahead m) e = search rules
+    over Over e = absurd cc
+
 -- what is sought, seen otherwise
 pub sought_map : {A B : Type 0} (h : A → B) (n : ℕ) (s : Search) (f : ℕ → Option A) (x : A)
     → sought n s (λ j. option_map h (f j)) (h x) ≡ option_map h (sought n s f x)
@@ -104,6 +112,12 @@ pub later_mapped : {A B : Type 0} (h : A → B) (n : ℕ) (own : Option B) (f : 
 later_mapped h n own f x s t found is on e =
     ap (option_map h) e ∙ sym (sought_map h n t f x) ∙ ap (λ u. sought n u (λ j. option_map h (f j)) (h x)) on
     ∙ sym (sought_later n own (λ j. option_map h (f j)) (h x) s is)
+
+-- Something is made only of what is there.
+pub made_of_some : {V R : Type 0} (post : V → R → Type 0) (p : Option V) (r : Option R) → MatchOption p (r ≡ None) (λ v. IsSomeAnd r (post v))
+    → IsSome r → IsSome p
+made_of_some post None r cases there = let no = subst IsSome cases there in absurd cc
+made_of_some post (Some v) r cases there = refl
 
 -- What a function made of what is found, seen otherwise.
 module _ {V R L D : Type 0} (seen : R → D) (h : L → D) (view : V → L) (post : V → R → Type 0) (is : (v : V) (r : R) → post v r → seen r ≡ h (view v)) where

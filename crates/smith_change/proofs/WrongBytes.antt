@@ -22,6 +22,12 @@ pub put_first : (none headed all rest : List ℕ) (n : ℕ) → none ≡ [] → 
 put_first none headed all rest n nothing head is =
     ap (λ p. p ⊕ Some rest) (sym (head ∙ ap (λ l. Some l ⊕ u n) nothing ∙ left_nil (u n))) ∙ joined headed rest ∙ ap Some (sym is)
 
+-- the greatest count, put before the rest
+pub put_most : (none headed all rest : List ℕ) (n : ℕ) → none ≡ [] → Some headed ≡ Some none ⊕ u n → all ≡ headed ++ rest → n ≡ most_count
+    → u most_count ⊕ Some rest ≡ Some all
+put_most none headed all rest n nothing head is most =
+    subst (λ m. u m ⊕ Some rest ≡ Some all) most (put_first none headed all rest n nothing head is)
+
 -- a section, put behind others piece by piece
 pub put_behind : (front headed all rest : List ℕ) (id size : ℕ) → Some headed ≡ Some (front ++ id ∷ []) ⊕ u size → all ≡ headed ++ rest
     → with_section front id size (Some rest) ≡ Some all

@@ -1,6 +1,6 @@
 //! Entries in a row, one of which is changed.
 
-ghost use Rattle.std.specs.Prelude.{◌≡◌, ◌++◌, ℕ, Option, Some, map, IfOk, IsSome, option_map, string_bytes};
+ghost use Rattle.std.specs.Prelude.{◌≡◌, ◌++◌, ◌∷◌, ℕ, [], Option, Some, map, IfOk, IsSome, option_map, string_bytes};
 ghost use Rattle.smith_change.specs.Rows as rows;
 ghost use Rattle.smith_read.specs.Search.{past, sought};
 
@@ -75,6 +75,15 @@ pub(crate) fn copied_after<T: Entry>(
     Ok(all)
 }
 
+// These, and then a copy of the entry.
+fn copied_behind<T: Entry>(alloc: Global, done: Vec<T>, entry: &T) -> Result<Vec<T>, AllocError>
+    ensures { IfOk result (λ v. map T.shown v.items ≡ map T.shown done.items ++ T.shown entry.now ∷ []) }
+{
+    let mut all = done;
+    all.push(entry.copied(alloc)?)?;
+    Ok(all)
+}
+
 /// Copies of the entries.
 pub(crate) fn copied_all<T: Entry>(alloc: Global, entries: &[T]) -> Result<Vec<T>, AllocError>
     ensures { IfOk result (λ v. map T.shown v.items ≡ map T.shown entries.now) }
@@ -90,9 +99,8 @@ fn exchanged_after<T: Entry>(alloc: Global, done: Vec<T>, entries: &[T]) -> Chan
     if entries.len() < 2 {
         return Ok(None);
     }
-    let mut done = done;
-    done.push(entries[1].copied(alloc)?)?;
-    done.push(entries[0].copied(alloc)?)?;
+    let done = copied_behind(alloc, done, &entries[1])?;
+    let done = copied_behind(alloc, done, &entries[0])?;
     Ok(Some(copied_after(alloc, done, &entries[2..])?))
 }
 
@@ -108,8 +116,7 @@ fn followed_after<T: Entry>(alloc: Global, done: Vec<T>, entries: &[T]) -> Chang
     let Some(again) = entries[0].renamed(alloc)? else {
         return Ok(None);
     };
-    let mut done = done;
-    done.push(entries[0].copied(alloc)?)?;
+    let mut done = copied_behind(alloc, done, &entries[0])?;
     done.push(again)?;
     Ok(Some(copied_after(alloc, done, &entries[1..])?))
 }
@@ -128,8 +135,7 @@ pub(crate) fn change_entry<T: Entry>(change: Change, done: Vec<T>, entries: &[T]
     match change.alternative {
         0 => Ok(Some(copied_after(alloc, done, &entries[1..])?)),
         1 => {
-            let mut done = done;
-            done.push(entries[0].copied(alloc)?)?;
+            let done = copied_behind(alloc, done, &entries[0])?;
             Ok(Some(copied_after(alloc, done, entries)?))
         }
         2 => exchanged_after(alloc, done, entries),

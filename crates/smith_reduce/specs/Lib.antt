@@ -1,3 +1,5 @@
+pub mod Allowed
 pub mod Bytes
+pub mod Fits
 pub mod Smaller
 pub mod Wanted

@@ -3,6 +3,8 @@
 
 mod edits;
 mod error;
+mod fits;
+mod generated;
 mod steps;
 
 pub use edits::{joined, without};

@@ -5,18 +5,18 @@ ghost use Rattle.smith_tree.specs.Grammar.{Spells};
 ghost use Rattle.smith_tree.specs.Tree.{Tree};
 ghost use Rattle.smith_read.specs.PartNodes.{shown_tree};
 ghost use Rattle.smith_reduce.specs.Bytes.{IsReduceRefusal};
-ghost use Rattle.smith_reduce.specs.Smaller.{HasScript, IsKth, IsNext, stepped, steps};
+ghost use Rattle.smith_reduce.specs.Smaller.{IsKth, IsNext, stepped, steps};
 ghost use Rattle.smith_reduce.specs.Wanted.{AreConsistent, AreCountsAllowed, ArePassed, IsFound, IsLead, IsWanted};
 ghost use Rattle.smith_reduce.specs.Wanted.{IsWhole};
 ghost use Rattle.smith_reduce.specs.declared.error.ReduceError.TheVariants.{InconsistentLimits};
 
 use crate::edits::spelled;
 use crate::error::ReduceError;
+use crate::generated::has_script;
 use smith_check::{Judgement, judged};
 use smith_edit::{item_count, keeps_maxima, next_component, simplified, without, without_items};
 use smith_format::Config;
 use smith_read::{ComponentTree, read};
-use smith_script::script_of;
 use std::alloc::{AllocError, Global};
 
 /// Which components are wanted.
@@ -55,22 +55,6 @@ struct Whole<'a> {
     wanted: Wanted<'a>,
     // Its counts alone say that it is not wanted itself.
     is_over: bool,
-}
-
-// Does the component with these bytes have a script within the limits?
-fn has_script(
-    alloc: Global,
-    config: &Config,
-    component: &ComponentTree,
-    bytes: &[u8],
-) -> Result<bool, AllocError>
-    requires { Spells (shown_tree component.now) bytes.now }
-    ensures { IfOk result (λ r. Decides r (HasScript config.now (shown_tree component.now))) }
-{
-    match script_of(alloc, config, component, bytes)? {
-        Some(_script) => Ok(true),
-        None => Ok(false),
-    }
 }
 
 impl Wanted<'_> {
@@ -322,8 +306,9 @@ fn component_of(
 /// is none if no more than `k` steps lead to a wanted component.
 ///
 /// The steps are, in this order: without each item, as [`smith_edit::without`] defines, and with each item made
-/// simpler, as [`smith_edit::simplified`] defines. Each takes the time of a script of the component, or of a judgement;
-/// steps in a row that leave too many types, functions or other entries for the limits take that of a few edits.
+/// simpler, as [`smith_edit::simplified`] defines. Each takes the time of a judgement, and that of a script if counts,
+/// names and types do not say that there is one; steps in a row that leave too many types, functions or other entries
+/// for the limits take that of a few edits.
 pub fn smaller(
     alloc: Global,
     wanted: Wanted<'_>,

@@ -6,4 +6,5 @@ pub mod Known
 pub mod Noted
 pub mod Plans
 pub mod Same
+pub mod StandIns
 pub mod Turns

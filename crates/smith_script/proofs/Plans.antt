@@ -14,7 +14,7 @@ use Rattle.smith_script.specs.declared.error.ScriptError.{ScriptError}
 use Rattle.smith_script.specs.declared.error.ScriptError.TheVariants.{IllFormed, InconsistentLimits, NoScript, OutOfMemory, Unread}
 
 module _ (config : Config) (plan : Tree) (consistent : IsConsistent config) (within : Within config plan) where
-  plan_script : IsScript config plan (script config plan)
+  pub plan_script : IsScript config plan (script config plan)
   plan_script = record {
     is = refl;
     bytes = plan_bytes config plan consistent within;

@@ -3,3 +3,4 @@ pub mod IsScript
 pub mod Preceding
 pub mod Refusals
 pub mod Saying
+pub mod StandIns

@@ -18,3 +18,4 @@ pub use scripting::{script, script_of};
 pub use smith_check::Fault;
 pub use smith_format::Config;
 pub use smith_read::Reason;
+pub use stand_ins::is_stand_in;

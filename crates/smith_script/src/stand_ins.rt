@@ -1,21 +1,25 @@
 //! Core modules that stand for generated ones.
 
-ghost use Rattle.std.specs.Prelude.{◌≡◌, ◌≤◌, ◌<◌, [], ◌∷◌, length, map, IfOk, IfErr, MatchOption};
+ghost use Rattle.std.specs.Prelude.{◌≡◌, ◌≤◌, ◌<◌, [], ◌∷◌, length, map, Decides, IfOk, IfErr, MatchOption, None, Some};
 ghost use Rattle.smith_format.specs.CoreScript.{script_function, script_values};
 ghost use Rattle.smith_format.specs.Limits.{configured, max_results};
+ghost use Rattle.smith_core.specs.Module.{module_text};
 ghost use Rattle.smith_core.specs.StandInScript.{all_memories, counted_functions, function_of, functions_from};
 ghost use Rattle.smith_core.specs.StandInScript.{memories_of, memory_of, past_number, script_stand_in, stand_in_of};
 ghost use Rattle.smith_core.specs.StandInScript.{types_from, value_of, values_of};
+ghost use Rattle.smith_input.specs.Script.{AreBytes};
 ghost use Rattle.smith_script_types.specs.Says.{Says};
 ghost use Rattle.smith_script_types.specs.Fronts.{script_functions, script_memories};
 ghost use Rattle.smith_input.specs.declared.error.Error.TheVariants.{OutOfMemory};
+ghost use Rattle.smith_script.specs.StandIns.{IsMade, IsStandInText};
 
+use smith_core::Module;
 use smith_format::{Config, RefType, ValType};
-use smith_input::Error;
+use smith_input::{Error, Unstructured};
 use smith_script_types::{
     behind, front, max_results, say_core_values, say_end, say_limits, say_more,
 };
-use std::alloc::Global;
+use std::alloc::{AllocError, Global};
 
 // The value type of a byte.
 fn value_of(byte: u8) -> ValType
@@ -183,4 +187,60 @@ pub fn say_stand_in(
     let (count, types) = types_of(behind(text, 8));
     let left = say_functions(alloc, out, config, count, types)?;
     say_memories(out, config, memories_of(left))
+}
+
+// The script of a core module of these bytes, if it stands for a generated one and that is bytes.
+fn stand_in_script(
+    alloc: Global,
+    config: &Config,
+    text: &[u8],
+) -> Result<Option<Vec<u8>>, AllocError>
+    ensures { let script = script_stand_in config.now (stand_in_of text.now) in
+        IfOk result (λ r. MatchOption r (¬ AreBytes script) (λ s. s.items ≡ script)) }
+{
+    let mut script = Vec::new(alloc);
+    match say_stand_in(alloc, &mut script, config, text) {
+        Ok(()) => Ok(Some(script)),
+        Err(Error::OutOfMemory) => Err(AllocError),
+        Err(_) => Ok(None),
+    }
+}
+
+// The bytes of a core module, if it has any.
+fn module_bytes(alloc: Global, module: &Module) -> Result<Option<Vec<u8>>, AllocError>
+    ensures { IfOk result (λ r. MatchOption r (module_text module.now ≡ None)
+        (λ b. module_text module.now ≡ Some b.items)) }
+{
+    match module.to_bytes(alloc) {
+        Ok(bytes) => Ok(Some(bytes)),
+        Err(Error::OutOfMemory) => Err(AllocError),
+        Err(_) => Ok(None),
+    }
+}
+
+// The bytes of the core module that is read from an input, if one is read that has any.
+#[tactic(auto, using(crate::proofs::StandIns::made_of, crate::proofs::StandIns::none_read))]
+fn made(alloc: Global, config: &Config, input: &[u8]) -> Result<Option<Vec<u8>>, AllocError>
+    ensures { IfOk result (IsMade config.now input.now) }
+{
+    let mut input = Unstructured::new(input);
+    match Module::new_internal(alloc, *config, &mut input) {
+        Ok(module) => module_bytes(alloc, &module),
+        Err(Error::OutOfMemory) => Err(AllocError),
+        Err(_) => Ok(None),
+    }
+}
+
+/// Does a core module of these bytes stand for a generated one within the limits: does it have function types and
+/// memories that they allow, and nothing else? It takes time in proportion to the bytes.
+pub fn is_stand_in(alloc: Global, config: &Config, text: &[u8]) -> Result<bool, AllocError>
+    ensures { IfOk result (λ r. Decides r (IsStandInText config.now text.now)) }
+{
+    let Some(script) = stand_in_script(alloc, config, text)? else {
+        return Ok(false);
+    };
+    match made(alloc, config, &script)? {
+        Some(bytes) => Ok(bytes.as_slice() == text),
+        None => Ok(false),
+    }
 }

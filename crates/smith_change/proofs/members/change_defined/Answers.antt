@@ -1,13 +1,14 @@
 use Rattle.std.proofs.Common.{◌≡◌, ℕ, Option, ap, map, refl, subst, sym, ◌∙◌}
 use Rattle.std.proofs.lemmas.List.{map-id}
-use Rattle.std.specs.Option.{option_map}
-use Rattle.smith_syntax.specs.Entries.{primitive_type, record_type, tuple_type, variant_type}
+use Rattle.std.specs.Option.{IsSome, option_map}
+use Rattle.std.specs.Prelude.{IfOk, string_bytes}
+use Rattle.smith_syntax.specs.Entries.{enum_type, flags_type, primitive_type, record_type, tuple_type, variant_type}
 use Rattle.smith_syntax.specs.Shown.{shown_defined}
 use Rattle.smith_syntax.specs.Signature.{named}
 use Rattle.smith_change.specs.Members.{cases_changed, cases_places, fields_changed, fields_places, most_members, new_case, new_field, new_value}
 use Rattle.smith_change.specs.Members.{values_changed, values_places}
 use Rattle.smith_change.specs.Members.{defined_changed, defined_places}
-use Rattle.smith_read.specs.Search.{sought}
+use Rattle.smith_read.specs.Search.{past, sought}
 use Rattle.smith_read.specs.declared.search.Search.{Search}
 use Rattle.smith_syntax.specs.declared.types.DefinedType.{DefinedType}
 use Rattle.smith_change.proofs.RowsOf.{same_option}
@@ -76,3 +77,48 @@ returns-in-List-clause-ty c =
 pub returns-in-Option-clause-ty : goal.returns-in-Option-clause-ty
 returns-in-Option-clause-ty c =
     subst (λ t. Found t c.change_option.result c.args.search.now c.args.change.alternative) (sym c.in-Option.is) c.change_option.ensures.ty
+
+pub returns-in-Flags-clause-ty : goal.returns-in-Flags-clause-ty
+returns-in-Flags-clause-ty c =
+    subst (λ d. IfOk c.change_flags.result (λ r. option_map shown_defined r
+    ≡ sought (defined_places d) c.args.search.now (λ k. defined_changed c.args.change.alternative k d) d))
+    (sym (ap shown_defined c.in-Flags.is ∙ ap (λ ls. flags_type (map string_bytes ls)) (sym c.deref-in-Flags.ensures.value))) c.change_flags.ensures.ty
+
+pub returns-in-Flags-clause-moved : goal.returns-in-Flags-clause-moved
+returns-in-Flags-clause-moved c =
+    subst (λ d. IfOk c.change_flags.result (λ r. IsSome r → c.change_flags.new.search ≡ past (defined_places d) c.args.search.now))
+    (sym (ap shown_defined c.in-Flags.is ∙ ap (λ ls. flags_type (map string_bytes ls)) (sym c.deref-in-Flags.ensures.value))) c.change_flags.ensures.moved
+
+pub returns-in-Enum-clause-ty : goal.returns-in-Enum-clause-ty
+returns-in-Enum-clause-ty c =
+    subst (λ d. IfOk c.change_enum.result (λ r. option_map shown_defined r
+    ≡ sought (defined_places d) c.args.search.now (λ k. defined_changed c.args.change.alternative k d) d))
+    (sym (ap shown_defined c.in-Enum.is ∙ ap (λ ls. enum_type (map string_bytes ls)) (sym c.deref-in-Enum.ensures.value))) c.change_enum.ensures.ty
+
+pub returns-in-Enum-clause-moved : goal.returns-in-Enum-clause-moved
+returns-in-Enum-clause-moved c =
+    subst (λ d. IfOk c.change_enum.result (λ r. IsSome r → c.change_enum.new.search ≡ past (defined_places d) c.args.search.now))
+    (sym (ap shown_defined c.in-Enum.is ∙ ap (λ ls. enum_type (map string_bytes ls)) (sym c.deref-in-Enum.ensures.value))) c.change_enum.ensures.moved
+
+pub returns-in-List-clause-moved : goal.returns-in-List-clause-moved
+returns-in-List-clause-moved c =
+    subst (λ t. IsSome c.change_list.result → c.change_list.new.search ≡ past (defined_places (shown_defined t)) c.args.search.now) (sym c.in-List.is)
+    c.change_list.ensures.moved
+
+pub returns-in-Option-clause-moved : goal.returns-in-Option-clause-moved
+returns-in-Option-clause-moved c =
+    subst (λ t. IsSome c.change_option.result → c.change_option.new.search ≡ past (defined_places (shown_defined t)) c.args.search.now) (sym c.in-Option.is)
+    c.change_option.ensures.moved
+
+pub returns-in-Result-clause-moved : goal.returns-in-Result-clause-moved
+returns-in-Result-clause-moved c =
+    subst (λ t. IsSome c.change_result.result → c.change_result.new.search ≡ past (defined_places (shown_defined t)) c.args.search.now) (sym c.in-Result.is)
+    c.change_result.ensures.moved
+
+pub returns-in-Result-clause-ty : goal.returns-in-Result-clause-ty
+returns-in-Result-clause-ty c =
+    subst (λ t. Found t c.change_result.result c.args.search.now c.args.change.alternative) (sym c.in-Result.is) c.change_result.ensures.ty
+
+pub returns-in-Primitive-clause-moved : goal.returns-in-Primitive-clause-moved
+returns-in-Primitive-clause-moved c = λ there.
+    subst (λ t. c.value_or-ty.new.self ≡ past (defined_places (shown_defined t)) c.args.search.now) (sym c.in-Primitive.is) c.value_or-ty.ensures.moved

@@ -1,5 +1,6 @@
+use Rattle.std.proofs.Common.{refl}
 use Rattle.smith_read.proofs.Telling.{tells_u}
-use Rattle.smith_change.proofs.WrongBytes.{put_first}
+use Rattle.smith_change.proofs.WrongBytes.{put_most}
 use Rattle.smith_change.proofs.miswritten.with_most_entries.Goals as goal
 
 pub returns : goal.returns
@@ -9,6 +10,6 @@ returns c =
       count,
       entries,
       tells_u.sound c.args.list.now (count, entries) c.in-Ok.ensures,
-      put_first c.new-most.result.items c.put_number.new.out.items _ entries 4294967295 c.new-most.ensures.items c.in_ok-put_number.ensures
-          c.in_ok-extend_from_slice.ensures.items,
+      put_most c.new-most.result.items c.put_number.new.out.items _ entries _ c.new-most.ensures.items c.in_ok-put_number.ensures
+          c.in_ok-extend_from_slice.ensures.items refl,
     )
