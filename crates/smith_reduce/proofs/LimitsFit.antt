@@ -6,21 +6,20 @@ use Rattle.smith_input.proofs.Lists.{all_both}
 use Rattle.smith_syntax.specs.Entries.{Decl, Decls, Entry, component_type, core_type_decl, defined, function}
 use Rattle.smith_syntax.specs.Entries.{instance_type, no_decls, then_decls, type_decl}
 use Rattle.smith_syntax.specs.TypeLimits.{DeclLimits, DeclsLimits, EntryLimits}
+use Rattle.smith_syntax.specs.CoreLimits.{CoreLimits}
+use Rattle.smith_tree.specs.CoreTypeNeeds.{core_need}
 use Rattle.smith_tree.specs.Limits.{Maxima, OwnLimits, OwnSizes, Sized, max_depth}
 use Rattle.smith_tree.specs.Readable.{AreFinishable, IsFinishable}
 use Rattle.smith_tree.specs.Spaces.{Spaces, after_part, no_spaces, spaces_of}
 use Rattle.smith_tree.specs.Tree.{Part, Tree, canons, component, core_module, core_types, custom, ends, exports, first, imports, types}
 use Rattle.smith_tree.specs.Tree.{anywhere_in, components_in, declared_depth, depth, depth_by_in, inside, most, names_in, no_depth, own, parts_of}
-use Rattle.smith_tree.specs.TypeNeeds.{declaring}
+use Rattle.smith_tree.specs.TypeNeeds.{declaring, need}
+use Rattle.smith_component.proofs.Tables.{all_weaker}
 use Rattle.smith_component.proofs.Growth.{KeepsTypes, canons_keep, exports_keep, imports_keep}
 use Rattle.smith_edit.specs.Counts.{KeepsMaxima, KeepsOwnMaxima}
 use Rattle.smith_reduce.specs.Fits.{Fits, FitsCoreType, FitsDecl, FitsDecls, FitsEntry, FitsPart, FitsType}
 
--- what follows from a fact of each of a list, or from two
-all_of : {A : Type 0} {P Q : A → Type 0} → ((x : A) → P x → Q x) → (xs : List A) → AllByRecursion P xs → AllByRecursion Q xs
-all_of f [] ps = tt
-all_of f (x ∷ xs) ps = (f x ps.0, all_of f xs ps.1)
-
+-- what follows from two facts of each of a list
 all_of_both : {A : Type 0} {P Q R : A → Type 0} → ((x : A) → P x → Q x → R x) → (xs : List A) → AllByRecursion P xs → AllByRecursion Q xs → AllByRecursion R xs
 all_of_both f [] ps qs = tt
 all_of_both f (x ∷ xs) ps qs = (f x ps.0 qs.0, all_of_both f xs ps.1 qs.1)
@@ -98,51 +97,43 @@ module _ (config : Config) where
     imports = keeps.imports;
     functions = keeps.functions;
     exports = keeps.exports;
-    within_types = all_of (λ e f. entry_limits e f.fits) (spaces_of t).types (fitting t fits).types;
-    within_core_types = all_of (λ e f. f.fits.limits) (spaces_of t).core_types (fitting t fits).core_types;
+    within_types = all_weaker (FitsType config) (EntryLimits config) (λ e f. entry_limits e f.fits) (spaces_of t).types (fitting t fits).types;
+    within_core_types =
+        all_weaker (FitsCoreType config) (CoreLimits config) (λ e f. f.fits.limits) (spaces_of t).core_types (fitting t fits).core_types;
     names = own_short t fits;
   }
 
   own_sizes : (t : Tree) → Fits config t → OwnSizes config t
   own_sizes t fits = (
-    all_of (λ e f. f.small) (spaces_of t).types (fitting t fits).types,
-    all_of (λ e f. f.small) (spaces_of t).core_types (fitting t fits).core_types,
+    all_weaker (FitsType config) (λ e. need e ≤ config.max_type_size) (λ e f. f.small) (spaces_of t).types (fitting t fits).types,
+    all_weaker (FitsCoreType config) (λ e. core_need e ≤ config.max_type_size) (λ e f. f.small) (spaces_of t).core_types (fitting t fits).core_types,
   )
 
   -- the components inside it
-  mutual
-    all_inside : (t : Tree) → Fits config t → AllByRecursion (Fits config) (inside t)
-    all_inside ends fits = tt
-    all_inside (first p t) fits = all_both (Fits config) (anywhere_in components_in p) (inside t) (all_within p fits.0) (all_inside t fits.1)
 
-    all_within : (p : Part) → FitsPart config p → AllByRecursion (Fits config) (anywhere_in components_in p)
-    all_within (component t) fits = (fits.1, all_inside t fits.1)
-    all_within (custom name contents) fits = tt
-    all_within (core_module text) fits = tt
-    all_within (core_types ts) fits = tt
-    all_within (types ts) fits = tt
-    all_within (canons fs) fits = tt
-    all_within (imports is) fits = tt
-    all_within (exports es) fits = tt
+  abbrev IsInner : Tree → Type 0
+  IsInner t = IsFinishable config t × Fits config t
 
   mutual
-    finishable_inside : (t : Tree) → Fits config t → AllByRecursion (IsFinishable config) (inside t)
-    finishable_inside ends fits = tt
-    finishable_inside (first p t) fits =
-        all_both (IsFinishable config) (anywhere_in components_in p) (inside t) (finishable_within p fits.0) (finishable_inside t fits.1)
+    inner : (t : Tree) → Fits config t → AllByRecursion IsInner (inside t)
+    inner ends fits = tt
+    inner (first p t) fits = all_both IsInner (anywhere_in components_in p) (inside t) (inner_of p fits.0) (inner t fits.1)
 
-    finishable_within : (p : Part) → FitsPart config p → AllByRecursion (IsFinishable config) (anywhere_in components_in p)
-    finishable_within (component t) fits = (fits.0, finishable_inside t fits.1)
-    finishable_within (custom name contents) fits = tt
-    finishable_within (core_module text) fits = tt
-    finishable_within (core_types ts) fits = tt
-    finishable_within (types ts) fits = tt
-    finishable_within (canons fs) fits = tt
-    finishable_within (imports is) fits = tt
-    finishable_within (exports es) fits = tt
+    inner_of : (p : Part) → FitsPart config p → AllByRecursion IsInner (anywhere_in components_in p)
+    inner_of (component t) fits = (fits, inner t fits.1)
+    inner_of (custom name contents) fits = tt
+    inner_of (core_module text) fits = tt
+    inner_of (core_types ts) fits = tt
+    inner_of (types ts) fits = tt
+    inner_of (canons fs) fits = tt
+    inner_of (imports is) fits = tt
+    inner_of (exports es) fits = tt
+
+  all_fit : (t : Tree) → Fits config t → AllByRecursion (Fits config) (t ∷ inside t)
+  all_fit t fits = (fits, all_weaker IsInner (Fits config) (λ u both. both.1) (inside t) (inner t fits))
 
   pub all_finishable : (t : Tree) → IsFinishable config t → Fits config t → AreFinishable config t
-  all_finishable t enough fits = (enough, finishable_inside t fits)
+  all_finishable t enough fits = (enough, all_weaker IsInner (IsFinishable config) (λ u both. both.0) (inside t) (inner t fits))
 
 -- how deep components are
 mutual
@@ -162,7 +153,7 @@ mutual
 
 pub fit_maxima : (config : Config) (t : Tree) → KeepsMaxima config t → Fits config t → declared_depth t ≤ max_depth config → Maxima config t
 fit_maxima config t keeps fits low = record {
-  each = all_of_both (own_limits config) (t ∷ inside t) keeps.each (fits, all_inside config t fits);
+  each = all_of_both (own_limits config) (t ∷ inside t) keeps.each (all_fit config t fits);
   modules = keeps.modules;
   components = keeps.components;
   instances = keeps.instances;
@@ -171,4 +162,4 @@ fit_maxima config t keeps fits low = record {
 }
 
 pub fit_sizes : (config : Config) (t : Tree) → Fits config t → Sized config t
-fit_sizes config t fits = all_of (own_sizes config) (t ∷ inside t) (fits, all_inside config t fits)
+fit_sizes config t fits = all_weaker (Fits config) (OwnSizes config) (own_sizes config) (t ∷ inside t) (all_fit config t fits)

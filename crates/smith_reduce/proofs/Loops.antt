@@ -1,12 +1,11 @@
 -- Loops that find whether all items of a list have a property.
-use Rattle.std.proofs.Common.{◌≡◌, ℕ, ◌+◌, ◌<◌, ◌≤◌, List, [], ◌∷◌, map, length, drop, get_or, refl, sym, ap, subst, arith}
+use Rattle.std.proofs.Common.{◌≡◌, ℕ, ◌+◌, ◌<◌, ◌≤◌, List, [], ◌∷◌, map, length, get_or, refl, sym, ap, subst, arith}
 use Rattle.std.proofs.lemmas.List.{length-map}
 use Rattle.std.specs.List.{AllByRecursion, flat_map}
 use Rattle.std.specs.Prelude.{String, string_bytes}
 use Rattle.std.specs.declared.alloc.Global.{Global}
 use Rattle.smith_format.specs.declared.config.Config.{Config}
 use Rattle.smith_input.proofs.Lists.{all_both}
-use Rattle.smith_input.proofs.Rests.{drop_past, rest_at}
 use Rattle.smith_syntax.specs.Entries.{decl_count, in_order}
 use Rattle.smith_syntax.specs.Signature.{named}
 use Rattle.smith_tree.specs.Readable.{IsFinishable}
@@ -15,19 +14,21 @@ use Rattle.smith_read.specs.PartNodes.{shown_part_node}
 use Rattle.smith_read.specs.TypeNodes.{shown_decl_node}
 use Rattle.smith_read.specs.declared.nodes.PartNode.{PartNode}
 use Rattle.smith_read.specs.declared.type_nodes.DeclNode.{DeclNode}
+use Rattle.smith_check.proofs.Judging.{AllLeft, left_at, left_done}
+use Rattle.smith_check.proofs.TypeSteps.{names_named}
 use Rattle.smith_edit.proofs.Joining.{parts_same}
 
 module _ {A B : Type 0} (P : B → Type 0) (view : A → B) (xs : List A) (i : ℕ) where
   -- All have the property if those from that one on have it.
   abbrev pub IfRest : Type 0
-  IfRest = AllByRecursion P (map view (drop i xs)) → AllByRecursion P (map view xs)
+  IfRest = AllLeft P view xs i → AllByRecursion P (map view xs)
 
   pub one_has : IfRest → (x : A) → i < length xs → x ≡ get_or xs i x → P (view x)
-      → AllByRecursion P (map view (drop (i + 1) xs)) → AllByRecursion P (map view xs)
-  one_has rest x l e has more = rest (subst (λ ys. AllByRecursion P (map view ys)) (sym (rest_at xs i x l e)) (has, more))
+      → AllLeft P view xs (i + 1) → AllByRecursion P (map view xs)
+  one_has rest x l e has more = rest ((left_at P view xs i x l e).from (has, more))
 
   pub all_have : IfRest → length xs ≤ i → AllByRecursion P (map view xs)
-  all_have rest l = rest (subst (λ (ys : List A). AllByRecursion P (map view ys)) (sym (drop_past xs i l)) tt)
+  all_have rest l = rest (left_done P view xs i l)
 
 -- Items that each have a list of what has a property.
 pub all_flat : {A B : Type 0} (P : B → Type 0) (f : A → List B) (xs : List A) → AllByRecursion (λ x. AllByRecursion P (f x)) xs
@@ -35,20 +36,10 @@ pub all_flat : {A B : Type 0} (P : B → Type 0) (f : A → List B) (xs : List A
 all_flat P f [] all = tt
 all_flat P f (x ∷ xs) all = all_both P (f x) (flat_map f xs) all.0 (all_flat P f xs all.1)
 
--- one of two properties
-pub all_firsts : {A : Type 0} (P Q : A → Type 0) (xs : List A) → AllByRecursion (λ x. P x × Q x) xs → AllByRecursion P xs
-all_firsts P Q [] all = tt
-all_firsts P Q (x ∷ xs) all = (all.0.0, all_firsts P Q xs all.1)
-
-pub all_seconds : {A : Type 0} (P Q : A → Type 0) (xs : List A) → AllByRecursion (λ x. P x × Q x) xs → AllByRecursion Q xs
-all_seconds P Q [] all = tt
-all_seconds P Q (x ∷ xs) all = (all.0.1, all_seconds P Q xs all.1)
-
 -- the names of items, as the program and as the plain tree has them
 pub all_named : {B : Type 0} (P : List ℕ → Type 0) (xs : List (String Global × B)) → AllByRecursion P (map (λ x. string_bytes x.0) xs)
     → AllByRecursion P (map (λ x. x.0) (map named xs))
-all_named P [] all = tt
-all_named P (x ∷ xs) all = (all.0, all_named P xs all.1)
+all_named P xs all = subst (AllByRecursion P) (sym (names_named xs)) all
 
 -- Declarations are as many as the nodes that show them.
 decls_counted : (ds : List DeclNode) → decl_count (in_order (map shown_decl_node ds)) ≡ length ds

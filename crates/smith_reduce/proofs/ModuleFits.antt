@@ -15,9 +15,10 @@ use Rattle.smith_syntax.specs.ModuleTypes.{after_front, entities_in, func_of}
 use Rattle.smith_tree.specs.Readable.{StandsForModule}
 use Rattle.smith_read.specs.Nodes.{shown_module_node}
 use Rattle.smith_read.specs.declared.core_types.ModuleNode.{ModuleNode}
+use Rattle.smith_component.proofs.Tables.{all_weaker}
 use Rattle.smith_script.specs.StandIns.{IsStandInText}
 use Rattle.smith_reduce.specs.Fits.{AllowsDecl, KeepsCounts, FitsCore, HasReadableTexts}
-use Rattle.smith_reduce.proofs.Loops.{all_firsts, all_flat, all_seconds}
+use Rattle.smith_reduce.proofs.Loops.{all_flat}
 
 -- A value at a place of a list is contained in it.
 pub is_contained : {X : Type 0} (xs : List X) (x : X) → (k : ℕ) × (k < length xs) × HoldsAt (λ y. y ≡ x) xs k → Contains xs x
@@ -37,8 +38,8 @@ module _ (config : Config) (ds : List ModuleDecl) where
       let passes : ModuleDecl → Type 0 = λ d. AllByRecursion Q (entities_in d) in
       record {
         limits = record {
-          functions = all_flat P func_of ds (all_firsts declares passes ds allowed);
-          entities = all_flat Q entities_in ds (all_seconds declares passes ds allowed);
+          functions = all_flat P func_of ds (all_weaker (AllowsDecl config) declares (λ d both. both.0) ds allowed);
+          entities = all_flat Q entities_in ds (all_weaker (AllowsDecl config) passes (λ d both. both.1) ds allowed);
           types = few.types;
           globals = few.globals;
           tables = few.tables;

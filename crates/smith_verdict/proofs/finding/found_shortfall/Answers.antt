@@ -30,7 +30,8 @@ returns-in-Count c = λ t formed short.
 
 pub returns-in-Memories : goal.returns-in-Memories
 returns-in-Memories c = λ t formed short.
-    beyond t bound.Memories c.args.shortfall.demand c.args.shortfall.item (other c.args.shortfall.demand demand.Memories c.in-Memories.is not_memories) formed short
+    beyond t bound.Memories c.args.shortfall.demand c.args.shortfall.item
+    (other c.args.shortfall.demand demand.Memories c.in-Memories.is not_memories) formed short
 
 pub returns-in-Tables : goal.returns-in-Tables
 returns-in-Tables c = λ t formed short.
