@@ -2,9 +2,7 @@
 use Rattle.std.proofs.Common.{◌≡◌, ◌⊎◌, inl, inr, ℕ, suc, add-one, drop, ◌+◌, ◌<◌, Bool, true, false, List, [], ◌∷◌, ◌++◌, length, get_or}
 use Rattle.std.proofs.Common.{refl, sym, ap, ◌∙◌, subst, arith, None, Some, Err, IfOk, Ok, Result}
 use Rattle.std.proofs.Math.Seq.{drop-cons}
-use Rattle.std.specs.BTreeSet.{contains}
 use Rattle.std.specs.List.{AllByRecursion}
-use Rattle.std.specs.Ordering.{nat_cmp}
 use Rattle.smith_input.specs.NewNames.{is_among}
 use Rattle.smith_tree.specs.Facts.{Id}
 use Rattle.smith_tree.specs.Validates.{RefersTo, names_of}
@@ -14,6 +12,7 @@ use Rattle.smith_validate.specs.Exposing.{IsSettled, Meets, first_at, named_afte
 use Rattle.smith_validate.specs.Instances.{Surface, Follow, IsInstanceType, IsTable, Piece, equal, externs_in, externs_of, named_by, no_surface}
 use Rattle.smith_validate.specs.Instances.{outside_of, place_of, refers_of, single, uses_in, whole}
 use Rattle.smith_validate.specs.Marks.{Within}
+use Rattle.smith_validate.specs.Numbers.{is_in}
 use Rattle.smith_validate.specs.Opening.{IsFound, IsOpenable, IsReached}
 use Rattle.smith_validate.specs.Places.{IsInside, IsUnder}
 use Rattle.smith_validate.specs.Tables.{AreDistinct, AreExact, Fits, IsLive, IsSeen}
@@ -222,13 +221,13 @@ settled_add table all before mid new n named ts s same popped a =
     λ m h. subst (λ x. is_exposed x m ≡ true) same h in
     record {
       settled = λ m h.
-          elim (or_cases (contains nat_cmp new.exposed.named m) (contains nat_cmp new.exposed.settled m) h) [
+          elim (or_cases (is_in new.exposed.named m) (is_in new.exposed.settled m) h) [
             | inl x ↦ elim (a.only m x) [
               | inl o ↦ s.settled m (or_left _ _ (old_one m o))
               | inr u ↦ used_settled table all ts n is.0 named m is.1 u.0
             ]
             | inr y ↦ s.settled m
-                (or_right _ _ (subst (λ x. contains nat_cmp x.settled m ≡ true) same (subst (λ x. contains nat_cmp x m ≡ true) a.settled y)))
+                (or_right _ _ (subst (λ x. is_in x.settled m ≡ true) same (subst (λ x. is_in x m ≡ true) a.settled y)))
           ];
       later = λ m h.
           elim (a.later_only m h) [
@@ -244,12 +243,12 @@ pub settled_put : (table : List Surface) (old new : Exposure) (n : ℕ) (named :
     → n < length table → Within named (refers_of (externs_of table n)) → AreSettled table new named
 settled_put table old new n named s a h w = record {
   settled = λ m is.
-      elim (or_cases (contains nat_cmp new.exposed.named m) (contains nat_cmp new.exposed.settled m) is) [
+      elim (or_cases (is_in new.exposed.named m) (is_in new.exposed.settled m) is) [
         | inl x ↦ elim (a.only m x) [
           | inl o ↦ s.settled m (or_left _ _ o)
           | inr u ↦ subst (λ j. (j < length table) × Within named (refers_of (externs_of table j))) (sym (used_one n m u.0)) (h, w)
         ]
-        | inr y ↦ s.settled m (or_right _ _ (subst (λ x. contains nat_cmp x m ≡ true) a.settled y))
+        | inr y ↦ s.settled m (or_right _ _ (subst (λ x. is_in x m ≡ true) a.settled y))
       ];
   later = λ m is. elim (a.later_only m is) [ inl o ↦ a.more m (s.later m o) | inr u ↦ a.has m u ];
 }

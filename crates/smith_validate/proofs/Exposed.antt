@@ -5,12 +5,7 @@ use Rattle.std.proofs.Common.{Option, None, Some}
 use Rattle.std.proofs.Math.Seq.{drop-nil}
 use Rattle.std.proofs.lemmas.List.{reverse-append}
 use Rattle.std.proofs.lemmas.Option.{get_or_from_slice_get, slice_get_within}
-use Rattle.std.specs.BTreeMap.{is_at}
-use Rattle.std.specs.BTreeSet.{BTreeSet, Updates, contains}
 use Rattle.std.specs.List.{AllZip}
-use Rattle.std.specs.Cmp.{Equal-is, ranked}
-use Rattle.std.specs.Ordering.{nat_cmp}
-use Rattle.std.specs.declared.cmp.Ordering.TheVariants as order
 use Rattle.smith_input.proofs.Rests.{rest_at}
 use Rattle.std.specs.Option.{option_map}
 use Rattle.std.specs.Prelude.{slice_get}
@@ -20,6 +15,7 @@ use Rattle.smith_validate.specs.Exposing.{IsMet, IsOnTheWay, IsPending, IsSettle
 use Rattle.smith_validate.specs.Instances.{Surface, Follow, IsInstanceType, IsTable, Piece, Rest, equal, externs_in, externs_of, no_surface}
 use Rattle.smith_validate.specs.Instances.{outside_of, refers_of, single, uses_in, whole}
 use Rattle.smith_validate.specs.Marks.{Within}
+use Rattle.smith_validate.specs.Numbers.{is_in}
 use Rattle.smith_validate.specs.declared.instances.Exposed.{Exposed}
 use Rattle.smith_validate.specs.declared.instances.InstanceType.{InstanceType}
 use Rattle.smith_validate.specs.declared.instances.Use.{Use}
@@ -244,28 +240,9 @@ module _ (table : List Surface) where
       elim (has m is)
       [ inl o ↦ i m o | inr e ↦ subst (λ k. (k < length table) × Within named (refers_of (externs_of table k))) (sym e) (h, w) ]
 
--- one more number in a set
-module _ (a b : BTreeSet ℕ) (n : ℕ) (u : Updates nat_cmp a b n true) where
-  pub set_has : contains nat_cmp b n ≡ true
-  set_has = u.1
-
-  pub set_only : (m : ℕ) → contains nat_cmp b m ≡ true → (contains nat_cmp a m ≡ true) ⊎ (m ≡ n)
-  set_only m h = by_case (is_at (nat_cmp n) m) refl
-    where
-      by_case : (t : Bool) → is_at (nat_cmp n) m ≡ t → (contains nat_cmp a m ≡ true) ⊎ (m ≡ n)
-      by_case true e = inr (sym (ranked n m order.Equal (sym ((Equal-is (nat_cmp n m)).0 e))))
-      by_case false e = inl (sym (u.2 m e) ∙ h)
-
-  pub set_more : (m : ℕ) → contains nat_cmp a m ≡ true → contains nat_cmp b m ≡ true
-  set_more m h = by_case (is_at (nat_cmp n) m) refl
-    where
-      by_case : (t : Bool) → is_at (nat_cmp n) m ≡ t → contains nat_cmp b m ≡ true
-      by_case true e = subst (λ k. contains nat_cmp b k ≡ true) (ranked n m order.Equal (sym ((Equal-is (nat_cmp n m)).0 e))) set_has
-      by_case false e = u.2 m e ∙ h
-
 pub settled_gains : (old new : Exposed) (n : ℕ)
-    → ((m : ℕ) → contains nat_cmp new.named m ≡ true → (contains nat_cmp old.named m ≡ true) ⊎ (m ≡ n))
-    → ((m : ℕ) → contains nat_cmp new.settled m ≡ true → (contains nat_cmp old.settled m ≡ true) ⊎ (m ≡ n))
+    → ((m : ℕ) → is_in new.named m ≡ true → (is_in old.named m ≡ true) ⊎ (m ≡ n))
+    → ((m : ℕ) → is_in new.settled m ≡ true → (is_in old.settled m ≡ true) ⊎ (m ≡ n))
     → (m : ℕ) → is_settled new m ≡ true → (is_settled old m ≡ true) ⊎ (m ≡ n)
 settled_gains old new n f g m h = grind (arith, or_cases, or_left, or_right)
 

@@ -1,11 +1,10 @@
 -- What is known of types of instances whose types are named, and of the ones that are being judged.
 use Rattle.std.specs.Prelude.{◌≡◌, ℕ, ◌<◌, ◌||◌, Bool, true, false, List, [], ◌∷◌, ◌++◌, length, drop, None, Some, slice_get}
-use Rattle.std.specs.BTreeSet.{contains}
-use Rattle.std.specs.Ordering.{nat_cmp}
 use Rattle.smith_tree.specs.Facts.{Id}
 use Rattle.smith_tree.specs.Validates.{RefersTo, names_of}
 use Rattle.smith_validate.specs.Instances.{Surface, Follow, Piece, Rest, externs_in, externs_of, refers_of, uses_in}
 use Rattle.smith_validate.specs.Marks.{Within}
+use Rattle.smith_validate.specs.Numbers.{is_in}
 use Rattle.smith_validate.specs.declared.instances.Exposed.{Exposed}
 use Rattle.smith_validate.specs.declared.instances.InstanceType.{InstanceType}
 use Rattle.smith_validate.specs.declared.instances.Use.{Use}
@@ -33,7 +32,7 @@ abbrev pub first_at : List InstanceType → ℕ → Bool
 first_at all n = elim (slice_get all n) [ None ↦ false | Some t ↦ t.names_first ]
 
 abbrev pub is_settled : Exposed → ℕ → Bool
-is_settled s n = contains nat_cmp s.named n || contains nat_cmp s.settled n
+is_settled s n = is_in s.named n || is_in s.settled n
 
 -- What is settled refers to what is named.
 abbrev pub IsSettled : List Surface → Exposed → List Id → Type 0

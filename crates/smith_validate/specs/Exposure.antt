@@ -1,11 +1,10 @@
 -- Types of instances that are exposed, since an instance was imported or exported.
 use Rattle.std.specs.Prelude.{◌≡◌, ◌⊎◌, ℕ, ◌<◌, Bool, true, List, [], ◌∷◌, length}
-use Rattle.std.specs.BTreeSet.{contains}
-use Rattle.std.specs.Ordering.{nat_cmp}
 use Rattle.smith_input.specs.NewNames.{is_among}
 use Rattle.smith_tree.specs.Facts.{Id}
 use Rattle.smith_tree.specs.Validates.{names_of}
 use Rattle.smith_validate.specs.Instances.{Surface, externs_of, place_of}
+use Rattle.smith_validate.specs.Numbers.{is_in}
 use Rattle.smith_validate.specs.Places.{IsInside}
 use Rattle.smith_validate.specs.Tables.{IsLive}
 use Rattle.smith_validate.specs.declared.instances.Exposed.{Exposed}
@@ -18,7 +17,7 @@ IsOpening [] n = ⊥
 IsOpening (u ∷ us) n = (u.0 ≡ Instance n) ⊎ IsOpening us n
 
 abbrev pub is_exposed : Exposed → ℕ → Bool
-is_exposed s n = contains nat_cmp s.named n
+is_exposed s n = is_in s.named n
 
 -- What is named of a type of instances, or within it, is named since an instance of it was opened; and then all that it names is.
 pub record IsExposed (table : List Surface) (s : Exposed) (us : List (Use × ℕ)) (named : List Id) : Type 0 where

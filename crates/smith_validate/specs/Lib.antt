@@ -8,6 +8,7 @@ pub mod Instances
 pub mod Judges
 pub mod Kept
 pub mod Marks
+pub mod Numbers
 pub mod Modules
 pub mod Outcome
 pub mod Parts

@@ -12,8 +12,8 @@ ghost use Rattle.smith_validate.specs.Marks.{Within};
 ghost use Rattle.smith_validate.specs.Opening.{AreHalf, IsFound, IsMidway, IsOpenable, IsStep};
 ghost use Rattle.smith_validate.specs.Tables.{AreDistinct, AreExact};
 
+use crate::numbers::Numbers;
 use std::alloc::{AllocError, Global};
-use std::collections::BTreeSet;
 
 /// What an instance type exports of another type of instances: an instance of it, or a type that is equal to it.
 #[derive(Clone, Copy, Debug)]
@@ -60,8 +60,8 @@ pub(crate) struct InstanceType {
 /// that refer to no other types of instances than these.
 #[derive(Drop)]
 pub(crate) struct Exposed {
-    named: BTreeSet<usize>,
-    settled: BTreeSet<usize>,
+    named: Numbers,
+    settled: Numbers,
 }
 
 impl Exposed {
@@ -70,8 +70,8 @@ impl Exposed {
         ensures exposed { (table : List Surface) → IsExposed table result [] [] }
     {
         Exposed {
-            named: BTreeSet::new(alloc),
-            settled: BTreeSet::new(alloc),
+            named: Numbers::new(alloc),
+            settled: Numbers::new(alloc),
         }
     }
 
@@ -79,7 +79,7 @@ impl Exposed {
     pub(crate) fn is_named(&self, number: usize) -> bool
         ensures { result ≡ is_exposed self.now number }
     {
-        self.named.contains(&number)
+        self.named.contains(number)
     }
 
     /// Names a type of instances. Says whether it was not named before.
@@ -87,17 +87,17 @@ impl Exposed {
         ensures gains { OnOk result (Gains self.old self.new number) }
         ensures was { IfOk result (λ is. is ≡ false → is_exposed self.old number ≡ true) }
     {
-        Ok(self.named.insert(number)?)
+        self.named.insert(number)
     }
 
     /// Whether it refers only to named types.
     pub(crate) fn is_settled(&self, number: usize) -> bool
         ensures { result ≡ is_settled self.now number }
     {
-        if self.named.contains(&number) {
+        if self.named.contains(number) {
             true
         } else {
-            self.settled.contains(&number)
+            self.settled.contains(number)
         }
     }
 
@@ -153,7 +153,7 @@ impl Exposed {
     {
         match used {
             Use::Instance(number) => {
-                if !self.named.contains(&number) {
+                if !self.named.contains(number) {
                     rest.push((used, 0))?;
                 }
                 Ok(true)

@@ -12,6 +12,7 @@ mod exposure;
 mod facts;
 mod instances;
 mod known;
+mod numbers;
 mod open;
 mod references;
 mod rows;

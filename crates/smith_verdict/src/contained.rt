@@ -23,7 +23,7 @@ use smith_syntax::{DefinedType, FuncType};
 use std::alloc::{AllocError, Global};
 
 /// What a component contains, and the number of the item in which it was found.
-#[derive(Debug, Clone, Copy, PartialEq, Eq)]
+#[derive(Clone, Copy)]
 pub(crate) enum Contained {
     /// No concrete reference, and nothing beyond a bound.
     Plain,
@@ -34,7 +34,7 @@ pub(crate) enum Contained {
 }
 
 // What is found: a concrete reference, or something beyond a bound.
-#[derive(Debug, Clone, Copy, PartialEq, Eq)]
+#[derive(Clone, Copy)]
 enum Found {
     Reference,
     TooMuch,

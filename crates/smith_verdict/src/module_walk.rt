@@ -13,7 +13,7 @@ use smith_read::{ComponentTree, Step, Steps};
 use std::alloc::{AllocError, Global};
 
 /// What the core modules of a component are to a validator, and the number of the item of one that says so.
-#[derive(Clone, Copy, Debug, PartialEq, Eq)]
+#[derive(Clone, Copy)]
 pub(crate) enum Modules {
     /// Every validator has to accept each of them.
     Sound,

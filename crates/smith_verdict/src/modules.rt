@@ -14,7 +14,7 @@ use smith_read::{ModuleSections, Unread, module_sections_of};
 use std::alloc::{AllocError, Global};
 
 /// What the inside of a core module is to a validator.
-#[derive(Clone, Copy, Debug, PartialEq, Eq)]
+#[derive(Clone, Copy)]
 pub(crate) enum ModuleJudgement {
     /// Function types and memories that every validator has to accept.
     Sound,

@@ -6,7 +6,7 @@ use Rattle.smith_validate.specs.Exposing.{IsGoal, IsPending, named_after, number
 use Rattle.smith_validate.specs.declared.instances.Exposed.{Exposed}
 use Rattle.smith_validate.specs.declared.instances.Use.{Use}
 use Rattle.smith_validate.specs.declared.instances.Use.TheVariants.{Instance, Equal}
-use Rattle.smith_validate.proofs.Exposed.{next_use, reverse_push, set_has, set_more, set_only, settled_gains, settled_one, use_ended, use_found, use_missing}
+use Rattle.smith_validate.proofs.Exposed.{next_use, reverse_push, settled_gains, settled_one, use_ended, use_found, use_missing}
 use Rattle.smith_validate.proofs.Opened.{equal_done, instance_done, next_opens}
 use Rattle.smith_validate.proofs.Tables.{settled_sub}
 use Rattle.smith_validate.proofs.instances.Exposed.goes_on.Goals as goal
@@ -39,7 +39,7 @@ returns-in_ok-insert-in-Instance-clause-met c = λ table last before ts on _.
     record {
       named = end.then;
       settled = settled_one table c.args.self.now new n end.then
-          (settled_gains c.args.self.now new n (set_only c.args.self.now.named new.named n (c.in_ok-insert-in-Instance.ensures {u = tt}).updates)
+          (settled_gains c.args.self.now new n (c.in_ok-insert-in-Instance.ensures {u = tt}).added.only
           (λ m h. inl h))
           (settled_sub table c.args.self.now on.named end.then end.grows on.settled) end.known end.within;
       pending = end.pending;
@@ -59,7 +59,7 @@ returns-in_ok-insert-in-Equal-clause-met c = λ table last before ts on _.
       named = end.then;
       settled = settled_one table c.args.self.now new n end.then
           (settled_gains c.args.self.now new n (λ m h. inl h)
-          (set_only c.args.self.now.settled new.settled n (c.in_ok-insert-in-Equal.ensures {u = tt}).updates))
+          (c.in_ok-insert-in-Equal.ensures {u = tt}).added.only)
           (settled_sub table c.args.self.now on.named end.then end.grows on.settled) end.known end.within;
       pending = end.pending;
     }
@@ -80,7 +80,7 @@ returns-in-Some-clause-exact c = λ table last before exact distinct on.
     (rw c.within.ensures (subst (λ vs. AreHalf table all last before c.args.self.now vs (named_after table v next.named)) (sym pushed) next.half))
 
 pub returns-in_ok-insert-in-Instance-clause-exact : goal.returns-in_ok-insert-in-Instance-clause-exact
-returns-in_ok-insert-in-Instance-clause-exact c = grind (arith, use_missing, instance_done, set_more, set_has, set_only)
+returns-in_ok-insert-in-Instance-clause-exact c = grind (arith, use_missing, instance_done)
 
 pub returns-in_ok-insert-in-Equal-clause-exact : goal.returns-in_ok-insert-in-Equal-clause-exact
 returns-in_ok-insert-in-Equal-clause-exact c = grind (arith, equal_done)
