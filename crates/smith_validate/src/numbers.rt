@@ -1,17 +1,17 @@
 //! Sets of numbers.
 
 ghost use Rattle.std.specs.Prelude.{◌≡◌, ◌⊎◌, ◌||◌, ℕ, false, true, IfOk, OnOk, get_or};
-ghost use Rattle.smith_validate.specs.Numbers.{IsAdded, IsFlagged, is_in};
+ghost use Rattle.smith_validate.specs.Numbers.{IsAdded, IsListedToo, is_in};
 
 use std::alloc::{AllocError, Global};
 use std::collections::BTreeSet;
 
-/// A set of numbers. As long as there are few of them, beside the greatest, they are in a tree. Then each number up to the
-/// greatest has a flag, which says whether it is in the set.
+/// A set of numbers. As long as they are few beside the greatest, they are in a tree. Then a list says of each number up to
+/// the greatest whether it is in the set.
 #[derive(Drop)]
 pub(crate) struct Numbers {
     few: BTreeSet<usize>,
-    flags: Vec<bool>,
+    present: Vec<bool>,
 }
 
 impl Numbers {
@@ -20,14 +20,14 @@ impl Numbers {
     {
         Numbers {
             few: BTreeSet::new(alloc),
-            flags: Vec::new(alloc),
+            present: Vec::new(alloc),
         }
     }
 
     pub(crate) fn contains(&self, number: usize) -> bool
         ensures { result ≡ is_in self.now number }
     {
-        self.has_flag(number) || self.few.contains(&number)
+        self.is_listed(number) || self.few.contains(&number)
     }
 
     /// Adds a number. Says whether it was not in the set.
@@ -38,27 +38,27 @@ impl Numbers {
         if self.contains(number) {
             return Ok(false);
         }
-        if number >= self.flags.len() {
+        if number >= self.present.len() {
             if !self.is_dense(number) {
                 self.few.insert(number)?;
                 return Ok(true);
             }
-            self.flag_few()?;
+            self.list_few()?;
         }
-        self.flag(number)?;
+        self.list(number)?;
         Ok(true)
     }
 
-    fn has_flag(&self, number: usize) -> bool
-        ensures { result ≡ get_or self.now.flags.items number false }
+    fn is_listed(&self, number: usize) -> bool
+        ensures { result ≡ get_or self.now.present.items number false }
     {
-        match self.flags.get(number) {
-            Some(flag) => *flag,
+        match self.present.get(number) {
+            Some(listed) => *listed,
             None => false,
         }
     }
 
-    // Whether, with that number, the few are one in 64 of the numbers up to the greatest. Flags for all of these take no
+    // Whether, with that number, the few are one in 64 of the numbers up to the greatest. A list of all of these takes no
     // longer to make than the few took.
     fn is_dense(&self, number: usize) -> bool {
         let most = match self.few.last() {
@@ -68,27 +68,27 @@ impl Numbers {
         most / 64 <= self.few.len()
     }
 
-    fn flag(&mut self, number: usize) -> Result<(), AllocError>
-        ensures flags { OnOk result (IsFlagged self.old.flags.items self.new.flags.items number) }
+    fn list(&mut self, number: usize) -> Result<(), AllocError>
+        ensures listed { OnOk result (IsListedToo self.old.present.items self.new.present.items number) }
         ensures few { OnOk result (self.new.few ≡ self.old.few) }
     {
-        if number >= self.flags.len() {
+        if number >= self.present.len() {
             let len = number.checked_add(1).ok_or(AllocError)?;
-            self.flags.resize(len, false)?;
+            self.present.resize(len, false)?;
         }
-        self.flags[number] = true;
+        self.present[number] = true;
         Ok(())
     }
 
-    // Sets the flags of the few.
-    fn flag_few(&mut self) -> Result<(), AllocError>
+    // Moves the few to the list.
+    fn list_few(&mut self) -> Result<(), AllocError>
         ensures { OnOk result ((n : ℕ) → is_in self.new n ≡ is_in self.old n) }
     {
         for _ in 0..u64::MAX {
             let Some(number) = self.few.pop_first() else {
                 return Ok(());
             };
-            self.flag(number)?;
+            self.list(number)?;
         }
         Err(AllocError)
     }
