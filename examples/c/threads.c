@@ -147,7 +147,7 @@ static void *make_and_check(void *argument) {
 }
 
 static int has_room(struct Deep *deep, size_t len) {
-    size_t size = LUPINANON_STACK(deep->depth);
+    size_t size = LUPINANON_STACK(deep->depth) / 6 * 5; /* a fifth is to spare */
     pthread_attr_t attributes;
     pthread_t thread;
     if (pthread_attr_init(&attributes) || pthread_attr_setstacksize(&attributes, size)) return 0;
