@@ -155,8 +155,8 @@ fn fits_parts(
     Ok(true)
 }
 
-/// Does a component fit the limits, by its sections, names, types and depth? Its counts of entries are not looked at, and
-/// `false` says nothing.
+/// Does a component fit the limits, by its sections, names, types and depth? Its counts of entries are not looked at,
+/// and `false` says nothing.
 pub(crate) fn fits(
     alloc: Global,
     config: &Config,

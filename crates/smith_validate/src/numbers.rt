@@ -6,8 +6,8 @@ ghost use Rattle.smith_validate.specs.Numbers.{IsAdded, IsListedToo, is_in};
 use std::alloc::{AllocError, Global};
 use std::collections::BTreeSet;
 
-/// A set of numbers. As long as they are few beside the greatest, they are in a tree. Then a list says of each number up to
-/// the greatest whether it is in the set.
+/// A set of numbers. As long as they are few beside the greatest, they are in a tree. Then a list says of each number
+/// up to the greatest whether it is in the set.
 #[derive(Drop)]
 pub(crate) struct Numbers {
     few: BTreeSet<usize>,
@@ -58,8 +58,8 @@ impl Numbers {
         }
     }
 
-    // Whether, with that number, the few are one in 64 of the numbers up to the greatest. A list of all of these takes no
-    // longer to make than the few took.
+    // Whether, with that number, the few are one in 64 of the numbers up to the greatest. A list of all of these takes
+    // no longer to make than the few took.
     fn is_dense(&self, number: usize) -> bool {
         let most = match self.few.last() {
             Some(last) => number.max(*last),
